@@ -1,0 +1,108 @@
+-- The table of a sender.
+use Rattle.std.specs.Prelude.{ℕ, ◌==◌, Bool, true, false, if◌then◌else◌, List, [], ◌∷◌, ◌++◌, length, Option, Some, None}
+use Rattle.std.specs.Option.{option_map}
+use Rattle.amo_packet.specs.declared.packet.OwnedPacket.{OwnedPacket}
+use Rattle.amo_packet.specs.declared.packet.OwnedBody.{OwnedBody}
+use Rattle.amo_packet.specs.declared.packet.OwnedBody.TheVariants as packet
+use Rattle.amo_core.specs.declared.act.Act.{Act}
+use Rattle.amo_core.specs.declared.act.Act.TheVariants as act
+use Rattle.amo_core.specs.declared.reply.Reply.TheVariants as reply
+use Rattle.amo_core.specs.declared.mode.Mode.{Mode}
+use Rattle.amo_core.specs.declared.mode.Mode.TheVariants as kind_of
+use Rattle.amo_core.specs.declared.sender.SenderMode.{SenderMode}
+use Rattle.amo_core.specs.declared.sender.SenderMode.TheVariants.{Quiet, NeedId, Send, Down}
+use Rattle.amo_core.specs.Row.{Row, silent, done, unknown}
+pub mod Replies
+
+-- the stream, which its packets bear; the mode; the messages that wait, the next one first
+pub record State : Type 0 where
+  pub stream : ℕ
+  pub mode : SenderMode
+  pub waiting : List (List ℕ)
+
+-- at rest, and nothing was put yet
+abbrev pub initial : ℕ → State
+initial stream = record { stream = stream; mode = Quiet true; waiting = [] }
+
+-- the kind of a mode
+abbrev pub kind : SenderMode → Mode
+kind (Quiet got) = kind_of.Quiet
+kind (NeedId jd m) = kind_of.NeedId
+kind (Send id m) = kind_of.Send
+kind Down = kind_of.Down
+
+-- nothing is emitted
+abbrev pub quietly : State → Row State
+quietly s = done s None
+
+-- a packet of the sender's stream is emitted
+abbrev pub emitting : State → OwnedBody → Row State
+emitting s body = done s (Some (record { stream = s.stream; body = body }))
+
+-- the message goes last on the waiting list, unless sixteen wait
+abbrev pub put : State → SenderMode → List ℕ → Row State
+put s Down m = silent s reply.Down
+put s _ m = if length s.waiting == 16 then silent s reply.Full else silent (record s { waiting = s.waiting ++ m ∷ [] }) reply.Ok
+
+-- what is known of the last message put
+abbrev pub get_ack : State → SenderMode → List (List ℕ) → Row State
+get_ack s Down waiting = silent s reply.Down
+get_ack s (Quiet true) [] = silent s reply.Yes
+get_ack s (Quiet false) [] = silent s reply.No
+get_ack s _ waiting = silent s reply.NotYet
+
+-- a handshake begins for the first message that waits
+abbrev pub start : State → SenderMode → List (List ℕ) → ℕ → Row State
+start s (Quiet got) (m ∷ rest) word = emitting (record s { mode = NeedId word m; waiting = rest }) (packet.NeedUid word)
+start s _ waiting word = quietly s
+
+-- the packet of the mode is said again
+abbrev pub resend : State → SenderMode → Row State
+resend s (NeedId jd m) = emitting s (packet.NeedUid jd)
+resend s (Send id m) = emitting s (packet.Send id m)
+resend s _ = quietly s
+
+-- an identifier is offered: the message goes out under it, or it is given back
+abbrev pub accept : State → SenderMode → ℕ → ℕ → Row State
+accept s (NeedId asked m) jd id = if asked == jd then emitting (record s { mode = Send id m }) (packet.Send id m) else emitting s (packet.Cleanup id)
+accept s (Send under m) jd id = if under == id then quietly s else emitting s (packet.Cleanup id)
+accept s (Quiet got) jd id = emitting s (packet.Cleanup id)
+accept s Down jd id = quietly s
+
+-- an answer that says "got" lets the receiver forget
+abbrev pub answered : State → ℕ → Bool → Row State
+answered s id true = emitting s (packet.Cleanup id)
+answered s id false = quietly s
+
+-- the receiver answers for an identifier
+abbrev pub ack : State → SenderMode → ℕ → Bool → Row State
+ack s (Send under m) id got = if under == id then answered (record s { mode = Quiet got }) id got else answered s id got
+ack s Down id got = quietly s
+ack s _ id got = answered s id got
+
+-- a packet comes; one that belongs to a receiver changes nothing
+abbrev pub deliver : State → OwnedBody → Row State
+deliver s (packet.Accept jd id) = accept s s.mode jd id
+deliver s (packet.Ack id got) = ack s s.mode id got
+deliver s _ = quietly s
+
+-- what was put last may or may not have been got
+abbrev pub recover : State → SenderMode → Row State
+recover s Down = quietly (record s { mode = Quiet false; waiting = [] })
+recover s _ = quietly s
+
+-- the table
+abbrev pub row : State → Act → Row State
+row s (act.Put m) = put s s.mode m
+row s act.Get = unknown s
+row s act.Ack = get_ack s s.mode s.waiting
+row s (act.Start word) = start s s.mode s.waiting word
+row s act.Resend = resend s s.mode
+row s (act.Deliver p word) = deliver s p.body
+row s act.Crash = quietly (record s { mode = Down; waiting = [] })
+row s act.Recover = recover s s.mode
+
+-- the word that an act uses up: of a start that asks for an identifier under it
+abbrev pub used_word : State → Act → Option ℕ
+used_word s (act.Start word) = option_map (λ p. word) (row s (act.Start word)).emitted
+used_word s _ = None

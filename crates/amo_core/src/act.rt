@@ -1,0 +1,23 @@
+//! What may happen at one side of a stream.
+use amo_packet::{Message, OwnedPacket};
+
+/// What happens at a side: a client's call, or an act of its host.
+#[derive(Debug, Drop)]
+pub enum Act {
+    /// The client puts a message. A sender's.
+    Put(Message),
+    /// The client takes the message that has come. A receiver's.
+    Get,
+    /// The client asks what became of the last put. A sender's.
+    Ack,
+    /// The host begins a handshake for the first message that waits, under this word. A sender's.
+    Start(u64),
+    /// The host says the last packet again, since nothing came back.
+    Resend,
+    /// A packet comes, with the word that an offer would be made under.
+    Deliver(OwnedPacket, u64),
+    /// The host goes down, and forgets everything.
+    Crash,
+    /// The host is up again.
+    Recover,
+}

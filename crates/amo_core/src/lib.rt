@@ -1,0 +1,29 @@
+//! The two automata of the five-packet handshake, one sender and one receiver a stream.
+//! They know no socket, no clock and no other stream: whoever drives them hands in calls, words and packets.
+//!
+//! Each automaton is a table: a row for each act, which says what the act leaves, replies and emits. The tables are
+//! the definitions in `specs/`, for every act; a call's contract is one equation, that the call is its row.
+//!
+//! ```text
+//!   put, get, get_ack        the client's calls
+//!   start, resend, deliver   what the host makes happen: a handshake begins, a packet is said again or comes
+//!   crash, recover           all is forgotten; the side comes back
+//! ```
+//!
+//! The method is Belsnes's (1976) as told by Lynch, *Distributed Algorithms*, chapter 22. A message travels under an
+//! identifier that the receiver made for this one handshake; the receiver takes a message only under the identifier
+//! that it offered last, and says "got" only once its client has the message. So a repeated packet finds its
+//! identifier used up, and no message is got twice.
+#![tactic(auto)]
+
+mod act;
+mod mode;
+mod receiver;
+mod reply;
+mod sender;
+
+pub use act::Act;
+pub use mode::Mode;
+pub use receiver::{GetRefusal, Receiver, ReceiverMode};
+pub use reply::Reply;
+pub use sender::{AckReply, MAX_WAITING, PutRefusal, Sender, SenderMode};

@@ -1,0 +1,125 @@
+//! The receiver of a stream.
+ghost use Rattle.std.specs.Prelude.{◌≡◌};
+ghost use Rattle.amo_core.specs.Receiver as table;
+ghost use Rattle.amo_core.specs.declared.act.Act.TheVariants as act;
+
+use crate::Mode;
+use amo_packet::Message;
+use std::marker::Model;
+use std::mem;
+use thiserror::Error;
+
+/// The mode of a receiver.
+#[derive(Debug, Drop)]
+pub enum ReceiverMode {
+    /// At rest.
+    Idle,
+    /// Offering an identifier, second, to the sender's word, first.
+    Accept(u64, u64),
+    /// Holding the message of an identifier for the client.
+    Rcvd(u64, Message),
+    /// Saying that the message of an identifier was got.
+    Ack(u64),
+    /// The host is down.
+    Down,
+}
+
+/// Why a get has no message. Nothing changed.
+#[derive(Clone, Copy, Debug, PartialEq, Eq, Error)]
+pub enum GetRefusal {
+    /// No message has come yet; the client may ask again.
+    #[error("no message has come")]
+    Nothing,
+    /// The receiver's host is down.
+    #[error("the receiver is down")]
+    Down,
+}
+
+impl GetRefusal {
+    ghost use Rattle.amo_core.specs.Receiver.Replies.{refusal_code};
+
+    /// The number of this refusal.
+    pub fn code(&self) -> u8
+        ensures { result ≡ refusal_code self.now }
+    {
+        match self {
+            GetRefusal::Nothing => 45,
+            GetRefusal::Down => 42,
+        }
+    }
+}
+
+/// The receiver of one stream. Contracts see its state.
+///
+/// ```text
+///              needuid(jd), with a word / accept(jd, word)
+///        Idle ---------------------------------------------> Accept(jd, id)
+///        ^ ^ ^                                                 |     |
+///        | | +------------------- cleanup(id) -----------------+     | send(id, m)
+///        | |                                                         v
+///        | +--- cleanup(id) --- Ack(id) <------- get / m ------- Rcvd(id, m)
+///        |
+///        | recover
+///       Down <---- crash, from every mode
+/// ```
+///
+/// A send under any other identifier is answered by an ack that says "not known here", and the send of `Ack(id)` by
+/// one that says "got". A resend says accept or that ack again.
+#[derive(Drop)]
+pub struct Receiver {
+    stream: u32,
+    mode: ReceiverMode,
+}
+
+impl Model for Receiver {
+    ghost use Rattle.amo_core.specs.Receiver.{State};
+
+    ghost Value = { State };
+
+    ghost view = { λ s. record { stream = s.stream; mode = s.mode } };
+}
+
+impl Receiver {
+    ghost use Rattle.amo_core.specs.Row.{silent};
+    ghost use Rattle.amo_core.specs.Receiver.Replies.{get_reply};
+
+    /// The receiver of a stream, at rest.
+    pub fn new(stream: u32) -> Receiver
+        ensures { result ≡ table.initial stream }
+    {
+        Receiver {
+            stream,
+            mode: ReceiverMode::Idle,
+        }
+    }
+
+    /// Takes the message that has come, if one has.
+    pub fn get(&mut self) -> Result<Message, GetRefusal>
+        ensures row { table.row self.old act.Get ≡ silent self.new (get_reply result) }
+    {
+        match mem::replace(&mut self.mode, ReceiverMode::Down) {
+            ReceiverMode::Down => Err(GetRefusal::Down),
+            ReceiverMode::Rcvd(id, message) => {
+                self.mode = ReceiverMode::Ack(id);
+                Ok(message)
+            }
+            other => {
+                self.mode = other;
+                Err(GetRefusal::Nothing)
+            }
+        }
+    }
+
+    /// The kind of the mode.
+    pub fn mode(&self) -> Mode
+        ensures { result ≡ table.kind self.now.mode }
+    {
+        match self.mode {
+            ReceiverMode::Idle => Mode::Idle,
+            ReceiverMode::Accept(_, _) => Mode::Accept,
+            ReceiverMode::Rcvd(_, _) => Mode::Rcvd,
+            ReceiverMode::Ack(_) => Mode::Ack,
+            ReceiverMode::Down => Mode::Down,
+        }
+    }
+}

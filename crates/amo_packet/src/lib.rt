@@ -1,0 +1,25 @@
+//! Messages and packets of the five-packet handshake.
+//! It sends and receives nothing: it says what a packet is.
+//!
+//! A [`Message`] is 0 to 1024 bytes that a client puts on one side and gets on the other. A packet belongs to one
+//! stream and says one of five things, in the order of a handshake (Lynch, *Distributed Algorithms*, chapter 22):
+//!
+//! ```text
+//!   sender                         receiver
+//!     | -------- needuid(jd) --------> |    a fresh word of the sender's own
+//!     | <------ accept(jd, id) ------- |    a fresh word of the receiver's own
+//!     | ------- send(id, bytes) -----> |    the message travels under it
+//!     | <------- ack(id, got) -------- |    got, or not known here
+//!     | -------- cleanup(id) --------> |    the receiver may forget
+//! ```
+//!
+//! A packet comes in two forms. An [`OwnedPacket`] owns its message: whoever keeps packets keeps these, and contracts
+//! speak of every packet as one of them. A [`Packet`] borrows its message from where it lies, so that reading and
+//! emitting copy nothing; contracts see it through one function, `packet_of`, as the packet that it stands for.
+#![tactic(auto)]
+
+mod message;
+mod packet;
+
+pub use message::{MAX_MESSAGE, Message, MessageFault};
+pub use packet::{Body, OwnedBody, OwnedPacket, Packet};

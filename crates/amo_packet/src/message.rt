@@ -1,0 +1,103 @@
+//! Messages: bytes of bounded length.
+ghost use Rattle.std.specs.Prelude.{◌≡◌, ◌≢◌, ◌↔◌, ◌<◌, ◌≤◌, [], length, IfOk, IsErrOf};
+
+use std::alloc::Global;
+use std::marker::Model;
+use thiserror::Error;
+
+/// The greatest length of a message, in bytes.
+pub const MAX_MESSAGE: usize = 1024;
+
+/// Why bytes did not become a message. Nothing was taken or changed.
+#[derive(Clone, Copy, Debug, PartialEq, Eq, Error)]
+pub enum MessageFault {
+    /// Memory for the copy was refused. The caller may try again later.
+    #[error("out of memory")]
+    NoMemory,
+    /// The caller handed in more than [`MAX_MESSAGE`] bytes.
+    #[error("the message is too long")]
+    TooLong,
+}
+
+impl MessageFault {
+    ghost use Rattle.amo_packet.specs.Message.{fault_code};
+
+    /// The number of this fault.
+    pub fn code(&self) -> u8
+        ensures { result ≡ fault_code self.now }
+    {
+        match self {
+            MessageFault::NoMemory => 9,
+            MessageFault::TooLong => 19,
+        }
+    }
+}
+
+/// A message of 0 to [`MAX_MESSAGE`] bytes. Contracts see the list of its bytes.
+///
+/// The message of no bytes holds no memory, so it can always be made.
+#[derive(Debug, Default, Drop)]
+pub struct Message {
+    bytes: Option<Vec<u8>>,
+}
+
+impl Model for Message {
+    ghost use Rattle.std.specs.Prelude.{List, ℕ, ◌≤◌, length};
+    ghost use Rattle.amo_packet.specs.Message.{bytes_of};
+
+    ghost Value = { List ℕ };
+
+    ghost view = { λ m. bytes_of m.bytes };
+
+    ghost invariant = { λ m. length (bytes_of m.bytes) ≤ 1024 };
+}
+
+impl Message {
+    /// A message of these bytes, copied. It takes memory only where there is a byte to copy.
+    pub fn copy(alloc: Global, bytes: &[u8]) -> Result<Message, MessageFault>
+        ensures ok { IfOk result (λ m. (m ≡ bytes.now) × (length m ≤ MAX_MESSAGE)) }
+        ensures too_long { IsErrOf result MessageFault.TooLong ↔ (MAX_MESSAGE < length bytes.now) }
+        ensures memory { IsErrOf result MessageFault.NoMemory → (bytes.now ≢ []) × (length bytes.now ≤ MAX_MESSAGE) }
+    {
+        if bytes.len() > MAX_MESSAGE {
+            return Err(MessageFault::TooLong);
+        }
+        if bytes.is_empty() {
+            return Ok(Message::default());
+        }
+        match Vec::from_slice(alloc, bytes) {
+            Ok(copy) => Ok(Message { bytes: Some(copy) }),
+            Err(_) => Err(MessageFault::NoMemory),
+        }
+    }
+
+    /// The bytes, in order.
+    pub fn bytes(&self) -> &[u8]
+        ensures value { result.now ≡ self.now }
+        ensures bounded { length self.now ≤ MAX_MESSAGE }
+    {
+        match &self.bytes {
+            None => &[],
+            Some(bytes) => bytes.as_slice(),
+        }
+    }
+}
+
+#[cfg(test)]
+mod tests {
+    use super::*;
+    use std::test::Fail;
+
+    /// With ample memory bytes up to the limit become a message, and one byte more does not.
+    #[test]
+    fn copies_up_to_the_limit(rt: HostRuntime) -> Result<(), Fail> {
+        let bytes = vec![in rt.alloc(); 0x61; MAX_MESSAGE + 1]?;
+        for length in [0, 1, MAX_MESSAGE] {
+            let copied = Message::copy(rt.alloc(), &bytes[..length]);
+            assert!(rt; matches!(&copied, Ok(message) if message.bytes() == &bytes[..length]));
+        }
+        let refused = Message::copy(rt.alloc(), bytes.as_slice());
+        assert!(rt; matches!(refused, Err(MessageFault::TooLong)));
+        Ok(())
+    }
+}

@@ -1,0 +1,80 @@
+-- Histories. A history is the list of its events, the newest first: `past` stands for all that was before.
+use Rattle.std.specs.Prelude.{◌≡◌, ℕ, ◌==◌, Bool, true, false, Option, Some, IfSome, List, [], ◌∷◌, ◌++◌}
+use Rattle.std.specs.List.{Contains}
+use Rattle.std.specs.Option.{option_to_list, option_map}
+use Rattle.amo_object.specs.declared.step.End.{End}
+use Rattle.amo_packet.specs.declared.packet.OwnedPacket.{OwnedPacket}
+use Rattle.amo_core.specs.declared.act.Act.{Act}
+use Rattle.amo_core.specs.declared.act.Act.TheVariants.{Deliver, Crash}
+use Rattle.amo_world.specs.declared.event.Event.{Event}
+use Rattle.amo_world.specs.Stream.{Stream, initial, after, other, reply_of, emission_of, word_of, emitted_by, words_of}
+
+-- a stream after an event, if the event is one of its own
+abbrev pub after_if : Bool → Stream → Event → Stream
+after_if true s e = after s e.side e.act
+after_if false s e = s
+
+-- the stream of a number after a history: each of its events by its row
+abbrev pub stream_after : ℕ → List Event → Stream
+stream_after number [] = initial number
+stream_after number (e ∷ past) = after_if (number == e.stream) (stream_after number past) e
+
+-- the stream of an event, before the event
+abbrev pub stream_before : List Event → Event → Stream
+stream_before past e = stream_after e.stream past
+
+-- a fact holds of each event and what was before it
+abbrev pub Along : (List Event → Event → Type 0) → List Event → Type 0
+Along Holds [] = Unit {0}
+Along Holds (e ∷ past) = Holds past e × Along Holds past
+
+-- right: each reply is the row's, and each act is one of its side's
+abbrev pub HasRightReply : List Event → Event → Type 0
+HasRightReply past e = reply_of (stream_before past e) e.side e.act ≡ Some e.reply
+
+abbrev pub IsRight : List Event → Type 0
+IsRight events = Along HasRightReply events
+
+-- honest: each packet delivered was emitted before, by the other side of the stream
+abbrev pub WasEmitted : Stream → End → Act → Type 0
+WasEmitted s side (Deliver packet word) = Contains (emitted_by s (other side)) packet
+WasEmitted s side _ = Unit {0}
+
+abbrev pub DeliversEmitted : List Event → Event → Type 0
+DeliversEmitted past e = WasEmitted (stream_before past e) e.side e.act
+
+abbrev pub IsHonest : List Event → Type 0
+IsHonest events = Along DeliversEmitted events
+
+-- fresh: a word that is used up was not used up before, by that side of the stream
+abbrev pub UsesNewWord : List Event → Event → Type 0
+UsesNewWord past e = IfSome (word_of (stream_before past e) e.side e.act) (λ word. ¬ (Contains (words_of (stream_before past e) e.side) word))
+
+abbrev pub IsFresh : List Event → Type 0
+IsFresh events = Along UsesNewWord events
+
+-- a packet emitted, and the side that emitted it
+pub record Emission : Type 0 where
+  pub side : End
+  pub packet : OwnedPacket
+
+-- what an event emitted
+abbrev pub event_emission : List Event → Event → Option Emission
+event_emission past e = option_map (λ packet. record { side = e.side; packet = packet }) (emission_of (stream_before past e) e.side e.act)
+
+-- every packet emitted, over all streams, the oldest first
+abbrev pub emissions : List Event → List Emission
+emissions [] = []
+emissions (e ∷ past) = emissions past ++ option_to_list (event_emission past e)
+
+-- calm: no packet is delivered, and no host crashes
+abbrev pub IsCalmAct : Act → Type 0
+IsCalmAct (Deliver packet word) = ⊥
+IsCalmAct Crash = ⊥
+IsCalmAct _ = Unit {0}
+
+abbrev pub IsCalmEvent : List Event → Event → Type 0
+IsCalmEvent past e = IsCalmAct e.act
+
+abbrev pub IsCalm : List Event → Type 0
+IsCalm events = Along IsCalmEvent events

@@ -1,0 +1,5 @@
+pub mod Stream
+pub mod History
+pub mod Served
+pub mod Law
+pub mod Example

@@ -1,0 +1,73 @@
+-- A stream: what its events leave of both its sides.
+use Rattle.std.specs.Prelude.{ℕ, Option, None, List, [], ◌++◌}
+use Rattle.std.specs.Option.{option_to_list}
+use Rattle.amo_object.specs.declared.step.End.{End}
+use Rattle.amo_object.specs.declared.step.End.TheVariants.{Sender, Receiver}
+use Rattle.amo_packet.specs.declared.packet.OwnedPacket.{OwnedPacket}
+use Rattle.amo_core.specs.declared.act.Act.{Act}
+use Rattle.amo_core.specs.declared.reply.Reply.{Reply}
+use Rattle.amo_core.specs.Row.{Row}
+use Rattle.amo_core.specs.Sender as sender
+use Rattle.amo_core.specs.Receiver as receiver
+
+-- a side: the state of its automaton, the packets that it emitted, and the words that it used up, the newest first
+pub record Side (S : Type 0) : Type 0 where
+  pub state : S
+  pub emitted : List OwnedPacket
+  pub words : List ℕ
+
+module _ {S : Type 0} where
+  -- a side at which nothing happened yet
+  abbrev pub unused : S → Side S
+  unused s = record { state = s; emitted = []; words = [] }
+
+  -- the side after an act with this row, which used up this word, if any
+  abbrev pub acted : Side S → Row S → Option ℕ → Side S
+  acted side row word = record {
+    state = row.state;
+    emitted = option_to_list row.emitted ++ side.emitted;
+    words = option_to_list word ++ side.words;
+  }
+
+-- both sides
+pub record Stream : Type 0 where
+  pub sender : Side sender.State
+  pub receiver : Side receiver.State
+
+-- a stream of this number in which nothing happened yet
+abbrev pub initial : ℕ → Stream
+initial number = record { sender = unused (sender.initial number); receiver = unused (receiver.initial number) }
+
+abbrev pub other : End → End
+other Sender = Receiver
+other Receiver = Sender
+
+-- what the row of an act replies, if the side has the act
+abbrev pub reply_of : Stream → End → Act → Option Reply
+reply_of s Sender act = (sender.row s.sender.state act).reply
+reply_of s Receiver act = (receiver.row s.receiver.state act).reply
+
+-- what the row of an act emits
+abbrev pub emission_of : Stream → End → Act → Option OwnedPacket
+emission_of s Sender act = (sender.row s.sender.state act).emitted
+emission_of s Receiver act = (receiver.row s.receiver.state act).emitted
+
+-- the word that an act uses up
+abbrev pub word_of : Stream → End → Act → Option ℕ
+word_of s Sender act = sender.used_word s.sender.state act
+word_of s Receiver act = receiver.used_word s.receiver.state act
+
+-- the stream after an act at a side
+abbrev pub after : Stream → End → Act → Stream
+after s Sender act = record s { sender = acted s.sender (sender.row s.sender.state act) (word_of s Sender act) }
+after s Receiver act = record s { receiver = acted s.receiver (receiver.row s.receiver.state act) (word_of s Receiver act) }
+
+-- what a side emitted, the newest first
+abbrev pub emitted_by : Stream → End → List OwnedPacket
+emitted_by s Sender = s.sender.emitted
+emitted_by s Receiver = s.receiver.emitted
+
+-- the words that a side used up, the newest first
+abbrev pub words_of : Stream → End → List ℕ
+words_of s Sender = s.sender.words
+words_of s Receiver = s.receiver.words

@@ -1,0 +1,28 @@
+//! Laws of histories. Each is the contract of a function that does nothing.
+ghost use Rattle.std.specs.Prelude.{◌≡◌, ◌≢◌, ℕ, ◌+◌, Some, List, [], ◌∷◌, ◌++◌, reverse, take, slice_get};
+ghost use Rattle.std.specs.Option.{option_to_list};
+ghost use Rattle.amo_world.specs.declared.event.Event.{Event};
+ghost use Rattle.amo_world.specs.Stream.{after};
+ghost use Rattle.amo_world.specs.History.{stream_after, stream_before, emissions, event_emission, IsRight, IsCalm};
+ghost use Rattle.amo_world.specs.Served.{call_of, calls, IsServed};
+
+/// What one event more changes: its own stream, by the row of its act, and no other.
+pub fn one_event_more()
+    ensures here { (past : List Event) (e : Event) → stream_after e.stream (e ∷ past) ≡ after (stream_before past e) e.side e.act }
+    ensures elsewhere { (past : List Event) (e : Event) (number : ℕ) → number ≢ e.stream → stream_after number (e ∷ past) ≡ stream_after number past }
+    ensures called { (past : List Event) (e : Event) → calls e.stream (e ∷ past) ≡ calls e.stream past ++ option_to_list (call_of e.side e.act e.reply) }
+    ensures not_called { (past : List Event) (e : Event) (number : ℕ) → number ≢ e.stream → calls number (e ∷ past) ≡ calls number past }
+    ensures emitted { (past : List Event) (e : Event) → emissions (e ∷ past) ≡ emissions past ++ option_to_list (event_emission past e) }
+{}
+
+/// How events in the order of time meet a history: one more at the end, and the first ones of a list.
+pub fn in_order_of_time()
+    ensures pushed { (events : List Event) (e : Event) → reverse (events ++ e ∷ []) ≡ e ∷ reverse events }
+    ensures first { (events : List Event) (e : Event) (place : ℕ) → slice_get events place ≡ Some e
+        → reverse (take (place + 1) events) ≡ e ∷ reverse (take place events) }
+{}
+
+/// Where no packet comes and no host crashes, each stream is served.
+pub fn calm_histories_serve()
+    ensures { (number : ℕ) (events : List Event) → IsRight events → IsCalm events → IsServed number events }
+{}
