@@ -1,0 +1,8 @@
+-- The number of each fault of the queue.
+use Rattle.std.specs.Prelude.{ℕ}
+use Rattle.amo_object.specs.declared.queue.QueueFault.{QueueFault}
+use Rattle.amo_object.specs.declared.queue.QueueFault.TheVariants.{NotAllowed, NoMemory}
+
+abbrev pub fault_code : QueueFault → ℕ
+fault_code NotAllowed = 1
+fault_code NoMemory = 9

@@ -1,0 +1,27 @@
+//! The at-most-once queue: what the clients of one stream may see, whatever its channels and hosts do.
+//! It keeps no packets, identifiers or retries, and moves no message between hosts: it is what such a
+//! protocol is measured by.
+//!
+//! A sender puts messages, a receiver gets them in the order put, and each is got at most once. Channels
+//! may lose and a host may crash, so a message may be lost instead, but only while a host is down. The
+//! sender may ask what became of its last message: it was got (yes), it may be lost (no), or neither is
+//! known yet. The object is that of Lampson, Lynch and Søgaard-Andersen, "Correctness of At-Most-Once
+//! Message Delivery Protocols" (1993); Lynch, "Distributed Algorithms" (1996), chapter 22, presents the
+//! protocols that implement it.
+//!
+//! - [`Step`] is one step: a client's call that answered, a crash or recovery of a host, or a loss. A loss
+//!   is a choice of the queue's own, which no client sees.
+//! - [`Queue`] is the queue itself, as a plain program: it says which steps it allows and takes one.
+//! - A list of steps is a *run* if each is allowed where it stands (`specs/Run.antt`). A history of calls is
+//!   explained by the queue if it is some run with its losses left out.
+#![tactic(auto)]
+
+mod bytes;
+mod queue;
+mod status;
+mod step;
+
+pub use bytes::Bytes;
+pub use queue::{Queue, QueueFault};
+pub use status::Status;
+pub use step::{End, Step};

@@ -1,0 +1,31 @@
+//! The steps of the queue.
+use crate::Bytes;
+
+/// The two sides of a stream.
+#[derive(Clone, Copy, Debug, PartialEq, Eq)]
+pub enum End {
+    Sender,
+    Receiver,
+}
+
+/// A step of the queue.
+#[derive(Debug, Drop)]
+pub enum Step {
+    /// The sender's client puts a message.
+    Put(Bytes),
+    /// The receiver's client gets the first message.
+    Get(Bytes),
+    /// The sender's client is told whether the last message put was got: `true` that it was, `false` that it
+    /// may be lost.
+    Ack(bool),
+    /// A side's host crashes.
+    Crash(End),
+    /// A side's host is up again.
+    Recover(End),
+    /// A client's call on a side is answered that its host is down.
+    DownReply(End),
+    /// The message at a place, counted from 0, is lost.
+    Lose(usize),
+    /// What was known of the last message put is lost.
+    LoseAck,
+}
