@@ -1,5 +1,4 @@
 pub mod Stream
 pub mod History
 pub mod Served
-pub mod Law
 pub mod Example
