@@ -1,5 +1,5 @@
 -- Worked examples: short stories, each a list of events in the order of time, with the packets that it emits.
-use Rattle.std.specs.Prelude.{◌≡◌, ℕ, true, false, List, [], ◌∷◌, ◌++◌, reverse, drop}
+use Rattle.std.specs.Prelude.{◌≡◌, ℕ, true, false, List, [], ◌∷◌, ◌++◌, reverse}
 use Rattle.amo_object.specs.declared.step.End.{End}
 use Rattle.amo_object.specs.declared.step.End.TheVariants.{Sender, Receiver}
 use Rattle.amo_packet.specs.declared.packet.OwnedPacket.{OwnedPacket}
@@ -10,7 +10,11 @@ use Rattle.amo_core.specs.declared.act.Act.TheVariants as act
 use Rattle.amo_core.specs.declared.reply.Reply.{Reply}
 use Rattle.amo_core.specs.declared.reply.Reply.TheVariants as reply
 use Rattle.amo_world.specs.declared.event.Event.{Event}
+use Rattle.amo_object.specs.declared.step.Step.{Step}
+use Rattle.amo_object.specs.declared.step.Step.TheVariants as step
+use Rattle.amo_object.specs.Run.{IsRun, without_losses}
 use Rattle.amo_world.specs.History.{Emission, emissions, IsRight, IsHonest, IsFresh}
+use Rattle.amo_world.specs.Served.{calls}
 
 -- an act at a side of stream 1, under pass 0
 abbrev pub at_sender : Act → Reply → Event
@@ -89,6 +93,9 @@ first_needuid_emits =
     from_sender (packet.NeedUid 7) ∷
     []
 
+abbrev pub first_needuid_run : List Step
+first_needuid_run = step.Put letter_a ∷ []
+
 -- a whole handshake, for the message of no bytes
 abbrev pub handshake : List Event
 handshake =
@@ -112,6 +119,9 @@ handshake_emits =
     from_receiver (packet.Ack 9 true) ∷
     from_sender (packet.Cleanup 9) ∷
     []
+
+abbrev pub handshake_run : List Step
+handshake_run = step.Put [] ∷ step.Get [] ∷ step.Ack true ∷ []
 
 -- the message comes again before it is got, after it was got, and after the cleanup: it is got once
 abbrev pub send_repeated : List Event
@@ -142,6 +152,9 @@ send_repeated_emits =
     from_receiver (packet.Ack 9 false) ∷
     []
 
+abbrev pub send_repeated_run : List Step
+send_repeated_run = step.Put hi ∷ step.Get hi ∷ step.Ack true ∷ []
+
 -- the request comes again after the handshake: a second offer is made, and given back
 abbrev pub needuid_repeated : List Event
 needuid_repeated = handshake ++ (
@@ -162,6 +175,9 @@ needuid_repeated_emits =
     from_receiver (packet.Accept 7 11) ∷
     from_sender (packet.Cleanup 11) ∷
     []
+
+abbrev pub needuid_repeated_run : List Step
+needuid_repeated_run = step.Put [] ∷ step.Get [] ∷ step.Ack true ∷ []
 
 -- the receiver crashes after its offer: the message is lost, and the answer is No
 abbrev pub receiver_crash_before_send : List Event
@@ -185,6 +201,9 @@ receiver_crash_before_send_emits =
     from_sender (packet.Send 9 letter_a) ∷
     from_receiver (packet.Ack 9 false) ∷
     []
+
+abbrev pub receiver_crash_before_send_run : List Step
+receiver_crash_before_send_run = step.Put letter_a ∷ step.Crash Receiver ∷ step.Lose 0 ∷ step.Recover Receiver ∷ step.Ack false ∷ []
 
 -- the sender crashes after its send, and puts again: both messages are got, in order
 abbrev pub sender_crash_after_send : List Event
@@ -229,6 +248,9 @@ sender_crash_after_send_emits =
     from_sender (packet.Cleanup 10) ∷
     []
 
+abbrev pub sender_crash_after_send_run : List Step
+sender_crash_after_send_run = step.Put letter_a ∷ step.Crash Sender ∷ step.Recover Sender ∷ step.Put letter_b ∷ step.Get letter_a ∷ step.Get letter_b ∷ step.Ack true ∷ []
+
 -- the receiver crashes after the get and before it could say so: the message was got, and the answer is No
 abbrev pub receiver_crash_after_get : List Event
 receiver_crash_after_get =
@@ -254,6 +276,9 @@ receiver_crash_after_get_emits =
     from_sender (packet.Send 9 letter_a) ∷
     from_receiver (packet.Ack 9 false) ∷
     []
+
+abbrev pub receiver_crash_after_get_run : List Step
+receiver_crash_after_get_run = step.Put letter_a ∷ step.Get letter_a ∷ step.Crash Receiver ∷ step.LoseAck ∷ step.Recover Receiver ∷ step.Ack false ∷ []
 
 -- after a handshake the receiver is asked to offer the word of its last offer again
 abbrev pub start_word_repeated : List Event
@@ -289,12 +314,22 @@ calls_while_down =
 abbrev pub calls_while_down_emits : List Emission
 calls_while_down_emits = []
 
+abbrev pub calls_while_down_run : List Step
+calls_while_down_run = step.Crash Sender ∷ step.DownReply Sender ∷ step.DownReply Sender ∷ step.LoseAck ∷ step.Recover Sender ∷ step.Ack false ∷ []
+
 -- a packet that nobody emitted comes to a side
 abbrev pub unsent_delivery : End → OwnedPacket → ℕ → List Event
 unsent_delivery side packet word = record { pass = 0; side = side; stream = 1; act = act.Deliver packet word; reply = reply.Done } ∷ []
 
--- over the whole story the replies are right, and these packets are emitted, each delivered one before it is
+-- over the whole story the replies are right, these packets are emitted, and each delivered one was emitted before
 pub record IsExample (story : List Event) (emitted : List Emission) : Type 0 where
   pub right : IsRight (reverse story)
   pub emits : emissions (reverse story) ≡ emitted
   pub honest : IsHonest (reverse story)
+
+-- besides, no word is used twice, and this run of the queue serves the stream
+pub record IsServedExample (story : List Event) (emitted : List Emission) (run : List Step) : Type 0 where
+  pub example : IsExample story emitted
+  pub fresh : IsFresh (reverse story)
+  pub allowed : IsRun run
+  pub served : without_losses run ≡ calls 1 (reverse story)

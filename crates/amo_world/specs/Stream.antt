@@ -1,5 +1,5 @@
 -- A stream: what its events leave of both its sides.
-use Rattle.std.specs.Prelude.{ℕ, Option, None, List, [], ◌++◌}
+use Rattle.std.specs.Prelude.{ℕ, Option, List, [], ◌++◌}
 use Rattle.std.specs.Option.{option_to_list}
 use Rattle.amo_object.specs.declared.step.End.{End}
 use Rattle.amo_object.specs.declared.step.End.TheVariants.{Sender, Receiver}
