@@ -1,0 +1,3 @@
+pub mod Sink
+pub mod Hexadecimal
+pub mod Line

@@ -1,0 +1,148 @@
+//! Where bytes are written.
+ghost use Rattle.std.specs.Prelude.{◌≡◌, ◌+◌, ◌<◌, ◌≤◌, length, take, IfOk, OnOk, OnErr};
+ghost use Rattle.std.specs.Io.KnownBytes.{Appends, Keeps};
+ghost use Rattle.amo_audit.specs.Sink.{AppendsFront};
+
+use std::io::Write;
+use std::marker::Model;
+use std::sync::ledger::{Blank, Book, Ledger, Share};
+use thiserror::Error;
+
+/// A call of a sink failed.
+///
+/// The device's fault. The call wrote nothing.
+#[derive(Clone, Copy, Debug, PartialEq, Eq, Error)]
+#[error("a write failed")]
+pub struct SinkFault;
+
+/// A place that takes bytes, as a file or a buffer.
+pub trait Sink {
+    ghost use Rattle.std.specs.Prelude.{ℕ, List, Option};
+
+    /// How many calls have failed.
+    ghost failures: { Self → ℕ };
+
+    /// What was written so far, where the sink tells it.
+    ghost written: { Self → Option (List ℕ) };
+
+    /// Appends the first `n` of the bytes and answers `n`, at least 1 where there are any.
+    ///
+    /// A call that fails appends nothing, and is counted.
+    fn write(&mut self, bytes: &[u8]) -> Result<usize, SinkFault>
+        ensures count { IfOk result (λ n. (n ≤ length bytes.now) × (0 < length bytes.now → 0 < n)) }
+        ensures appended { IfOk result (λ n. Appends (written self.old) (written self.new) (take n bytes.now)) }
+        ensures calm { OnOk result (failures self.new ≡ failures self.old) }
+        ensures kept { OnErr result (Keeps (written self.old) (written self.new)) }
+        ensures failed { OnErr result (failures self.old < failures self.new) };
+}
+
+/// Writes all the bytes, in as many calls as the sink wants.
+///
+/// Where a call fails, a beginning of the bytes was appended.
+pub fn write_all<W: Sink>(sink: &mut W, bytes: &[u8]) -> Result<(), SinkFault>
+    ensures appended { OnOk result (Appends (W.written sink.old) (W.written sink.new) bytes.now) }
+    ensures calm { OnOk result (W.failures sink.new ≡ W.failures sink.old) }
+    ensures front { OnErr result (AppendsFront (W.written sink.old) (W.written sink.new) bytes.now) }
+    ensures failed { OnErr result (W.failures sink.old < W.failures sink.new) }
+{
+    let mut done = 0;
+    while done < bytes.len() {
+        done += sink.write(&bytes[done..])?;
+    }
+    Ok(())
+}
+
+/// How many calls failed: it takes no bytes, and has no greatest value.
+#[derive(Drop)]
+pub struct Failures<L: Ledger> {
+    book: Book<L>,
+    share: Share<L>,
+}
+
+impl<L: Ledger> Model for Failures<L> {
+    ghost use Rattle.std.specs.Prelude.{ℕ, ◌<◌};
+
+    ghost Value = { ℕ };
+
+    ghost view = { λ f. f.book.total };
+
+    ghost invariant = { λ f. 0 < f.share.parts };
+}
+
+impl<L: Ledger> Failures<L> {
+    /// None yet.
+    fn new(blank: Blank) -> Failures<L>
+        requires name { blank.name ≡ L.name }
+        requires parts { blank.parts ≡ L.parts }
+        requires some { 0 < L.parts }
+        ensures { result ≡ 0 }
+    {
+        let (book, share) = blank.open::<L>();
+        Failures { book, share }
+    }
+
+    /// Counts one more.
+    fn count(&mut self)
+        ensures { self.new ≡ self.old + 1 }
+    {
+        self.book.add(&mut self.share, 1);
+    }
+}
+
+/// A sink of any writer.
+///
+/// Contracts see it as its writer and the number of calls that failed.
+#[derive(Drop)]
+pub struct Out<W, L: Ledger> {
+    writer: W,
+    failures: Failures<L>,
+}
+
+impl<W, L: Ledger> Model for Out<W, L> {
+    ghost use Rattle.amo_audit.specs.Sink.{OutState};
+
+    ghost Value = { OutState W };
+
+    ghost view = { λ o. record { writer = o.writer; failures = o.failures } };
+}
+
+impl<W, L: Ledger> Out<W, L> {
+    /// A sink of this writer, of which no call has failed yet.
+    ///
+    /// The blank is the ledger in which contracts count the failures; it takes no bytes.
+    pub fn new(writer: W, blank: Blank) -> Out<W, L>
+        requires name { blank.name ≡ L.name }
+        requires parts { blank.parts ≡ L.parts }
+        requires some { 0 < L.parts }
+        ensures writer { result.writer ≡ writer }
+        ensures calm { result.failures ≡ 0 }
+    {
+        Out {
+            writer,
+            failures: Failures::new(blank),
+        }
+    }
+
+    /// Gives the writer back.
+    pub fn into_inner(self) -> W
+        ensures { result ≡ self.writer }
+    {
+        self.writer
+    }
+}
+
+impl<W: Write, L: Ledger> Sink for Out<W, L> {
+    ghost failures = { λ o. o.failures };
+
+    ghost written = { λ o. W.contents o.writer };
+
+    fn write(&mut self, bytes: &[u8]) -> Result<usize, SinkFault> {
+        match self.writer.write(bytes) {
+            Ok(count) if count > 0 || bytes.is_empty() => Ok(count),
+            _ => {
+                self.failures.count();
+                Err(SinkFault)
+            }
+        }
+    }
+}

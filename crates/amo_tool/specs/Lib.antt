@@ -1,0 +1,4 @@
+pub mod Schedule
+pub mod Bench
+pub mod Transcript
+pub mod Ending

@@ -1,0 +1,62 @@
+-- Schedules: lists of lines, and the bytes that spell them.
+use Rattle.std.specs.Prelude.{◌≡◌, ◌≢◌, ℕ, ◌+◌, ◌≤◌, Option, Some, None, List, [], ◌∷◌, ◌++◌, length, codes}
+use Rattle.std.specs.List.{join_with_byte, flat_map, AllByRecursion}
+use Rattle.std.specs.Fmt.{decimal}
+use Rattle.hex.specs.Hex.{IsBytes}
+use Rattle.amo_audit.specs.Hexadecimal.{hex}
+use Rattle.amo_audit.specs.Line.{line_of}
+use Rattle.amo_tool.specs.declared.schedule.ScheduleFault.{ScheduleFault}
+use Rattle.amo_tool.specs.declared.schedule.ScheduleFault.TheVariants.{NoMemory, Malformed}
+use Rattle.amo_tool.specs.declared.schedule.Line.{Line}
+use Rattle.amo_tool.specs.declared.schedule.Line.TheVariants.{Put, Get, Ack}
+
+-- the words of a line
+abbrev pub words_of : Line → List (List ℕ)
+words_of (Put stream m) = codes "put" ∷ decimal stream ∷ hex m ∷ []
+words_of (Get stream) = codes "get" ∷ decimal stream ∷ []
+words_of (Ack stream) = codes "ack" ∷ decimal stream ∷ []
+
+-- the text of a line, without its end and with it
+abbrev pub text_of : Line → List ℕ
+text_of line = join_with_byte 32 (words_of line)
+
+abbrev pub spelling_of : Line → List ℕ
+spelling_of line = line_of (words_of line)
+
+-- the streams of a host
+abbrev pub IsStream : ℕ → Type 0
+IsStream stream = (1 ≤ stream) × (stream ≤ 256)
+
+-- the lines that there are
+abbrev pub InRange : Line → Type 0
+InRange (Put stream m) = IsStream stream × (length m ≤ 1024) × IsBytes m
+InRange (Get stream) = IsStream stream
+InRange (Ack stream) = IsStream stream
+
+-- the bytes are these lines
+abbrev pub Spells : List Line → List ℕ → Type 0
+Spells lines bytes = AllByRecursion InRange lines × (bytes ≡ flat_map spelling_of lines)
+
+-- the text is that of a line, this one, or of none
+abbrev pub ReadsAs : List ℕ → Option Line → Type 0
+ReadsAs text (Some line) = InRange line × (text ≡ text_of line)
+ReadsAs text None = (line : Line) → InRange line → text ≢ text_of line
+
+-- there are bytes, and no line stands in front
+abbrev pub IsUnreadable : List ℕ → Type 0
+IsUnreadable bytes = (bytes ≢ []) × ((line : Line) (more : List ℕ) → InRange line → bytes ≢ spelling_of line ++ more)
+
+-- this line, counted from 1, is the first that does not read
+abbrev pub IsMalformedAt : List ℕ → ℕ → Type 0
+IsMalformedAt bytes number =
+    (lines : List Line) × (front : List ℕ) × (rest : List ℕ) × Spells lines front × IsUnreadable rest × (bytes ≡ front ++ rest) × (number ≡ length lines + 1)
+
+-- why the bytes are no schedule, unless memory ran out
+abbrev pub Faults : List ℕ → ScheduleFault → Type 0
+Faults bytes NoMemory = Unit {0}
+Faults bytes (Malformed number) = IsMalformedAt bytes number
+
+-- the number of a fault
+abbrev pub fault_code : ScheduleFault → ℕ
+fault_code NoMemory = 9
+fault_code (Malformed number) = 63

@@ -1,0 +1,50 @@
+//! Tells a replay's ending: the line of its fault, and the status that the program ends with.
+ghost use Rattle.std.specs.Prelude.{◌≡◌, ◌<◌, IfOk, IsErrOf};
+ghost use Rattle.std.specs.String.{string_bytes};
+ghost use Rattle.std.specs.Io.KnownBytes.{Appends, Keeps};
+ghost use Rattle.amo_audit.specs.Sink.{AppendsFront};
+ghost use Rattle.amo_tool.specs.Ending.{fault_line, status_of};
+
+use crate::outcome::{Ending, ToolFault};
+use amo_audit::{Sink, write_all};
+use std::alloc::{AllocError, Global};
+
+/// The line of a fault, with its end; nothing for a replay that is done.
+fn fault_line(alloc: Global, ending: &Ending) -> Result<String, AllocError>
+    ensures { IfOk result (λ text. string_bytes text ≡ fault_line ending.now) }
+{
+    match ending {
+        Ending::Done => Ok(String::new(alloc)),
+        Ending::Malformed(line) => format!(in alloc; "amo: line {line}: malformed\n"),
+        Ending::Unsent(line) => format!(in alloc; "amo: line {line}: unsent\n"),
+        Ending::Repeat(line) => format!(in alloc; "amo: line {line}: repeat\n"),
+    }
+}
+
+/// The status of an ending: 0 for a replay that is done, 2 for a schedule that does not read, 3 for a broken premise.
+fn status(ending: &Ending) -> u8
+    ensures { result ≡ status_of ending.now }
+{
+    match ending {
+        Ending::Done => 0,
+        Ending::Malformed(_) => 2,
+        Ending::Unsent(_) | Ending::Repeat(_) => 3,
+    }
+}
+
+/// Writes the line of a replay's fault, nothing for one that is done, and answers the status to end with.
+pub fn ending<W: Sink>(alloc: Global, ending: &Ending, sink: &mut W) -> Result<u8, ToolFault>
+    ensures status { IfOk result (λ status. status ≡ status_of ending.now) }
+    ensures told { IfOk result (λ status. Appends (W.written sink.old) (W.written sink.new) (fault_line ending.now)) }
+    ensures memory { IsErrOf result ToolFault.NoMemory → W.written sink.new ≡ W.written sink.old }
+    ensures device { IsErrOf result ToolFault.Device → AppendsFront (W.written sink.old) (W.written sink.new) (fault_line ending.now) }
+    ensures failed { IsErrOf result ToolFault.Device → W.failures sink.old < W.failures sink.new }
+{
+    let Ok(text) = fault_line(alloc, ending) else {
+        return Err(ToolFault::NoMemory);
+    };
+    match write_all(sink, text.as_bytes()) {
+        Ok(()) => Ok(status(ending)),
+        Err(_) => Err(ToolFault::Device),
+    }
+}
