@@ -1,0 +1,20 @@
+//! What the program is asked to do.
+use thiserror::Error;
+
+/// What the program is to do.
+#[derive(Debug, Drop)]
+pub enum Settings {
+    /// Replay the schedule in this file.
+    Replay(String),
+}
+
+/// Why the program's words are no settings.
+#[derive(Debug, Drop, Error)]
+pub enum WordsFault {
+    /// A text for whoever typed them, and the status to end with: 2 for words that do not parse, 0 for asked-for help.
+    #[error("{0}")]
+    Text(String, u8),
+    /// Memory was refused. The caller may try again later.
+    #[error("amo: out of memory")]
+    NoMemory,
+}

@@ -1,0 +1,148 @@
+//! The program `amo`: replays schedules of client calls on both automata of 256 streams, and prints what they reply.
+//! It opens no socket and starts no thread yet.
+//!
+//! ```text
+//!   words      the program's words            choice    what they choose
+//!   schedule   lines, and how they are read   bench     both sides of every stream
+//!   runner     replay: a line for each event  transcript, tell   what is printed
+//! ```
+#![tactic(auto)]
+
+ghost use Rattle.std.specs.Prelude.{◌≡◌, ◌<◌};
+
+mod bench;
+mod choice;
+mod outcome;
+mod runner;
+mod schedule;
+mod tell;
+#[cfg(test)]
+mod tests;
+mod transcript;
+mod words;
+
+use crate::choice::{Settings, WordsFault};
+use crate::outcome::{Ending, ToolFault};
+use crate::runner::replay;
+use crate::tell::ending;
+use crate::words::{not_text, settings};
+use amo_audit::Out;
+use std::io::{BufWriter, ErrorKind, Printer, Write};
+use std::marker::Brand;
+use std::process::ExitCode;
+use std::rt::{Env, Files};
+use std::sync::ledger::{Blank, Ledger};
+use std::{env, fs, io};
+
+/// The status of want of memory, and of a fault of a device.
+const FAILED: u8 = 4;
+
+fn main(rt: HostRuntime) -> ExitCode {
+    ExitCode::from(run(&rt, rt.stderr()))
+}
+
+/// Does what the program's words ask for, and answers the status to end with.
+fn run<R: AllocGlobal + Env + Files + Print + Eprint, E: Write + Drop>(rt: &R, errors: E) -> u8 {
+    let done = match choose(rt) {
+        Ok(Settings::Replay(file)) => replay_file(rt, file.as_str(), errors),
+        Err(WordsFault::Text(text, status)) => show(rt, text.as_str(), status),
+        Err(WordsFault::NoMemory) => Err(ToolFault::NoMemory),
+    };
+    match done {
+        Ok(status) => status,
+        Err(fault) => {
+            let _ = rt.eprintln(fault);
+            FAILED
+        }
+    }
+}
+
+/// The settings that the program's words choose.
+fn choose<R: AllocGlobal + Env>(rt: &R) -> Result<Settings, WordsFault> {
+    let words = match env::args(rt) {
+        Ok(words) => words.collect(rt.alloc()),
+        Err(error) if error.kind() == ErrorKind::InvalidData => return Err(not_text(rt.alloc())),
+        Err(_) => return Err(WordsFault::NoMemory),
+    };
+    match words {
+        Ok(words) => settings(rt.alloc(), words),
+        Err(_) => Err(WordsFault::NoMemory),
+    }
+}
+
+/// Shows a text about the program's words: asked-for help on standard output, all else on standard error.
+fn show<R: Print + Eprint>(rt: &R, text: &str, status: u8) -> Result<u8, ToolFault> {
+    if status == 0 {
+        match rt.print(text) {
+            Ok(()) => Ok(status),
+            Err(_) => Err(ToolFault::Device),
+        }
+    } else {
+        let _ = rt.eprint(text);
+        Ok(status)
+    }
+}
+
+/// Replays a file, tells how that ended, and answers the status to end with.
+fn replay_file<R: AllocGlobal + Files + Print, E: Write + Drop>(
+    rt: &R,
+    file: &str,
+    errors: E,
+) -> Result<u8, ToolFault> {
+    let bytes = read_file(rt, file)?;
+    let how = replay_bytes::<R, Brand>(rt, bytes.as_slice(), Blank::new(1))?;
+    tell_ending::<R, E, Brand>(rt, &how, errors, Blank::new(1))
+}
+
+/// The bytes of a file.
+fn read_file<R: AllocGlobal + Files>(rt: &R, file: &str) -> Result<Vec<u8>, ToolFault> {
+    match fs::read(rt, file) {
+        Ok(bytes) => Ok(bytes),
+        Err(error) => Err(fault_of(&error)),
+    }
+}
+
+/// What went wrong at a device, or for want of memory.
+fn fault_of(error: &io::Error) -> ToolFault {
+    match error.kind() {
+        ErrorKind::OutOfMemory => ToolFault::NoMemory,
+        _ => ToolFault::Device,
+    }
+}
+
+/// Replays the bytes of a schedule to standard output. What was written has left when it answers.
+fn replay_bytes<R: AllocGlobal + Print, L: Ledger>(
+    rt: &R,
+    bytes: &[u8],
+    blank: Blank,
+) -> Result<Ending, ToolFault>
+    requires name { blank.name ≡ L.name }
+    requires parts { blank.parts ≡ L.parts }
+    requires some { 0 < L.parts }
+{
+    let buffered = match BufWriter::new(rt.alloc(), io::writer(rt)) {
+        Ok(buffered) => buffered,
+        Err(error) => return Err(fault_of(&error)),
+    };
+    let mut out = Out::<BufWriter<Printer<'_, R>>, L>::new(buffered, blank);
+    let how = replay(rt.alloc(), bytes, &mut out);
+    match out.into_inner().flush() {
+        Ok(()) => how,
+        Err(_) => Err(ToolFault::Device),
+    }
+}
+
+/// Tells on standard error how a replay ended, and answers the status to end with.
+fn tell_ending<R: AllocGlobal, E: Write + Drop, L: Ledger>(
+    rt: &R,
+    how: &Ending,
+    errors: E,
+    blank: Blank,
+) -> Result<u8, ToolFault>
+    requires name { blank.name ≡ L.name }
+    requires parts { blank.parts ≡ L.parts }
+    requires some { 0 < L.parts }
+{
+    let mut out = Out::<E, L>::new(errors, blank);
+    ending(rt.alloc(), how, &mut out)
+}

@@ -1,0 +1,2 @@
+//! Schedules and what they print.
+ghost use Rattle.std.specs.Prelude.{◌≡◌, ◌<◌};
