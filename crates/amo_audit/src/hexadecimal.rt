@@ -1,17 +1,18 @@
-//! Bytes as text: two lower-case hexadecimal digits each, and `-` for no bytes.
-ghost use Rattle.std.specs.Prelude.{◌≡◌, ◌≢◌, ℕ, ◌≤◌, List, ◌++◌, length, take, drop, IfSome, IfNone, OnOk, OnErr};
-ghost use Rattle.hex.specs.Hex.{IsBytes};
-ghost use Rattle.amo_audit.specs.Hexadecimal.{hex};
+//! Bytes as text: two lower-case hexadecimal digits a byte, and `-` for no bytes.
+ghost use Rattle.std.specs.Prelude.{◌≡◌, ◌≢◌, ℕ, ◌*◌, ◌<◌, ◌≤◌, List, ◌++◌, length, take, drop, slice_index, IsTrue, IfSome, IfNone, OnOk, OnErr, Bool};
+ghost use Rattle.std.specs.List.{list_all};
+ghost use Rattle.hex.specs.Hex.{IsBytes, encode_lower, lower_digits};
+ghost use Rattle.amo_audit.specs.Hexadecimal.{hex, is_hex_digit};
 
 use std::alloc::AllocError;
 
-const NO_BYTES: u8 = b'-';
-
 /// Reads the bytes that this text spells into the front of `room`, and answers how many they are.
 ///
-/// None where it spells no bytes, or more than the room takes; the room is then unchanged.
+/// None where it spells no bytes, or more than the room takes: the room is then unchanged.
 pub fn read_hex(text: &[u8], room: &mut [u8]) -> Option<usize>
-    ensures found { IfSome result (λ n. (n ≤ length room.old) × (text.now ≡ hex (take n room.new)) × IsBytes (take n room.new)) }
+    ensures found { IfSome result (λ n. text.now ≡ hex (take n room.new)) }
+    ensures within { IfSome result (λ n. n ≤ length room.new) }
+    ensures bytes { IfSome result (λ n. IsBytes (take n room.new)) }
     ensures rest { IfSome result (λ n. drop n room.new ≡ drop n room.old) }
     ensures none { IfNone result ((m : List ℕ) → IsBytes m → length m ≤ length room.old → text.now ≢ hex m) }
     ensures same { IfNone result (room.new ≡ room.old) }
@@ -20,15 +21,52 @@ pub fn read_hex(text: &[u8], room: &mut [u8]) -> Option<usize>
         return Some(0);
     }
     let count = text.len() / 2;
-    if count == 0 || count > room.len() || !text.iter().all(|&digit| is_digit(digit)) {
+    if count == 0 || count > room.len() || text.len() % 2 == 1 || !are_digits(text) {
         return None;
     }
-    hex::decode_to_slice(text, &mut room[..count]).ok()?;
+    decode(text, &mut room[..count]);
     Some(count)
 }
 
-fn is_digit(digit: u8) -> bool {
+/// Whether each byte is a digit.
+fn are_digits(text: &[u8]) -> bool
+    ensures { result ≡ list_all is_hex_digit text.now }
+{
+    // It goes on to the end in any case, so that it is compiled to vector instructions.
+    let mut all = true;
+    for &digit in text {
+        all &= is_digit(digit);
+    }
+    all
+}
+
+fn is_digit(digit: u8) -> bool
+    ensures { result ≡ is_hex_digit digit }
+{
     matches!(digit, b'0'..=b'9' | b'a'..=b'f')
+}
+
+/// The bytes of these digits.
+fn decode(digits: &[u8], bytes: &mut [u8])
+    requires digits { IsTrue (list_all is_hex_digit digits.now) }
+    requires pairs { length digits.now ≡ 2 * length bytes.old }
+    ensures { encode_lower bytes.new ≡ digits.now }
+{
+    for i in 0..bytes.len() {
+        bytes[i] = digit_value(digits[2 * i]) * 16 + digit_value(digits[2 * i + 1]);
+    }
+}
+
+fn digit_value(digit: u8) -> u8
+    requires { IsTrue (is_hex_digit digit) }
+    ensures value { slice_index lower_digits result ≡ digit }
+    ensures small { result < 16 }
+{
+    if digit <= b'9' {
+        digit - b'0'
+    } else {
+        digit - b'a' + 10
+    }
 }
 
 /// Appends the spelling of these bytes.
@@ -37,11 +75,12 @@ pub fn push_hex(text: &mut Vec<u8>, bytes: &[u8]) -> Result<(), AllocError>
     ensures err { OnErr result (text.new.items ≡ text.old.items) }
 {
     if bytes.is_empty() {
-        text.push(NO_BYTES)?;
+        text.push(b'-')?;
         return Ok(());
     }
     let start = text.len();
-    let end = bytes.len().checked_mul(2).and_then(|digits| digits.checked_add(start)).ok_or(AllocError)?;
+    let digits = bytes.len().checked_mul(2).ok_or(AllocError)?;
+    let end = start.checked_add(digits).ok_or(AllocError)?;
     text.resize(end, 0)?;
     let _ = hex::encode_to_slice(bytes, &mut text[start..]);
     Ok(())
