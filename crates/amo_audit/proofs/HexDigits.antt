@@ -1,5 +1,5 @@
 -- Hexadecimal digits, by pairs.
-use Rattle.std.proofs.Common.{◌≡◌, ◌≢◌, ℕ, suc, ◌+◌, ◌*◌, ◌/◌, ◌%◌, ◌==◌, ◌<◌, ◌≤◌, Bool, true, false, eqb, ◌&&◌, List, [], ◌∷◌, ◌++◌, length, take, drop, set, get_or, slice_index, codes, refl, sym, ◌∙◌, ap, arith, append_assoc, length-set}
+use Rattle.std.proofs.Common.{◌≡◌, ◌≢◌, ℕ, suc, ◌+◌, ◌*◌, ◌/◌, ◌%◌, ◌<◌, true, false, eqb, List, [], ◌∷◌, ◌++◌, length, take, set, slice_index, codes, refl, sym, ◌∙◌, ap, arith, append_assoc}
 use Rattle.std.specs.List.{list_all}
 use Rattle.std.specs.Cmp.Lexicographic.{pointwise}
 use Rattle.std.proofs.lemmas.Bool.{agree_below_at}
@@ -65,3 +65,12 @@ IsPairs-hex text (b ∷ m) bytes apart e = record {
 -- texts that compare unlike
 pub texts_differ : (xs ys : List ℕ) → false ≡ pointwise eqb xs ys → xs ≢ ys
 texts_differ xs ys e same = let h : false ≡ true = (slice_eq-Decides Decides-eqb xs ys false e).1 same in cc
+
+-- bytes have one spelling
+pub hex-injective : (m n : List ℕ) → IsBytes m → IsBytes n → hex m ≡ hex n → m ≡ n
+unfolding encode_with
+hex-injective [] [] first second e = refl
+hex-injective [] (c ∷ n) first second e = cc
+hex-injective (b ∷ m) [] first second e = cc
+hex-injective (b ∷ m) (c ∷ n) first second e =
+    decode_of-same (encode_lower (b ∷ m)) (b ∷ m) (c ∷ n) (decode_of-encode_lower (b ∷ m) first) (ap decode_of e ∙ decode_of-encode_lower (c ∷ n) second)

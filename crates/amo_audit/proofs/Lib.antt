@@ -1,3 +1,5 @@
 pub mod Written
 pub mod Digits
 pub mod HexDigits
+pub mod Cuts
+pub mod Lines

@@ -5,6 +5,7 @@
 
 pub mod decimal;
 pub mod hexadecimal;
+pub mod laws;
 pub mod line;
 pub mod sink;
 

@@ -54,7 +54,7 @@ pub fn write_all<W: Sink>(sink: &mut W, bytes: &[u8]) -> Result<(), SinkFault>
 
 /// How many calls failed: it takes no bytes, and has no greatest value.
 #[derive(Drop)]
-pub struct Failures<L: Ledger> {
+struct Failures<L: Ledger> {
     book: Book<L>,
     share: Share<L>,
 }

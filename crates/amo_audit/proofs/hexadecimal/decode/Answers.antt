@@ -1,4 +1,4 @@
-use Rattle.std.proofs.Common.{arith, ◌≡◌, ◌*◌, ◌∙◌, length, ap}
+use Rattle.std.proofs.Common.{arith}
 use Rattle.amo_audit.proofs.HexDigits.{encode_lower-nil, decode_step}
 use Rattle.amo_audit.proofs.hexadecimal.decode.Goals as goal
 
