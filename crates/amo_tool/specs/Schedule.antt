@@ -1,10 +1,10 @@
 -- Schedules: lists of lines, and the bytes that spell them.
 use Rattle.std.specs.Prelude.{◌≡◌, ◌≢◌, ℕ, ◌+◌, ◌≤◌, Option, Some, None, List, [], ◌∷◌, ◌++◌, length, codes}
-use Rattle.std.specs.List.{join_with_byte, flat_map, AllByRecursion}
+use Rattle.std.specs.List.{flat_map, AllByRecursion}
 use Rattle.std.specs.Fmt.{decimal}
 use Rattle.hex.specs.Hex.{IsBytes}
 use Rattle.amo_audit.specs.Hexadecimal.{hex}
-use Rattle.amo_audit.specs.Line.{line_of}
+use Rattle.amo_audit.specs.Line.{text_of, line_of}
 use Rattle.amo_tool.specs.declared.schedule.ScheduleFault.{ScheduleFault}
 use Rattle.amo_tool.specs.declared.schedule.ScheduleFault.TheVariants.{NoMemory, Malformed}
 use Rattle.amo_tool.specs.declared.schedule.Line.{Line}
@@ -16,10 +16,7 @@ words_of (Put stream m) = codes "put" ∷ decimal stream ∷ hex m ∷ []
 words_of (Get stream) = codes "get" ∷ decimal stream ∷ []
 words_of (Ack stream) = codes "ack" ∷ decimal stream ∷ []
 
--- the text of a line, without its end and with it
-abbrev pub text_of : Line → List ℕ
-text_of line = join_with_byte 32 (words_of line)
-
+-- a line, with its end
 abbrev pub spelling_of : Line → List ℕ
 spelling_of line = line_of (words_of line)
 
@@ -37,10 +34,10 @@ InRange (Ack stream) = IsStream stream
 abbrev pub Spells : List Line → List ℕ → Type 0
 Spells lines bytes = AllByRecursion InRange lines × (bytes ≡ flat_map spelling_of lines)
 
--- the text is that of a line, this one, or of none
+-- the text, which lacks a line's end, is that of this line, or of none
 abbrev pub ReadsAs : List ℕ → Option Line → Type 0
-ReadsAs text (Some line) = InRange line × (text ≡ text_of line)
-ReadsAs text None = (line : Line) → InRange line → text ≢ text_of line
+ReadsAs text (Some line) = InRange line × (text ≡ text_of (words_of line))
+ReadsAs text None = (line : Line) → InRange line → text ≢ text_of (words_of line)
 
 -- there are bytes, and no line stands in front
 abbrev pub IsUnreadable : List ℕ → Type 0

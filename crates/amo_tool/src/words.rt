@@ -41,16 +41,18 @@ pub fn settings(alloc: Global, words: Vec<String>) -> Result<Settings, WordsFaul
 
 /// The fault of words that are not text, told as `clap` tells it.
 pub fn not_text(alloc: Global) -> WordsFault {
-    let told = command(alloc).and_then(|mut command| {
-        command.error(
-            ErrorKind::ValueValidation,
-            "invalid UTF-8 was detected in one or more arguments",
-        )
-    });
-    match told {
+    match not_text_error(alloc) {
         Ok(error) => refusal(alloc, &error),
         Err(AllocError) => WordsFault::NoMemory,
     }
+}
+
+fn not_text_error(alloc: Global) -> Result<Error, AllocError> {
+    let mut command = command(alloc)?;
+    command.error(
+        ErrorKind::ValueValidation,
+        "invalid UTF-8 was detected in one or more arguments",
+    )
 }
 
 /// The program's words, as `clap` describes them.

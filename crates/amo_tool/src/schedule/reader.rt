@@ -3,7 +3,8 @@ ghost use Rattle.std.specs.Prelude.{◌≡◌, ◌≢◌, ℕ, ◌∷◌, ◌++�
 ghost use Rattle.std.specs.Fmt.{decimal};
 ghost use Rattle.hex.specs.Hex.{IsBytes};
 ghost use Rattle.amo_audit.specs.Hexadecimal.{hex};
-ghost use Rattle.amo_tool.specs.Schedule.{text_of, IsStream, InRange, Spells, Faults, ReadsAs};
+ghost use Rattle.amo_audit.specs.Line.{text_of};
+ghost use Rattle.amo_tool.specs.Schedule.{words_of, IsStream, InRange, Spells, Faults, ReadsAs};
 ghost use Rattle.amo_tool.specs.declared.schedule.Line.{Line};
 
 use crate::schedule::{Line, ScheduleFault};
@@ -43,7 +44,7 @@ fn read_message(alloc: Global, word: &[u8]) -> Result<Option<Message>, AllocErro
 
 /// The put of which these are the words after the first.
 fn read_put(alloc: Global, words: &[u8]) -> Result<Option<Line>, AllocError>
-    ensures found { IfOk result (λ read. IfSome read (λ line. InRange line × (codes "put" ++ 32 ∷ words.now ≡ text_of line))) }
+    ensures found { IfOk result (λ read. IfSome read (λ line. InRange line × (codes "put" ++ 32 ∷ words.now ≡ text_of (words_of line)))) }
     ensures none { IfOk result (λ read. IfNone read ((stream : ℕ) (m : List ℕ) → IsStream stream → length m ≤ 1024 → IsBytes m
         → words.now ≢ decimal stream ++ 32 ∷ hex m)) }
 {
