@@ -8,6 +8,8 @@ pub mod hexadecimal;
 pub mod laws;
 pub mod line;
 pub mod sink;
+#[cfg(test)]
+mod tests;
 
 pub use crate::decimal::{push_decimal, read_decimal};
 pub use crate::hexadecimal::{push_hex, read_hex};
