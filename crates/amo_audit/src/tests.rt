@@ -88,7 +88,10 @@ fn spells_numbers_and_bytes(rt: HostRuntime) -> Result<(), Fail> {
         push_hex(&mut text, bytes)?;
         text.push(b' ')?;
     }
-    assert_eq!(rt; text.as_slice(), b"0 9 10 100 18446744073709551615 - 61 000ff0ff ".as_slice());
+    assert_eq!(rt;
+        text.as_slice(),
+        b"0 9 10 100 18446744073709551615 - 61 000ff0ff ".as_slice()
+    );
     Ok(())
 }
 
