@@ -5,7 +5,7 @@ use Rattle.std.specs.Char.{digit_value}
 use Rattle.std.specs.Int.{IsInRange}
 use Rattle.std.specs.Str.Parse.{AllDigits, digits_value}
 use Rattle.std.proofs.lemmas.List.{take_more, take_rest, drop-set, length-set}
-use Rattle.std.proofs.lemmas.Fmt.{decimal_is_IsNumeral, decimal_digit, decimal_step, first_decimal, decimal-digits_value}
+use Rattle.std.proofs.lemmas.Fmt.{decimal_is_IsNumeral, decimal_nonempty, decimal_digit, decimal_step, first_decimal, decimal-digits_value}
 use Rattle.std.proofs.lemmas.Str.{digit_value_digit}
 use Rattle.std.proofs.lemmas.Str.Parse.{digits_value-take-le, numerals_by_value, tells_digits}
 use Rattle.std.proofs.lemmas.Int.Digits.{digits_value_more}
@@ -45,10 +45,10 @@ spells_none ds None past = λ n small e.
     absurd (omega (arith, past digits))
 spells_none ds (Some n) past = tt
 
--- a number's digits do not begin with a zero, unless they are that zero
-pub no_leading_zero : (n : ℕ) → n < 2 ^ 64 → get_or (decimal n) 0 0 ≡ 48 → length (decimal n) ≡ 1
-no_leading_zero zero small e = ap length (decimal_digit 0 (omega arith))
-no_leading_zero (suc n) small e = absurd (omega (arith, first_decimal (suc n) (omega arith) small))
+-- there is a first digit, and it is a zero only where it is the whole number
+pub begins_as_decimal : (n : ℕ) → n < 2 ^ 64 → (0 < length (decimal n)) × (get_or (decimal n) 0 0 ≡ 48 → length (decimal n) ≡ 1)
+begins_as_decimal zero small = (decimal_nonempty 0 small, λ lead. ap length (decimal_digit 0 (omega arith)))
+begins_as_decimal (suc n) small = (decimal_nonempty (suc n) small, λ lead. absurd (omega (arith, first_decimal (suc n) (omega arith) small)))
 
 -- what is left has a digit fewer
 pub fewer_digits : (n i : ℕ) → 0 < i → n < 10 ^ i → n / 10 < 10 ^ (i - 1)

@@ -1,5 +1,5 @@
-//! Decimal numbers: digits with no sign and no leading zero, from `0` to `18446744073709551615`.
-ghost use Rattle.std.specs.Prelude.{◌≡◌, ◌≢◌, ℕ, ◌<◌, ◌≤◌, ◌^◌, ◌++◌, IfSome, IfNone, OnOk, OnErr};
+//! Decimals: numbers from `0` to `18446744073709551615`, with no sign and no leading zero.
+ghost use Rattle.std.specs.Prelude.{◌≡◌, ◌≢◌, ℕ, ◌<◌, ◌≤◌, ◌^◌, ◌++◌, ◌↔◌, length, slice_index, IsTrue, IfSome, IfNone, OnOk, OnErr};
 ghost use Rattle.std.specs.Fmt.{decimal};
 ghost use Rattle.std.specs.Str.Parse.{AllDigits, digits_value};
 
@@ -7,22 +7,26 @@ use std::alloc::AllocError;
 
 /// The number that this text spells, if it spells one.
 ///
-/// A sign, a leading zero, a number past `u64::MAX` and no text at all are none.
+/// A sign, a leading zero, a number past `u64::MAX` and the empty text spell none.
 pub fn read_decimal(text: &[u8]) -> Option<u64>
     ensures found { IfSome result (λ n. text.now ≡ decimal n) }
     ensures fits { IfSome result (λ n. n < 2 ^ 64) }
     ensures none { IfNone result ((n : ℕ) → n < 2 ^ 64 → text.now ≢ decimal n) }
 {
-    if text.is_empty() {
-        return None;
-    }
-    if text.len() > 1 && text[0] == b'0' {
+    if !begins_as_decimal(text) {
         return None;
     }
     value_of(text)
 }
 
-/// The number that these digits write, leading zeros or not.
+/// Whether there is a first byte, and a zero only where it is the whole text.
+fn begins_as_decimal(text: &[u8]) -> bool
+    ensures { IsTrue result ↔ ((0 < length text.now) × (slice_index text.now 0 ≡ 48 → length text.now ≡ 1)) }
+{
+    !text.is_empty() && (text[0] != b'0' || text.len() == 1)
+}
+
+/// The number that these digits are worth, whatever zeros lead them.
 fn value_of(digits: &[u8]) -> Option<u64>
     ensures found { IfSome result (λ n. AllDigits 10 digits.now × (n ≡ digits_value 10 digits.now)) }
     ensures fits { IfSome result (λ n. n < 2 ^ 64) }

@@ -1,4 +1,4 @@
-//! Bytes as text: two lower-case hexadecimal digits a byte, and `-` for no bytes.
+//! HEX: bytes as text in base 16 (RFC 4648, section 8), with lower-case digits, and `-` for no bytes.
 ghost use Rattle.std.specs.Prelude.{◌≡◌, ◌≢◌, ℕ, ◌*◌, ◌<◌, ◌≤◌, List, ◌++◌, length, take, drop, slice_index, IsTrue, IfSome, IfNone, OnOk, OnErr, Bool};
 ghost use Rattle.std.specs.List.{list_all};
 ghost use Rattle.hex.specs.Hex.{IsBytes, encode_lower, lower_digits};

@@ -11,14 +11,12 @@ ghost use Rattle.amo_audit.specs.Line.{Lacks, IsWord, IsLine, text_of, line_of};
 /// Two numbers have two decimals.
 pub fn decimal_is_injective()
     ensures { (m n : ℕ) → m < 2 ^ 64 → n < 2 ^ 64 → decimal m ≡ decimal n → m ≡ n }
-{
-}
+{}
 
 /// Two lists of bytes have two spellings.
 pub fn hex_is_injective()
     ensures { (m n : List ℕ) → IsBytes m → IsBytes n → hex m ≡ hex n → m ≡ n }
-{
-}
+{}
 
 /// A decimal is made of digits, and HEX of its digits and the dash: each is a word.
 pub fn spellings_are_words()
@@ -26,16 +24,14 @@ pub fn spellings_are_words()
     ensures hex { (m : List ℕ) → IsBytes m → IsWord (hex m) }
     ensures decimal_digits { (byte n : ℕ) → n < 2 ^ 64 → ¬ (IsInRange 48 57 byte) → Lacks byte (decimal n) }
     ensures hex_digits { (byte : ℕ) (m : List ℕ) → IsBytes m → is_hex_digit byte ≡ false → byte ≢ 45 → Lacks byte (hex m) }
-{
-}
+{}
 
 /// A text has one cut at the first place of a byte, and none where the byte does not stand.
 pub fn first_cut_is_unique()
     ensures one { (byte : ℕ) (a x b y : List ℕ) → Lacks byte a → Lacks byte b
         → a ++ byte ∷ x ≡ b ++ byte ∷ y → (a ≡ b) × (x ≡ y) }
     ensures none { (byte : ℕ) (xs b y : List ℕ) → Lacks byte xs → xs ≢ b ++ byte ∷ y }
-{
-}
+{}
 
 /// A line has one list of words, and one end.
 pub fn line_is_injective()
@@ -43,5 +39,4 @@ pub fn line_is_injective()
     ensures first { (us vs : List (List ℕ)) (x y : List ℕ) → IsLine us → IsLine vs
         → line_of us ++ x ≡ line_of vs ++ y → (us ≡ vs) × (x ≡ y) }
     ensures end { (us : List (List ℕ)) → IsLine us → Lacks 10 (text_of us) }
-{
-}
+{}

@@ -1,15 +1,33 @@
-//! The text that schedules and journals are written in, and the place where it is written.
+//! The text that schedules and journals are written in: decimals, HEX, lines of words, and the sinks
+//! that take them.
+//! It audits nothing yet: it knows no events, and gives the words of a line no meaning.
 //!
-//! It audits nothing yet: the grammar of journals and their audit will stand here beside the text.
+//! Both kinds of file are ASCII. A line is words with single spaces between them and a line feed at its
+//! end, as `put 1 61` of a schedule or `0 0 s 1 put 61 ok` of a journal. What a word spells is read where
+//! it stands, and takes no memory.
+//!
+//! - [`read_decimal`] and [`push_decimal`]: numbers, with no sign and no leading zero.
+//! - [`read_hex`] and [`push_hex`]: bytes, two lower-case digits each, and `-` for none.
+//! - [`cut`], [`next_line`] and [`next_word`]: what stands before and after the first such byte.
+//! - [`Sink`] is a place that takes bytes, [`write_all`] fills it, and [`Out`] makes one of any writer of
+//!   the standard library. Contracts see what a sink was written, where it tells that, and how many of its
+//!   calls failed.
+//! - [`laws`]: a number, some bytes and a line of words have one spelling each. So a grammar of such lines
+//!   is unambiguous as soon as no two of its items have the same words.
+//!
+//! The definitions stand in `specs/`: [`Sink`]'s in `Sink.antt`, HEX in `Hexadecimal.antt`, words and lines
+//! in `Line.antt`. A decimal is what the standard library's `decimal` writes.
 #![tactic(auto)]
 
-pub mod decimal;
-pub mod hexadecimal;
+mod decimal;
+mod hexadecimal;
 pub mod laws;
-pub mod line;
-pub mod sink;
+mod line;
+mod sink;
+#[cfg(test)]
+mod tests;
 
-pub use crate::decimal::{push_decimal, read_decimal};
-pub use crate::hexadecimal::{push_hex, read_hex};
-pub use crate::line::{cut, next_line, next_word};
-pub use crate::sink::{Out, Sink, SinkFault, write_all};
+pub use decimal::{push_decimal, read_decimal};
+pub use hexadecimal::{push_hex, read_hex};
+pub use line::{cut, next_line, next_word};
+pub use sink::{Out, Sink, SinkFault, write_all};

@@ -8,14 +8,12 @@ use std::marker::Model;
 use std::sync::ledger::{Blank, Book, Ledger, Share};
 use thiserror::Error;
 
-/// A call of a sink failed.
-///
-/// The device's fault. The call wrote nothing.
+/// A call of a sink failed: the device's fault. The call appended nothing.
 #[derive(Clone, Copy, Debug, PartialEq, Eq, Error)]
 #[error("a write failed")]
 pub struct SinkFault;
 
-/// A place that takes bytes, as a file or a buffer.
+/// A place that takes bytes at its end, as a file or a buffer.
 pub trait Sink {
     ghost use Rattle.std.specs.Prelude.{ℕ, List, Option};
 
@@ -25,7 +23,7 @@ pub trait Sink {
     /// What was written so far, where the sink tells it.
     ghost written: { Self → Option (List ℕ) };
 
-    /// Appends the first `n` of the bytes and answers `n`, at least 1 where there are any.
+    /// Appends the first `n` of the bytes and answers `n`, which is 1 at least where there are any.
     ///
     /// A call that fails appends nothing, and is counted.
     fn write(&mut self, bytes: &[u8]) -> Result<usize, SinkFault>
@@ -36,9 +34,9 @@ pub trait Sink {
         ensures failed { OnErr result (failures self.old < failures self.new) };
 }
 
-/// Writes all the bytes, in as many calls as the sink wants.
+/// Writes all the bytes, in as many calls as the sink needs.
 ///
-/// Where a call fails, a beginning of the bytes was appended.
+/// Where one of them fails, a beginning of the bytes was appended.
 pub fn write_all<W: Sink>(sink: &mut W, bytes: &[u8]) -> Result<(), SinkFault>
     ensures appended { OnOk result (Appends (W.written sink.old) (W.written sink.new) bytes.now) }
     ensures calm { OnOk result (W.failures sink.new ≡ W.failures sink.old) }
@@ -52,7 +50,7 @@ pub fn write_all<W: Sink>(sink: &mut W, bytes: &[u8]) -> Result<(), SinkFault>
     Ok(())
 }
 
-/// How many calls failed: it takes no bytes, and has no greatest value.
+/// How many calls have failed: a number without a greatest value, which takes no bytes.
 #[derive(Drop)]
 struct Failures<L: Ledger> {
     book: Book<L>,
@@ -89,9 +87,9 @@ impl<L: Ledger> Failures<L> {
     }
 }
 
-/// A sink of any writer.
+/// A sink over any writer, seen by contracts as that writer and how many calls have failed.
 ///
-/// Contracts see it as its writer and the number of calls that failed.
+/// A write of no bytes is a failure where there were bytes to write.
 #[derive(Drop)]
 pub struct Out<W, L: Ledger> {
     writer: W,
@@ -107,9 +105,9 @@ impl<W, L: Ledger> Model for Out<W, L> {
 }
 
 impl<W, L: Ledger> Out<W, L> {
-    /// A sink of this writer, of which no call has failed yet.
+    /// A sink over this writer, no call of which has failed.
     ///
-    /// The blank is the ledger in which contracts count the failures; it takes no bytes.
+    /// The blank becomes the ledger in which contracts count failures. It takes no bytes.
     pub fn new(writer: W, blank: Blank) -> Out<W, L>
         requires name { blank.name ≡ L.name }
         requires parts { blank.parts ≡ L.parts }
@@ -123,7 +121,7 @@ impl<W, L: Ledger> Out<W, L> {
         }
     }
 
-    /// Gives the writer back.
+    /// The writer, as it was left.
     pub fn into_inner(self) -> W
         ensures { result ≡ self.writer }
     {
