@@ -7,7 +7,7 @@ use Rattle.amo_object.specs.declared.step.End.TheVariants.{Sender, Receiver}
 use Rattle.amo_object.specs.declared.step.Step.{Step}
 use Rattle.amo_object.specs.declared.step.Step.TheVariants.{Put, Get, Ack, Crash, Recover, DownReply, Lose, LoseAck}
 use Rattle.amo_object.specs.Queue.{State, after, is_any_down, set_down}
-use Rattle.amo_object.specs.Run.{IsRunFrom, after_all, IsCrashFree}
+use Rattle.amo_object.specs.Run.{IsRunFrom, after_all, without_losses, IsCrashFree}
 use Rattle.amo_object.specs.Delivery.{messages_put, messages_got, IsSubsequence, empty, keep, leave_out}
 use Rattle.amo_object.proofs.Runs.{is_any_down-after}
 
@@ -34,7 +34,7 @@ first-remove [] m e = absurd cc
 first-remove (x ∷ messages) m e = ap (λ (y : List ℕ). y ∷ messages) (same_Some x m e)
 
 -- a crash and a recovery leave the messages
-messages-set_down : (s : State) (side : End) (down : Bool) → s.messages ≡ (set_down s side down).messages
+pub messages-set_down : (s : State) (side : End) (down : Bool) → s.messages ≡ (set_down s side down).messages
 messages-set_down s Sender down = refl
 messages-set_down s Receiver down = refl
 
@@ -72,3 +72,14 @@ messages_put-crash_free s (Crash side ∷ run) up quiet allowed = absurd cc
 messages_put-crash_free s (Lose place ∷ run) up quiet allowed = let down = allowed.0.0 in absurd cc
 messages_put-crash_free s (LoseAck ∷ run) up quiet allowed = let down = allowed.0 in absurd cc
 messages_put-crash_free s (step ∷ run) up quiet allowed = messages_put-crash_free (after s step) run up quiet allowed.1
+
+-- a loss puts nothing and gets nothing
+pub messages_put-without_losses : (run : List Step) → messages_put (without_losses run) ≡ messages_put run
+messages_put-without_losses [] = refl
+messages_put-without_losses (Put m ∷ run) = ap (λ (rest : List (List ℕ)). m ∷ rest) (messages_put-without_losses run)
+messages_put-without_losses (step ∷ run) = messages_put-without_losses run
+
+pub messages_got-without_losses : (run : List Step) → messages_got (without_losses run) ≡ messages_got run
+messages_got-without_losses [] = refl
+messages_got-without_losses (Get m ∷ run) = ap (λ (rest : List (List ℕ)). m ∷ rest) (messages_got-without_losses run)
+messages_got-without_losses (step ∷ run) = messages_got-without_losses run

@@ -49,3 +49,19 @@ without_losses-crash_free s (Lose place ∷ xs) up quiet run = let down = run.0.
 without_losses-crash_free s (LoseAck ∷ xs) up quiet run = let down = run.0 in absurd cc
 without_losses-crash_free s (x ∷ xs) up quiet run =
     ap (λ (rest : List Step). x ∷ rest) (without_losses-crash_free (after s x) xs (is_any_down-after s x xs up quiet) (IsCrashFree-tail x xs quiet) run.1)
+
+-- a step that stands among the steps without the losses stands in the run, with the same around it
+pub without_losses-split : (run before : List Step) (x : Step) (later : List Step) → without_losses run ≡ before ++ x ∷ later
+    → (first : List Step) × (more : List Step) × (run ≡ first ++ x ∷ more) × (without_losses first ≡ before) × (without_losses more ≡ later)
+without_losses-split [] [] x later e = absurd cc
+without_losses-split [] (y ∷ before) x later e = absurd cc
+without_losses-split (Lose place ∷ run) before x later e =
+    let parts = without_losses-split run before x later e in
+    (Lose place ∷ parts.0, parts.1, ap (λ (steps : List Step). Lose place ∷ steps) parts.2, parts.3, parts.4)
+without_losses-split (LoseAck ∷ run) before x later e =
+    let parts = without_losses-split run before x later e in
+    (LoseAck ∷ parts.0, parts.1, ap (λ (steps : List Step). LoseAck ∷ steps) parts.2, parts.3, parts.4)
+without_losses-split (step ∷ run) [] x later e = ([], run, cc, refl, cc)
+without_losses-split (step ∷ run) (y ∷ before) x later e =
+    let parts = without_losses-split run before x later cc in
+    (step ∷ parts.0, parts.1, ap (λ (steps : List Step). step ∷ steps) parts.2, cc, parts.4)
