@@ -5,7 +5,7 @@ use Rattle.std.proofs.lemmas.Option.{same_Some}
 use Rattle.amo_object.specs.declared.step.End.{End}
 use Rattle.amo_object.specs.declared.step.End.TheVariants.{Sender, Receiver}
 use Rattle.amo_object.specs.declared.step.Step.{Step}
-use Rattle.amo_object.specs.declared.step.Step.TheVariants.{Put, Get, Ack, Crash, Recover, DownReply, Lose, LoseAck}
+use Rattle.amo_object.specs.declared.step.Step.TheVariants.{Put, Get, Crash, Recover, Lose, LoseAck}
 use Rattle.amo_object.specs.Queue.{State, after, is_any_down, set_down}
 use Rattle.amo_object.specs.Run.{IsRunFrom, after_all, without_losses, IsCrashFree}
 use Rattle.amo_object.specs.Delivery.{messages_put, messages_got, IsSubsequence, empty, keep, leave_out}

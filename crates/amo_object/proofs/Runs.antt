@@ -4,8 +4,8 @@ use Rattle.std.specs.List.{list_any}
 use Rattle.std.proofs.lemmas.List.Elements.{filter-append}
 use Rattle.amo_object.specs.declared.step.End.TheVariants.{Sender, Receiver}
 use Rattle.amo_object.specs.declared.step.Step.{Step}
-use Rattle.amo_object.specs.declared.step.Step.TheVariants.{Put, Get, Ack, Crash, Recover, DownReply, Lose, LoseAck}
-use Rattle.amo_object.specs.Queue.{State, after, is_any_down, set_down}
+use Rattle.amo_object.specs.declared.step.Step.TheVariants.{Crash, Recover, Lose, LoseAck}
+use Rattle.amo_object.specs.Queue.{State, after, is_any_down}
 use Rattle.amo_object.specs.Run.{IsRunFrom, after_all, is_visible, without_losses, is_crash, IsCrashFree}
 
 pub after_all-append : (s : State) (xs ys : List Step) → after_all s (xs ++ ys) ≡ after_all (after_all s xs) ys
