@@ -1,3 +1,4 @@
+pub mod Delivery
 pub mod Fault
 pub mod Queue
 pub mod Run

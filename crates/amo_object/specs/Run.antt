@@ -1,7 +1,8 @@
 -- Runs of the queue, and what is left of one without its losses.
-use Rattle.std.specs.Prelude.{Bool, true, false, not, List, [], ◌∷◌, filter}
+use Rattle.std.specs.Prelude.{◌≡◌, Bool, true, false, not, List, [], ◌∷◌, filter}
+use Rattle.std.specs.List.{list_any}
 use Rattle.amo_object.specs.declared.step.Step.{Step}
-use Rattle.amo_object.specs.declared.step.Step.TheVariants.{Lose, LoseAck}
+use Rattle.amo_object.specs.declared.step.Step.TheVariants.{Crash, Lose, LoseAck}
 use Rattle.amo_object.specs.Queue.{State, start, Allows, after}
 
 -- these steps, one after another, each allowed where it stands
@@ -30,3 +31,12 @@ is_visible step = not (is_loss step)
 -- the steps with the losses left out
 abbrev pub without_losses : List Step → List Step
 without_losses steps = filter is_visible steps
+
+-- whether a step is a crash of a host
+abbrev pub is_crash : Step → Bool
+is_crash (Crash side) = true
+is_crash _ = false
+
+-- no host crashes in these steps
+abbrev pub IsCrashFree : List Step → Type 0
+IsCrashFree steps = list_any is_crash steps ≡ false

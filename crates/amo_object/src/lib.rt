@@ -14,9 +14,11 @@
 //! - [`Queue`] is the queue itself, as a plain program: it says which steps it allows and takes one.
 //! - A list of steps is a *run* if each is allowed where it stands (`specs/Run.antt`). A history of calls is
 //!   explained by the queue if it is some run with its losses left out.
+//! - [`laws`] states what every run promises.
 #![tactic(auto)]
 
 mod bytes;
+pub mod laws;
 mod queue;
 mod status;
 mod step;

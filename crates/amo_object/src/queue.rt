@@ -37,7 +37,7 @@ impl QueueFault {
 ///
 /// A put and a get cost a constant (a put on average, since the room doubles when it is full). A `Lose` in
 /// the middle moves every message on its shorter side by one place.
-#[derive(Drop)]
+#[derive(Debug, Drop)]
 pub struct Queue {
     messages: VecDeque<Bytes>,
     status: Status,
@@ -138,3 +138,6 @@ impl Queue {
         }
     }
 }
+
+#[cfg(test)]
+mod tests;
