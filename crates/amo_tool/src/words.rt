@@ -4,6 +4,8 @@ use clap::error::ErrorKind;
 use clap::{Arg, ArgAction, Command, Error};
 use std::alloc::{AllocError, Global};
 
+const NAME: &str = "amo";
+
 /// The version that the program tells.
 const VERSION: &str = "0.1.0";
 
@@ -65,7 +67,8 @@ fn command<'a>(alloc: Global) -> Result<Command<'a>, AllocError> {
         .about(REPLAY_ABOUT)
         .after_help(REPLAY_AFTER_HELP)
         .arg(file)?;
-    Command::new(alloc, "amo")
+    Command::new(alloc, NAME)
+        .bin_name(NAME)?
         .version(VERSION)
         .about(ABOUT)
         .after_help(AFTER_HELP)
