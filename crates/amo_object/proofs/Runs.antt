@@ -8,6 +8,7 @@ use Rattle.amo_object.specs.declared.step.Step.TheVariants.{Crash, Recover, Lose
 use Rattle.amo_object.specs.Queue.{State, after, is_any_down}
 use Rattle.amo_object.specs.Run.{IsRunFrom, after_all, is_visible, without_losses, is_crash, IsCrashFree}
 
+-- two lists of steps joined lead where the second leads from where the first leads
 pub after_all-append : (s : State) (xs ys : List Step) → after_all s (xs ++ ys) ≡ after_all (after_all s xs) ys
 after_all-append s [] ys = refl
 after_all-append s (x ∷ xs) ys = after_all-append (after s x) xs ys

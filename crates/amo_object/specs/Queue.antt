@@ -27,7 +27,7 @@ is_down s Receiver = s.receiver_down
 abbrev pub is_any_down : State → Bool
 is_any_down s = s.sender_down || s.receiver_down
 
--- this side goes down, or comes up
+-- this side is down from now on, or up
 abbrev pub set_down : State → End → Bool → State
 set_down s Sender down = record s { sender_down = down }
 set_down s Receiver down = record s { receiver_down = down }

@@ -25,6 +25,7 @@ is_loss (Lose place) = true
 is_loss LoseAck = true
 is_loss _ = false
 
+-- clients see every other step
 abbrev pub is_visible : Step → Bool
 is_visible step = not (is_loss step)
 

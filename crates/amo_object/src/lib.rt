@@ -2,10 +2,10 @@
 //! It keeps no packets, identifiers or retries, and moves no message between hosts: it is what such a
 //! protocol is measured by.
 //!
-//! A sender puts messages, a receiver gets them in the order put, and each is got at most once. Channels
-//! may lose and a host may crash, so a message may be lost instead, but only while a host is down. The
-//! sender may ask what became of its last message: it was got (yes), it may be lost (no), or neither is
-//! known yet. The object is that of Lampson, Lynch and Søgaard-Andersen, "Correctness of At-Most-Once
+//! A sender puts messages, a receiver gets them in the order put, and each is got at most once. A message
+//! may be lost instead, but only while a host is down. The sender may ask what became of its last message:
+//! it was got (yes), it may or may not have been got (no), or it still waits and there is no answer yet.
+//! The object is that of Lampson, Lynch and Søgaard-Andersen, "Correctness of At-Most-Once
 //! Message Delivery Protocols" (1993); Lynch, "Distributed Algorithms" (1996), chapter 22, presents the
 //! protocols that implement it.
 //!

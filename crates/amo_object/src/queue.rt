@@ -7,13 +7,14 @@ use std::collections::VecDeque;
 use std::marker::Model;
 use thiserror::Error;
 
-/// Why the queue did not take a step. Each leaves the queue as it was.
+/// Why the queue did not take a step.
 #[derive(Clone, Copy, Debug, PartialEq, Eq, Error)]
 pub enum QueueFault {
-    /// The caller's fault: the queue does not allow the step where it stands.
+    /// The caller's fault: the queue does not allow this step as it stands. It stays as it was.
     #[error("the queue does not allow this step")]
     NotAllowed,
-    /// The machine's: no memory for one more message. Only an allowed put answers it.
+    /// The machine's fault: no memory for one more message. Only a put that is allowed meets it. The queue
+    /// stays as it was.
     #[error("no memory")]
     NoMemory,
 }
@@ -36,7 +37,7 @@ impl QueueFault {
 /// one put, and which sides are down.
 ///
 /// A put and a get cost a constant (a put on average, since the room doubles when it is full). A `Lose` in
-/// the middle moves every message on its shorter side by one place.
+/// the middle moves the messages before or after it, whichever are fewer, by one place, and not their bytes.
 #[derive(Debug, Drop)]
 pub struct Queue {
     messages: VecDeque<Bytes>,
@@ -50,7 +51,12 @@ impl Model for Queue {
 
     ghost Value = { State };
 
-    ghost view = { λ q. record { messages = q.messages.items; status = q.status; sender_down = q.sender_down; receiver_down = q.receiver_down } };
+    ghost view = { λ q. record {
+      messages = q.messages.items;
+      status = q.status;
+      sender_down = q.sender_down;
+      receiver_down = q.receiver_down;
+    } };
 }
 
 impl Queue {
@@ -86,7 +92,7 @@ impl Queue {
         }
     }
 
-    /// Takes a step. Only a put may want memory.
+    /// Takes a step. Only a put may want memory. A step that is not taken is dropped with its message.
     pub fn take(&mut self, step: Step) -> Result<(), QueueFault>
         ensures taken { OnOk result (Allows self.old step × (self.new ≡ after self.old step)) }
         ensures succeeds { Allows self.old step → (¬ (IsPut step)) → IsOk result }
@@ -127,7 +133,7 @@ impl Queue {
         }
     }
 
-    /// The message at a place leaves. If it was the last one put, an open status becomes what is now known.
+    /// The message at a place leaves. If it was the last of the queue, an open status becomes `known`.
     fn leave(&mut self, place: usize, known: Status)
         requires { place < length self.old.messages }
         ensures { self.new ≡ without self.old place known }

@@ -5,8 +5,8 @@
 pub enum Status {
     /// It was got, or none was put yet.
     Yes,
-    /// It may be lost.
+    /// A host crashed, and it may or may not have been got.
     No,
-    /// It waits in the queue, neither got nor lost.
+    /// It still waits in the queue.
     Open,
 }

@@ -4,7 +4,9 @@ use crate::Bytes;
 /// The two sides of a stream.
 #[derive(Clone, Copy, Debug, PartialEq, Eq)]
 pub enum End {
+    /// The side that puts.
     Sender,
+    /// The side that gets.
     Receiver,
 }
 
@@ -15,8 +17,8 @@ pub enum Step {
     Put(Bytes),
     /// The receiver's client gets the first message.
     Get(Bytes),
-    /// The sender's client is told whether the last message put was got: `true` that it was, `false` that it
-    /// may be lost.
+    /// The sender's client is told of the last message put: `true` that it was got, `false` that it may or
+    /// may not have been.
     Ack(bool),
     /// A side's host crashes.
     Crash(End),
@@ -26,6 +28,6 @@ pub enum Step {
     DownReply(End),
     /// The message at a place, counted from 0, is lost.
     Lose(usize),
-    /// What was known of the last message put is lost.
+    /// What was known of the last message put is lost, so that from now on it may or may not have been got.
     LoseAck,
 }
