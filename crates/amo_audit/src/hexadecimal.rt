@@ -89,6 +89,7 @@ pub fn push_hex(text: &mut Vec<u8>, bytes: &[u8]) -> Result<(), AllocError>
     let digits = bytes.len().checked_mul(2).ok_or(AllocError)?;
     let end = start.checked_add(digits).ok_or(AllocError)?;
     text.resize(end, 0)?;
+    // It fits, two digits a byte, and so does not fail.
     let _ = hex::encode_to_slice(bytes, &mut text[start..]);
     Ok(())
 }
