@@ -8,7 +8,7 @@ use Rattle.std.proofs.lemmas.Slice.Eq.{slice_eq-Decides}
 use Rattle.std.proofs.lemmas.List.{take_more, take_more_set}
 use Rattle.hex.specs.Hex.{IsBytes, encode_lower, encode_with, lower_digits, decode_of}
 use Rattle.hex.proofs.HexLemmas.{length-encode_with, decode_of-encode_lower, decode_of-same}
-use Rattle.amo_audit.specs.Hexadecimal.{hex, is_hex_digit}
+use Rattle.amo_audit.specs.Hexadecimal.{hex, is_hex_digit, IsPairs}
 
 -- no bytes have no digits
 pub encode_lower-nil : encode_lower [] ≡ []
@@ -48,19 +48,12 @@ encode_lower-digits (b ∷ m) bytes =
     let byte = bytes 0 in
     rw (lower_digits-digit (b / 16) (omega arith), lower_digits-digit (b % 16) (omega arith)) (encode_lower-digits m (λ k. bytes (suc k)))
 
--- what a text that is no dash has where it spells bytes
-pub record IsPairs (text m : List ℕ) : Type 0 where
-  pub some : 0 < length m
-  pub pairs : length text ≡ 2 * length m
-  pub digits : list_all is_hex_digit text ≡ true
-
-pub IsPairs-hex : (text m : List ℕ) → IsBytes m → text ≢ codes "-" → text ≡ hex m → IsPairs text m
+-- a text that is no dash and spells bytes is two digits for each
+pub IsPairs-hex : (text m : List ℕ) → IsBytes m → text ≢ codes "-" → text ≡ hex m → IsPairs text × (length text ≡ 2 * length m)
 IsPairs-hex text [] bytes apart e = absurd (apart e)
-IsPairs-hex text (b ∷ m) bytes apart e = record {
-  some = omega arith;
-  pairs = ap length e ∙ length-encode_with lower_digits (b ∷ m);
-  digits = rw e (encode_lower-digits (b ∷ m) bytes);
-}
+IsPairs-hex text (b ∷ m) bytes apart e =
+    let long : length text ≡ 2 * length (b ∷ m) = ap length e ∙ length-encode_with lower_digits (b ∷ m) in
+    (record { some = omega arith; even = omega arith; digits = rw e (encode_lower-digits (b ∷ m) bytes) }, long)
 
 -- texts that compare unlike
 pub texts_differ : (xs ys : List ℕ) → false ≡ pointwise eqb xs ys → xs ≢ ys

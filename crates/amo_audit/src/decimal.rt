@@ -5,6 +5,9 @@ ghost use Rattle.std.specs.Str.Parse.{AllDigits, digits_value};
 
 use std::alloc::AllocError;
 
+/// How many digits `u64::MAX` has.
+const MAX_DIGITS: usize = 20;
+
 /// The number that this text spells, if it spells one.
 ///
 /// A sign, a leading zero, a number past `u64::MAX` and the empty text spell none.
@@ -47,7 +50,7 @@ pub fn push_decimal(text: &mut Vec<u8>, number: u64) -> Result<(), AllocError>
     ensures ok { OnOk result (text.new.items ≡ text.old.items ++ decimal number) }
     ensures err { OnErr result (text.new.items ≡ text.old.items) }
 {
-    let mut digits = [0u8; 20];
+    let mut digits = [0u8; MAX_DIGITS];
     let mut start = digits.len();
     let mut rest = number;
     loop {

@@ -1,8 +1,8 @@
 //! HEX: bytes as text in base 16 (RFC 4648, section 8), with lower-case digits, and `-` for no bytes.
-ghost use Rattle.std.specs.Prelude.{◌≡◌, ◌≢◌, ℕ, ◌*◌, ◌<◌, ◌≤◌, List, ◌++◌, length, take, drop, slice_index, IsTrue, IfSome, IfNone, OnOk, OnErr, Bool};
+ghost use Rattle.std.specs.Prelude.{◌≡◌, ◌≢◌, ℕ, ◌*◌, ◌<◌, ◌≤◌, ◌↔◌, List, ◌++◌, length, take, drop, slice_index, IsTrue, IfSome, IfNone, OnOk, OnErr, Bool};
 ghost use Rattle.std.specs.List.{list_all};
 ghost use Rattle.hex.specs.Hex.{IsBytes, encode_lower, lower_digits};
-ghost use Rattle.amo_audit.specs.Hexadecimal.{hex, is_hex_digit};
+ghost use Rattle.amo_audit.specs.Hexadecimal.{hex, is_hex_digit, IsPairs};
 
 use std::alloc::AllocError;
 
@@ -21,11 +21,18 @@ pub fn read_hex(text: &[u8], room: &mut [u8]) -> Option<usize>
         return Some(0);
     }
     let count = text.len() / 2;
-    if count == 0 || count > room.len() || text.len() % 2 == 1 || !are_digits(text) {
+    if count > room.len() || !are_pairs(text) {
         return None;
     }
     decode(text, &mut room[..count]);
     Some(count)
+}
+
+/// Whether it is pairs of digits, and one pair at least.
+fn are_pairs(text: &[u8]) -> bool
+    ensures { IsTrue result ↔ IsPairs text.now }
+{
+    !text.is_empty() && text.len() % 2 == 0 && are_digits(text)
 }
 
 /// Whether each byte is a digit.
@@ -49,7 +56,7 @@ fn is_digit(digit: u8) -> bool
 /// The bytes of these digits.
 fn decode(digits: &[u8], bytes: &mut [u8])
     requires digits { IsTrue (list_all is_hex_digit digits.now) }
-    requires pairs { length digits.now ≡ 2 * length bytes.old }
+    requires room { length digits.now ≡ 2 * length bytes.old }
     ensures { encode_lower bytes.new ≡ digits.now }
 {
     for i in 0..bytes.len() {
@@ -82,6 +89,7 @@ pub fn push_hex(text: &mut Vec<u8>, bytes: &[u8]) -> Result<(), AllocError>
     let digits = bytes.len().checked_mul(2).ok_or(AllocError)?;
     let end = start.checked_add(digits).ok_or(AllocError)?;
     text.resize(end, 0)?;
+    // It fits, two digits a byte, and so does not fail.
     let _ = hex::encode_to_slice(bytes, &mut text[start..]);
     Ok(())
 }

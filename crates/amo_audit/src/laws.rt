@@ -4,6 +4,7 @@
 ghost use Rattle.std.specs.Prelude.{◌≡◌, ◌≢◌, ℕ, ◌<◌, ◌^◌, List, ◌∷◌, ◌++◌, false};
 ghost use Rattle.std.specs.Fmt.{decimal};
 ghost use Rattle.std.specs.Int.{IsInRange};
+ghost use Rattle.std.specs.List.{AllByRecursion, flat_map};
 ghost use Rattle.hex.specs.Hex.{IsBytes};
 ghost use Rattle.amo_audit.specs.Hexadecimal.{hex, is_hex_digit};
 ghost use Rattle.amo_audit.specs.Line.{Lacks, IsWord, IsLine, text_of, line_of};
@@ -33,10 +34,12 @@ pub fn first_cut_is_unique()
     ensures none { (byte : ℕ) (xs b y : List ℕ) → Lacks byte xs → xs ≢ b ++ byte ∷ y }
 {}
 
-/// A line has one list of words, and one end.
+/// A line has one list of words and one end, and a text is the lines of one list at most.
 pub fn line_is_injective()
     ensures one { (us vs : List (List ℕ)) → IsLine us → IsLine vs → line_of us ≡ line_of vs → us ≡ vs }
     ensures first { (us vs : List (List ℕ)) (x y : List ℕ) → IsLine us → IsLine vs
         → line_of us ++ x ≡ line_of vs ++ y → (us ≡ vs) × (x ≡ y) }
+    ensures all { (ks ls : List (List (List ℕ))) → AllByRecursion IsLine ks → AllByRecursion IsLine ls
+        → flat_map line_of ks ≡ flat_map line_of ls → ks ≡ ls }
     ensures end { (us : List (List ℕ)) → IsLine us → Lacks 10 (text_of us) }
 {}

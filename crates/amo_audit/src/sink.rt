@@ -28,9 +28,9 @@ pub trait Sink {
     /// A call that fails appends nothing, and is counted.
     fn write(&mut self, bytes: &[u8]) -> Result<usize, SinkFault>
         ensures count { IfOk result (λ n. (n ≤ length bytes.now) × (0 < length bytes.now → 0 < n)) }
-        ensures appended { IfOk result (λ n. Appends (written self.old) (written self.new) (take n bytes.now)) }
+        ensures ok { IfOk result (λ n. Appends (written self.old) (written self.new) (take n bytes.now)) }
         ensures calm { OnOk result (failures self.new ≡ failures self.old) }
-        ensures kept { OnErr result (Keeps (written self.old) (written self.new)) }
+        ensures fault { OnErr result (Keeps (written self.old) (written self.new)) }
         ensures failed { OnErr result (failures self.old < failures self.new) };
 }
 
@@ -38,9 +38,9 @@ pub trait Sink {
 ///
 /// Where one of them fails, a beginning of the bytes was appended.
 pub fn write_all<W: Sink>(sink: &mut W, bytes: &[u8]) -> Result<(), SinkFault>
-    ensures appended { OnOk result (Appends (W.written sink.old) (W.written sink.new) bytes.now) }
+    ensures ok { OnOk result (Appends (W.written sink.old) (W.written sink.new) bytes.now) }
     ensures calm { OnOk result (W.failures sink.new ≡ W.failures sink.old) }
-    ensures front { OnErr result (AppendsFront (W.written sink.old) (W.written sink.new) bytes.now) }
+    ensures fault { OnErr result (AppendsFront (W.written sink.old) (W.written sink.new) bytes.now) }
     ensures failed { OnErr result (W.failures sink.old < W.failures sink.new) }
 {
     let mut done = 0;

@@ -2,7 +2,7 @@
 ghost use Rattle.std.specs.Prelude.{◌≡◌, ◌<◌};
 
 use super::*;
-use std::alloc::{AllocError, Global};
+use std::alloc::Global;
 use std::io::{self, ErrorKind, Write};
 use std::marker::Brand;
 use std::sync::ledger::{Blank, Ledger};

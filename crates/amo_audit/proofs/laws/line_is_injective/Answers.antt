@@ -1,4 +1,5 @@
-use Rattle.amo_audit.proofs.Lines.{line_of-injective, one_line, Lacks-text_of}
+use Rattle.amo_audit.specs.Line.{IsLine}
+use Rattle.amo_audit.proofs.Lines.{line_of-injective, one_line, one_reading, Lacks-text_of}
 use Rattle.amo_audit.proofs.laws.line_is_injective.Goals as goal
 
 pub returns-clause-one : goal.returns-clause-one
@@ -6,6 +7,9 @@ returns-clause-one c = line_of-injective
 
 pub returns-clause-first : goal.returns-clause-first
 returns-clause-first c = one_line
+
+pub returns-clause-all : goal.returns-clause-all
+returns-clause-all c = one_reading (λ words. words) IsLine (λ words known. known) (λ us vs known_us known_vs e. e)
 
 pub returns-clause-end : goal.returns-clause-end
 returns-clause-end c = λ us known. Lacks-text_of us known.1
