@@ -1,7 +1,7 @@
 //! HEX: bytes as text in base 16 (RFC 4648, section 8), with lower-case digits, and `-` for no bytes.
-ghost use Rattle.std.specs.Prelude.{◌≡◌, ◌≢◌, ℕ, ◌*◌, ◌<◌, ◌≤◌, ◌↔◌, List, ◌++◌, length, take, drop, slice_index, IsTrue, IfSome, IfNone, OnOk, OnErr, Bool};
+ghost use Rattle.std.specs.Prelude.{◌≡◌, ◌≢◌, ℕ, ◌≤◌, ◌↔◌, List, ◌++◌, length, take, drop, IsTrue, IfSome, IfNone, OnOk, OnErr};
 ghost use Rattle.std.specs.List.{list_all};
-ghost use Rattle.hex.specs.Hex.{IsBytes, encode_lower, lower_digits};
+ghost use Rattle.hex.specs.Hex.{IsBytes};
 ghost use Rattle.amo_audit.specs.Hexadecimal.{hex, is_hex_digit, IsPairs};
 
 use std::alloc::AllocError;
@@ -24,7 +24,8 @@ pub fn read_hex(text: &[u8], room: &mut [u8]) -> Option<usize>
     if count > room.len() || !are_pairs(text) {
         return None;
     }
-    decode(text, &mut room[..count]);
+    // It is pairs of digits, and so does not fail.
+    let _ = hex::decode_to_slice(text, &mut room[..count]);
     Some(count)
 }
 
@@ -51,29 +52,6 @@ fn is_digit(digit: u8) -> bool
     ensures { result ≡ is_hex_digit digit }
 {
     matches!(digit, b'0'..=b'9' | b'a'..=b'f')
-}
-
-/// The bytes of these digits.
-fn decode(digits: &[u8], bytes: &mut [u8])
-    requires digits { IsTrue (list_all is_hex_digit digits.now) }
-    requires room { length digits.now ≡ 2 * length bytes.old }
-    ensures { encode_lower bytes.new ≡ digits.now }
-{
-    for i in 0..bytes.len() {
-        bytes[i] = digit_value(digits[2 * i]) * 16 + digit_value(digits[2 * i + 1]);
-    }
-}
-
-fn digit_value(digit: u8) -> u8
-    requires { IsTrue (is_hex_digit digit) }
-    ensures value { slice_index lower_digits result ≡ digit }
-    ensures small { result < 16 }
-{
-    if digit <= b'9' {
-        digit - b'0'
-    } else {
-        digit - b'a' + 10
-    }
 }
 
 /// Appends the spelling of these bytes.

@@ -90,6 +90,7 @@ impl<L: Ledger> Failures<L> {
 /// A sink over any writer, seen by contracts as that writer and how many calls have failed.
 ///
 /// A write of no bytes is a failure where there were bytes to write.
+/// So is an interrupted write. It is not tried again, since that need never end.
 #[derive(Drop)]
 pub struct Out<W, L: Ledger> {
     writer: W,

@@ -1,5 +1,6 @@
-use Rattle.std.proofs.Common.{sym, ◌∙◌, arith}
-use Rattle.amo_audit.proofs.HexDigits.{IsPairs-hex, texts_differ}
+use Rattle.std.proofs.Common.{◌/◌, length, refl, sym, ◌∙◌, arith}
+use Rattle.std.proofs.lemmas.List.{length-take-le}
+use Rattle.amo_audit.proofs.HexDigits.{IsPairs-hex, texts_differ, spells_decoded}
 use Rattle.amo_audit.proofs.hexadecimal.read_hex.Goals as goal
 use Rattle.amo_audit.proofs.hexadecimal.read_hex.Goals.{then-count-room-via-then-count-room, then-count-room-via-else-count-room+then-not-are_pairs}
 
@@ -11,3 +12,9 @@ returns-then-count-room-clause-none c = λ m bytes fits e.
       | then-count-room-via-then-count-room w ↦ absurd (omega arith)
       | then-count-room-via-else-count-room+then-not-are_pairs w ↦ let pairs = w.are_pairs.ensures.1 spelt.0 in cc (pairs, w.if-not-are_pairs.true)
     ]
+
+pub returns-clause-found : goal.returns-clause-found
+returns-clause-found c =
+    let pairs = c.are_pairs.ensures.0 c.if-not-are_pairs.false in
+    let fits = length-take-le (length c.args.text.now / 2) c.args.room.now c.if-count-room.false in
+    spells_decoded _ _ _ _ _ pairs refl (rw fits at c.decode_to_slice.ensures.value)
