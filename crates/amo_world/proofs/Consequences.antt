@@ -5,7 +5,7 @@ use Rattle.amo_object.specs.declared.step.Step.{Step}
 use Rattle.amo_object.specs.declared.step.Step.TheVariants.{Crash}
 use Rattle.amo_object.specs.Queue.{start}
 use Rattle.amo_object.specs.Run.{after_all, without_losses, is_crash, IsCrashFree}
-use Rattle.amo_object.specs.Delivery.{messages_put, messages_got, IsSubsequence, keep, leave_out}
+use Rattle.amo_object.specs.Delivery.{messages_put, messages_got, IsSubsequence}
 use Rattle.amo_object.proofs.Runs.{without_losses-crash_free}
 use Rattle.amo_object.proofs.Deliveries.{IsSubsequence-messages_got, messages_put-without_losses, messages_got-without_losses, messages_put-crash_free}
 use Rattle.amo_world.specs.declared.event.Event.{Event}
@@ -32,8 +32,3 @@ messages_put-served number events served quiet =
       subst (λ (steps : List Step). messages_put steps ≡ messages_got steps ++ (after_all start served.0).messages) seen
           (messages_put-crash_free start served.0 refl crash_free served.1),
     )
-
--- one message is not two
-pub two-one : (a b c : List ℕ) → ¬ (IsSubsequence (a ∷ b ∷ []) (c ∷ []))
-two-one a b c (keep sub) = elim sub [ ]
-two-one a b c (leave_out sub) = elim sub [ ]

@@ -291,6 +291,40 @@ good_journal_run = step.Put letter_a ∷ step.Get letter_a ∷ []
 abbrev pub forged_journal : List Line
 forged_journal = first_get ++ get (reply.Got letter_a) ∷ []
 
+-- a message comes that was never sent, under an identifier that was never asked for
+abbrev pub message_invented : List Line
+message_invented =
+    to_receiver (NeedUid 7) 9 emits Accept 7 9 ∷
+    to_receiver (Send 9 letter_a) 0 ∷
+    get (reply.Got letter_a) ∷
+    []
+
+-- the receiver offers an identifier again that it offered before its crash, and takes the old message a second time
+abbrev pub message_got_twice : List Line
+message_got_twice = first_get ++ (
+    crash Receiver ∷
+    recover Receiver ∷
+    to_receiver (NeedUid 7) 9 emits Accept 7 9 ∷
+    to_receiver (Send 9 letter_a) 0 ∷
+    get (reply.Got letter_a) ∷
+    []
+    )
+
+-- the sender asks again under a word that it used before its crash, and takes the answer for its old message as one for
+-- the new message, which is not got
+abbrev pub old_message_acknowledged : List Line
+old_message_acknowledged = first_get ++ (
+    crash Sender ∷
+    recover Sender ∷
+    put letter_b ∷
+    start 7 emits NeedUid 7 ∷
+    to_sender (Accept 7 9) emits Send 9 letter_b ∷
+    resend Receiver emits Ack 9 true ∷
+    to_sender (Ack 9 true) emits Cleanup 9 ∷
+    ack reply.Yes ∷
+    []
+    )
+
 -- the history of a story
 abbrev pub history_of : List Line → List Event
 history_of story = reverse (map (λ l. l.event) story)

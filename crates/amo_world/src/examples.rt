@@ -3,8 +3,8 @@ ghost use Rattle.std.specs.Prelude.{ℕ};
 ghost use Rattle.amo_object.specs.declared.step.End.{End};
 ghost use Rattle.amo_packet.specs.declared.packet.OwnedPacket.{OwnedPacket};
 ghost use Rattle.amo_world.specs.Example as example;
-ghost use Rattle.amo_world.specs.Example.{history_of, IsServedExample, IsRepeatExample};
-ghost use Rattle.amo_world.specs.History.{IsRight, IsHonest, IsCalm};
+ghost use Rattle.amo_world.specs.Example.{history_of, IsExample, IsServedExample, IsRepeatExample};
+ghost use Rattle.amo_world.specs.History.{IsRight, IsHonest, IsFresh, IsCalm};
 ghost use Rattle.amo_world.specs.Served.{IsServed};
 
 /// Stories without a crash: the first request, a whole handshake, and packets and words that come again.
@@ -40,8 +40,19 @@ pub fn unsent_packets()
     ensures stray { ¬ (IsHonest (history_of example.stray_packet)) }
 {}
 
-/// A story with a forged reply: it is not right, and no run of the queue serves its stream.
-pub fn forged_replies()
-    ensures not_right { ¬ (IsRight (history_of example.forged_journal)) }
-    ensures not_served { ¬ (IsServed 1 (history_of example.forged_journal)) }
+/// What each premise of serving is for. Each story lacks one of them alone, and no run of the queue serves its stream: a
+/// forged reply, a message that was never sent, and a word used twice, of an offer and of a start.
+pub fn needed_premises()
+    ensures reply_forged { (¬ (IsRight (history_of example.forged_journal)))
+        × IsHonest (history_of example.forged_journal) × IsFresh (history_of example.forged_journal) }
+    ensures message_invented { IsRight (history_of example.message_invented)
+        × (¬ (IsHonest (history_of example.message_invented))) × IsFresh (history_of example.message_invented) }
+    ensures message_got_twice { IsExample example.message_got_twice
+        × (¬ (IsFresh (history_of example.message_got_twice))) }
+    ensures old_message_acknowledged { IsExample example.old_message_acknowledged
+        × (¬ (IsFresh (history_of example.old_message_acknowledged))) }
+    ensures unserved { (¬ (IsServed 1 (history_of example.forged_journal)))
+        × (¬ (IsServed 1 (history_of example.message_invented)))
+        × (¬ (IsServed 1 (history_of example.message_got_twice)))
+        × (¬ (IsServed 1 (history_of example.old_message_acknowledged))) }
 {}
