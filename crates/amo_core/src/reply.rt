@@ -16,7 +16,7 @@ pub enum Reply {
     Nothing,
     /// The last message put was got, or none was put yet.
     Yes,
-    /// A host crashed, and the last message put may or may not have been got.
+    /// A host crashed: the last message put, if there is one, may or may not have been got.
     No,
     /// The last message put is on its way.
     NotYet,

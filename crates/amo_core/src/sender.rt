@@ -65,7 +65,7 @@ impl PutRefusal {
 pub enum AckReply {
     /// It was got, or none was put yet.
     Yes,
-    /// A host crashed, and it may or may not have been got.
+    /// A host crashed: it, if one was put, may or may not have been got.
     No,
     /// It is on its way.
     NotYet,
@@ -92,7 +92,7 @@ pub enum AckReply {
 pub struct Sender {
     stream: u32,
     mode: SenderMode,
-    waiting: ArrayVec<Message, 16>,
+    waiting: ArrayVec<Message, MAX_WAITING>,
 }
 
 impl Model for Sender {

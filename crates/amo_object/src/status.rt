@@ -5,7 +5,7 @@
 pub enum Status {
     /// It was got, or none was put yet.
     Yes,
-    /// A host crashed, and it may or may not have been got.
+    /// A host crashed: it, if one was put, may or may not have been got.
     No,
     /// It still waits in the queue.
     Open,

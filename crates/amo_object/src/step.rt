@@ -17,8 +17,8 @@ pub enum Step {
     Put(Bytes),
     /// The receiver's client gets the first message.
     Get(Bytes),
-    /// The sender's client is told of the last message put: `true` that it was got, `false` that it may or
-    /// may not have been.
+    /// The sender's client is told of the last message put: `true` that it was got, or that none was put yet,
+    /// `false` that a host crashed, and it, if one was put, may or may not have been got.
     Ack(bool),
     /// A side's host crashes.
     Crash(End),

@@ -1,2 +1,3 @@
 pub mod Calm
+pub mod Consequences
 pub mod Order

@@ -1,10 +1,11 @@
--- Worked examples: short stories, each a list of events in the order of time, with the packets that it emits.
-use Rattle.std.specs.Prelude.{◌≡◌, ℕ, true, false, List, [], ◌∷◌, ◌++◌, reverse}
+-- Worked examples: short stories on stream 1. A line of a story is an event, with the packet that it emits, if any.
+use Rattle.std.specs.Prelude.{◌≡◌, ℕ, true, false, Option, None, Some, List, [], ◌∷◌, ◌++◌, map, reverse, drop}
+use Rattle.std.specs.List.{filter_map}
 use Rattle.amo_object.specs.declared.step.End.{End}
 use Rattle.amo_object.specs.declared.step.End.TheVariants.{Sender, Receiver}
 use Rattle.amo_packet.specs.declared.packet.OwnedPacket.{OwnedPacket}
 use Rattle.amo_packet.specs.declared.packet.OwnedBody.{OwnedBody}
-use Rattle.amo_packet.specs.declared.packet.OwnedBody.TheVariants as packet
+use Rattle.amo_packet.specs.declared.packet.OwnedBody.TheVariants.{NeedUid, Accept, Send, Ack, Cleanup}
 use Rattle.amo_core.specs.declared.act.Act.{Act}
 use Rattle.amo_core.specs.declared.act.Act.TheVariants as act
 use Rattle.amo_core.specs.declared.reply.Reply.{Reply}
@@ -13,63 +14,58 @@ use Rattle.amo_world.specs.declared.event.Event.{Event}
 use Rattle.amo_object.specs.declared.step.Step.{Step}
 use Rattle.amo_object.specs.declared.step.Step.TheVariants as step
 use Rattle.amo_object.specs.Run.{IsRun, without_losses}
-use Rattle.amo_world.specs.History.{Emission, emissions, IsRight, IsHonest, IsFresh}
+use Rattle.amo_world.specs.History.{Emission, event_emission, emissions, IsRight, IsHonest, IsFresh}
 use Rattle.amo_world.specs.Served.{calls}
 
--- an act at a side of stream 1, under pass 0
-abbrev pub at_sender : Act → Reply → Event
-at_sender a r = record { pass = 0; side = Sender; stream = 1; act = a; reply = r }
+-- an event, and what it emits
+pub record Line : Type 0 where
+  pub event : Event
+  pub emission : Option Emission
 
-abbrev pub at_receiver : Act → Reply → Event
-at_receiver a r = record { pass = 0; side = Receiver; stream = 1; act = a; reply = r }
+-- an act at a side of a stream, under pass 0, which emits nothing
+abbrev pub line_of : End → ℕ → Act → Reply → Line
+line_of side stream a r = record { event = record { pass = 0; side = side; stream = stream; act = a; reply = r }; emission = None }
 
 -- a packet of stream 1
 abbrev pub of_stream_1 : OwnedBody → OwnedPacket
 of_stream_1 body = record { stream = 1; body = body }
 
-abbrev pub from_sender : OwnedBody → Emission
-from_sender body = record { side = Sender; packet = of_stream_1 body }
+-- the line emits this packet
+infix 70 ◌emits◌
+abbrev pub ◌emits◌ : Line → OwnedBody → Line
+line emits body = record line { emission = Some (record { side = line.event.side; packet = of_stream_1 body }) }
 
-abbrev pub from_receiver : OwnedBody → Emission
-from_receiver body = record { side = Receiver; packet = of_stream_1 body }
+-- the acts of the stories: what the clients call, and what the hosts do
+abbrev pub put : List ℕ → Line
+put m = line_of Sender 1 (act.Put m) reply.Ok
 
--- the acts of the stories: what the client calls, and what the hosts do
-abbrev pub put : List ℕ → Event
-put m = at_sender (act.Put m) reply.Ok
+abbrev pub put_while_down : List ℕ → Line
+put_while_down m = line_of Sender 1 (act.Put m) reply.Down
 
-abbrev pub ack : Reply → Event
-ack answer = at_sender act.Ack answer
+abbrev pub ack : Reply → Line
+ack answer = line_of Sender 1 act.Ack answer
 
-abbrev pub get : Reply → Event
-get answer = at_receiver act.Get answer
+abbrev pub get : Reply → Line
+get answer = line_of Receiver 1 act.Get answer
 
-abbrev pub start : ℕ → Event
-start word = at_sender (act.Start word) reply.Done
+abbrev pub start : ℕ → Line
+start word = line_of Sender 1 (act.Start word) reply.Done
 
 -- a packet comes to the receiver, with the word for an offer, or to the sender
-abbrev pub to_receiver : OwnedBody → ℕ → Event
-to_receiver body word = at_receiver (act.Deliver (of_stream_1 body) word) reply.Done
+abbrev pub to_receiver : OwnedBody → ℕ → Line
+to_receiver body word = line_of Receiver 1 (act.Deliver (of_stream_1 body) word) reply.Done
 
-abbrev pub to_sender : OwnedBody → Event
-to_sender body = at_sender (act.Deliver (of_stream_1 body) 0) reply.Done
+abbrev pub to_sender : OwnedBody → Line
+to_sender body = line_of Sender 1 (act.Deliver (of_stream_1 body) 0) reply.Done
 
-abbrev pub sender_resends : Event
-sender_resends = at_sender act.Resend reply.Done
+abbrev pub resend : End → Line
+resend side = line_of side 1 act.Resend reply.Done
 
-abbrev pub receiver_resends : Event
-receiver_resends = at_receiver act.Resend reply.Done
+abbrev pub crash : End → Line
+crash side = line_of side 1 act.Crash reply.Done
 
-abbrev pub sender_crashes : Event
-sender_crashes = at_sender act.Crash reply.Done
-
-abbrev pub sender_recovers : Event
-sender_recovers = at_sender act.Recover reply.Done
-
-abbrev pub receiver_crashes : Event
-receiver_crashes = at_receiver act.Crash reply.Done
-
-abbrev pub receiver_recovers : Event
-receiver_recovers = at_receiver act.Recover reply.Done
+abbrev pub recover : End → Line
+recover side = line_of side 1 act.Recover reply.Done
 
 -- the messages `a`, `b` and `hi`
 abbrev pub letter_a : List ℕ
@@ -82,254 +78,282 @@ abbrev pub hi : List ℕ
 hi = 104 ∷ 105 ∷ []
 
 -- the sender asks for an identifier
-abbrev pub first_needuid : List Event
+abbrev pub first_needuid : List Line
 first_needuid =
     put letter_a ∷
-    start 7 ∷
-    []
-
-abbrev pub first_needuid_emits : List Emission
-first_needuid_emits =
-    from_sender (packet.NeedUid 7) ∷
+    start 7 emits NeedUid 7 ∷
     []
 
 abbrev pub first_needuid_run : List Step
 first_needuid_run = step.Put letter_a ∷ []
 
 -- a whole handshake, for the message of no bytes
-abbrev pub handshake : List Event
+abbrev pub handshake : List Line
 handshake =
     put [] ∷
-    start 7 ∷
-    to_receiver (packet.NeedUid 7) 9 ∷
-    to_sender (packet.Accept 7 9) ∷
-    to_receiver (packet.Send 9 []) 0 ∷
+    start 7 emits NeedUid 7 ∷
+    to_receiver (NeedUid 7) 9 emits Accept 7 9 ∷
+    to_sender (Accept 7 9) emits Send 9 [] ∷
+    to_receiver (Send 9 []) 0 ∷
     get (reply.Got []) ∷
-    receiver_resends ∷
-    to_sender (packet.Ack 9 true) ∷
-    to_receiver (packet.Cleanup 9) 0 ∷
+    resend Receiver emits Ack 9 true ∷
+    to_sender (Ack 9 true) emits Cleanup 9 ∷
+    to_receiver (Cleanup 9) 0 ∷
     ack reply.Yes ∷
-    []
-
-abbrev pub handshake_emits : List Emission
-handshake_emits =
-    from_sender (packet.NeedUid 7) ∷
-    from_receiver (packet.Accept 7 9) ∷
-    from_sender (packet.Send 9 []) ∷
-    from_receiver (packet.Ack 9 true) ∷
-    from_sender (packet.Cleanup 9) ∷
     []
 
 abbrev pub handshake_run : List Step
 handshake_run = step.Put [] ∷ step.Get [] ∷ step.Ack true ∷ []
 
 -- the message comes again before it is got, after it was got, and after the cleanup: it is got once
-abbrev pub send_repeated : List Event
+abbrev pub send_repeated : List Line
 send_repeated =
     put hi ∷
-    start 7 ∷
-    to_receiver (packet.NeedUid 7) 9 ∷
-    to_sender (packet.Accept 7 9) ∷
-    to_receiver (packet.Send 9 hi) 0 ∷
-    to_receiver (packet.Send 9 hi) 0 ∷
+    start 7 emits NeedUid 7 ∷
+    to_receiver (NeedUid 7) 9 emits Accept 7 9 ∷
+    to_sender (Accept 7 9) emits Send 9 hi ∷
+    to_receiver (Send 9 hi) 0 ∷
+    to_receiver (Send 9 hi) 0 ∷
     get (reply.Got hi) ∷
-    to_receiver (packet.Send 9 hi) 0 ∷
-    to_sender (packet.Ack 9 true) ∷
-    to_receiver (packet.Cleanup 9) 0 ∷
-    to_receiver (packet.Send 9 hi) 0 ∷
-    to_sender (packet.Ack 9 false) ∷
+    to_receiver (Send 9 hi) 0 emits Ack 9 true ∷
+    to_sender (Ack 9 true) emits Cleanup 9 ∷
+    to_receiver (Cleanup 9) 0 ∷
+    to_receiver (Send 9 hi) 0 emits Ack 9 false ∷
+    to_sender (Ack 9 false) ∷
     ack reply.Yes ∷
     get reply.Nothing ∷
-    []
-
-abbrev pub send_repeated_emits : List Emission
-send_repeated_emits =
-    from_sender (packet.NeedUid 7) ∷
-    from_receiver (packet.Accept 7 9) ∷
-    from_sender (packet.Send 9 hi) ∷
-    from_receiver (packet.Ack 9 true) ∷
-    from_sender (packet.Cleanup 9) ∷
-    from_receiver (packet.Ack 9 false) ∷
     []
 
 abbrev pub send_repeated_run : List Step
 send_repeated_run = step.Put hi ∷ step.Get hi ∷ step.Ack true ∷ []
 
 -- the request comes again after the handshake: a second offer is made, and given back
-abbrev pub needuid_repeated : List Event
+abbrev pub needuid_repeated : List Line
 needuid_repeated = handshake ++ (
-    to_receiver (packet.NeedUid 7) 11 ∷
-    to_sender (packet.Accept 7 11) ∷
-    to_receiver (packet.Cleanup 11) 0 ∷
+    to_receiver (NeedUid 7) 11 emits Accept 7 11 ∷
+    to_sender (Accept 7 11) emits Cleanup 11 ∷
+    to_receiver (Cleanup 11) 0 ∷
     get reply.Nothing ∷
     []
-  )
-
-abbrev pub needuid_repeated_emits : List Emission
-needuid_repeated_emits =
-    from_sender (packet.NeedUid 7) ∷
-    from_receiver (packet.Accept 7 9) ∷
-    from_sender (packet.Send 9 []) ∷
-    from_receiver (packet.Ack 9 true) ∷
-    from_sender (packet.Cleanup 9) ∷
-    from_receiver (packet.Accept 7 11) ∷
-    from_sender (packet.Cleanup 11) ∷
-    []
+    )
 
 abbrev pub needuid_repeated_run : List Step
 needuid_repeated_run = step.Put [] ∷ step.Get [] ∷ step.Ack true ∷ []
 
--- the receiver crashes after its offer: the message is lost, and the answer is No
-abbrev pub receiver_crash_before_send : List Event
-receiver_crash_before_send =
+-- words that are said again without being used up: a second start finds the sender asking already, the request comes
+-- again while its offer stands, and the receiver's word is the sender's too
+abbrev pub words_said_again : List Line
+words_said_again =
     put letter_a ∷
+    start 7 emits NeedUid 7 ∷
     start 7 ∷
-    to_receiver (packet.NeedUid 7) 9 ∷
-    receiver_crashes ∷
-    receiver_recovers ∷
-    to_sender (packet.Accept 7 9) ∷
-    ack reply.NotYet ∷
-    to_receiver (packet.Send 9 letter_a) 0 ∷
-    to_sender (packet.Ack 9 false) ∷
-    ack reply.No ∷
+    to_receiver (NeedUid 7) 7 emits Accept 7 7 ∷
+    to_receiver (NeedUid 7) 7 emits Accept 7 7 ∷
     []
 
-abbrev pub receiver_crash_before_send_emits : List Emission
-receiver_crash_before_send_emits =
-    from_sender (packet.NeedUid 7) ∷
-    from_receiver (packet.Accept 7 9) ∷
-    from_sender (packet.Send 9 letter_a) ∷
-    from_receiver (packet.Ack 9 false) ∷
+abbrev pub words_said_again_run : List Step
+words_said_again_run = step.Put letter_a ∷ []
+
+-- the receiver crashes after its offer: the message is lost, and the answer is No
+abbrev pub receiver_crash_before_send : List Line
+receiver_crash_before_send =
+    put letter_a ∷
+    start 7 emits NeedUid 7 ∷
+    to_receiver (NeedUid 7) 9 emits Accept 7 9 ∷
+    crash Receiver ∷
+    recover Receiver ∷
+    to_sender (Accept 7 9) emits Send 9 letter_a ∷
+    ack reply.NotYet ∷
+    to_receiver (Send 9 letter_a) 0 emits Ack 9 false ∷
+    to_sender (Ack 9 false) ∷
+    ack reply.No ∷
     []
 
 abbrev pub receiver_crash_before_send_run : List Step
 receiver_crash_before_send_run = step.Put letter_a ∷ step.Crash Receiver ∷ step.Lose 0 ∷ step.Recover Receiver ∷ step.Ack false ∷ []
 
 -- the sender crashes after its send, and puts again: both messages are got, in order
-abbrev pub sender_crash_after_send : List Event
+abbrev pub sender_crash_after_send : List Line
 sender_crash_after_send =
     put letter_a ∷
-    start 7 ∷
-    to_receiver (packet.NeedUid 7) 9 ∷
-    to_sender (packet.Accept 7 9) ∷
-    sender_crashes ∷
-    sender_recovers ∷
+    start 7 emits NeedUid 7 ∷
+    to_receiver (NeedUid 7) 9 emits Accept 7 9 ∷
+    to_sender (Accept 7 9) emits Send 9 letter_a ∷
+    crash Sender ∷
+    recover Sender ∷
     put letter_b ∷
-    to_receiver (packet.Send 9 letter_a) 0 ∷
-    to_sender (packet.Accept 7 9) ∷
-    to_receiver (packet.Cleanup 9) 0 ∷
+    to_receiver (Send 9 letter_a) 0 ∷
+    to_sender (Accept 7 9) emits Cleanup 9 ∷
+    to_receiver (Cleanup 9) 0 ∷
     get (reply.Got letter_a) ∷
-    receiver_resends ∷
-    to_sender (packet.Ack 9 true) ∷
-    to_receiver (packet.Cleanup 9) 0 ∷
-    start 8 ∷
-    to_receiver (packet.NeedUid 8) 10 ∷
-    to_sender (packet.Accept 8 10) ∷
-    to_receiver (packet.Send 10 letter_b) 0 ∷
+    resend Receiver emits Ack 9 true ∷
+    to_sender (Ack 9 true) emits Cleanup 9 ∷
+    to_receiver (Cleanup 9) 0 ∷
+    start 8 emits NeedUid 8 ∷
+    to_receiver (NeedUid 8) 10 emits Accept 8 10 ∷
+    to_sender (Accept 8 10) emits Send 10 letter_b ∷
+    to_receiver (Send 10 letter_b) 0 ∷
     get (reply.Got letter_b) ∷
-    receiver_resends ∷
-    to_sender (packet.Ack 10 true) ∷
-    to_receiver (packet.Cleanup 10) 0 ∷
+    resend Receiver emits Ack 10 true ∷
+    to_sender (Ack 10 true) emits Cleanup 10 ∷
+    to_receiver (Cleanup 10) 0 ∷
     ack reply.Yes ∷
-    []
-
-abbrev pub sender_crash_after_send_emits : List Emission
-sender_crash_after_send_emits =
-    from_sender (packet.NeedUid 7) ∷
-    from_receiver (packet.Accept 7 9) ∷
-    from_sender (packet.Send 9 letter_a) ∷
-    from_sender (packet.Cleanup 9) ∷
-    from_receiver (packet.Ack 9 true) ∷
-    from_sender (packet.Cleanup 9) ∷
-    from_sender (packet.NeedUid 8) ∷
-    from_receiver (packet.Accept 8 10) ∷
-    from_sender (packet.Send 10 letter_b) ∷
-    from_receiver (packet.Ack 10 true) ∷
-    from_sender (packet.Cleanup 10) ∷
     []
 
 abbrev pub sender_crash_after_send_run : List Step
 sender_crash_after_send_run = step.Put letter_a ∷ step.Crash Sender ∷ step.Recover Sender ∷ step.Put letter_b ∷ step.Get letter_a ∷ step.Get letter_b ∷ step.Ack true ∷ []
 
 -- the receiver crashes after the get and before it could say so: the message was got, and the answer is No
-abbrev pub receiver_crash_after_get : List Event
+abbrev pub receiver_crash_after_get : List Line
 receiver_crash_after_get =
     put letter_a ∷
-    start 7 ∷
-    to_receiver (packet.NeedUid 7) 9 ∷
-    to_sender (packet.Accept 7 9) ∷
-    to_receiver (packet.Send 9 letter_a) 0 ∷
+    start 7 emits NeedUid 7 ∷
+    to_receiver (NeedUid 7) 9 emits Accept 7 9 ∷
+    to_sender (Accept 7 9) emits Send 9 letter_a ∷
+    to_receiver (Send 9 letter_a) 0 ∷
     get (reply.Got letter_a) ∷
-    receiver_crashes ∷
-    receiver_recovers ∷
-    sender_resends ∷
-    to_receiver (packet.Send 9 letter_a) 0 ∷
-    to_sender (packet.Ack 9 false) ∷
+    crash Receiver ∷
+    recover Receiver ∷
+    resend Sender emits Send 9 letter_a ∷
+    to_receiver (Send 9 letter_a) 0 emits Ack 9 false ∷
+    to_sender (Ack 9 false) ∷
     ack reply.No ∷
-    []
-
-abbrev pub receiver_crash_after_get_emits : List Emission
-receiver_crash_after_get_emits =
-    from_sender (packet.NeedUid 7) ∷
-    from_receiver (packet.Accept 7 9) ∷
-    from_sender (packet.Send 9 letter_a) ∷
-    from_sender (packet.Send 9 letter_a) ∷
-    from_receiver (packet.Ack 9 false) ∷
     []
 
 abbrev pub receiver_crash_after_get_run : List Step
 receiver_crash_after_get_run = step.Put letter_a ∷ step.Get letter_a ∷ step.Crash Receiver ∷ step.LoseAck ∷ step.Recover Receiver ∷ step.Ack false ∷ []
 
--- after a handshake the receiver is asked to offer the word of its last offer again
-abbrev pub start_word_repeated : List Event
-start_word_repeated = handshake ++ (
-    put [] ∷
-    start 8 ∷
-    to_receiver (packet.NeedUid 8) 9 ∷
-    []
-  )
-
-abbrev pub start_word_repeated_emits : List Emission
-start_word_repeated_emits =
-    from_sender (packet.NeedUid 7) ∷
-    from_receiver (packet.Accept 7 9) ∷
-    from_sender (packet.Send 9 []) ∷
-    from_receiver (packet.Ack 9 true) ∷
-    from_sender (packet.Cleanup 9) ∷
-    from_sender (packet.NeedUid 8) ∷
-    from_receiver (packet.Accept 8 9) ∷
-    []
-
 -- calls to a sender that is down are told so
-abbrev pub calls_while_down : List Event
+abbrev pub calls_while_down : List Line
 calls_while_down =
-    sender_crashes ∷
-    at_sender (act.Put letter_a) reply.Down ∷
+    crash Sender ∷
+    put_while_down letter_a ∷
     ack reply.Down ∷
     get reply.Nothing ∷
-    sender_recovers ∷
+    recover Sender ∷
     ack reply.No ∷
     []
-
-abbrev pub calls_while_down_emits : List Emission
-calls_while_down_emits = []
 
 abbrev pub calls_while_down_run : List Step
 calls_while_down_run = step.Crash Sender ∷ step.DownReply Sender ∷ step.DownReply Sender ∷ step.LoseAck ∷ step.Recover Sender ∷ step.Ack false ∷ []
 
--- a packet that nobody emitted comes to a side
-abbrev pub unsent_delivery : End → OwnedPacket → ℕ → List Event
-unsent_delivery side packet word = record { pass = 0; side = side; stream = 1; act = act.Deliver packet word; reply = reply.Done } ∷ []
+-- after a crash the sender asks under the word of its first request again
+abbrev pub start_word_repeated : List Line
+start_word_repeated =
+    put letter_a ∷
+    start 7 emits NeedUid 7 ∷
+    crash Sender ∷
+    recover Sender ∷
+    put letter_b ∷
+    start 7 emits NeedUid 7 ∷
+    []
 
--- over the whole story the replies are right, these packets are emitted, and each delivered one was emitted before
-pub record IsExample (story : List Event) (emitted : List Emission) : Type 0 where
-  pub right : IsRight (reverse story)
-  pub emits : emissions (reverse story) ≡ emitted
-  pub honest : IsHonest (reverse story)
+-- after a handshake the receiver is asked to offer the word of its last offer again
+abbrev pub offer_word_repeated : List Line
+offer_word_repeated = handshake ++ (
+    put [] ∷
+    start 8 emits NeedUid 8 ∷
+    to_receiver (NeedUid 8) 9 emits Accept 8 9 ∷
+    []
+    )
+
+-- a packet that nobody emitted comes to a side
+abbrev pub unsent_delivery : End → ℕ → OwnedPacket → ℕ → List Line
+unsent_delivery side stream packet word = line_of side stream (act.Deliver packet word) reply.Done ∷ []
+
+-- the request comes back to the sender that emitted it
+abbrev pub returned_packet : List Line
+returned_packet = first_needuid ++ to_sender (NeedUid 7) ∷ []
+
+-- the request comes to the receiver of another stream
+abbrev pub stray_packet : List Line
+stray_packet = first_needuid ++ line_of Receiver 2 (act.Deliver (of_stream_1 (NeedUid 7)) 9) reply.Done ∷ []
+
+-- a message comes and is got
+abbrev pub first_get : List Line
+first_get =
+    put letter_a ∷
+    start 7 emits NeedUid 7 ∷
+    to_receiver (NeedUid 7) 9 emits Accept 7 9 ∷
+    to_sender (Accept 7 9) emits Send 9 letter_a ∷
+    to_receiver (Send 9 letter_a) 0 ∷
+    get (reply.Got letter_a) ∷
+    []
+
+-- then a second get finds nothing
+abbrev pub good_journal : List Line
+good_journal = first_get ++ get reply.Nothing ∷ []
+
+abbrev pub good_journal_run : List Step
+good_journal_run = step.Put letter_a ∷ step.Get letter_a ∷ []
+
+-- or it is said to have got the message once more
+abbrev pub forged_journal : List Line
+forged_journal = first_get ++ get (reply.Got letter_a) ∷ []
+
+-- a message comes that was never sent, under an identifier that was never asked for
+abbrev pub message_invented : List Line
+message_invented =
+    to_receiver (NeedUid 7) 9 emits Accept 7 9 ∷
+    to_receiver (Send 9 letter_a) 0 ∷
+    get (reply.Got letter_a) ∷
+    []
+
+-- the receiver offers an identifier again that it offered before its crash, and takes the old message a second time
+abbrev pub message_got_twice : List Line
+message_got_twice = first_get ++ (
+    crash Receiver ∷
+    recover Receiver ∷
+    to_receiver (NeedUid 7) 9 emits Accept 7 9 ∷
+    to_receiver (Send 9 letter_a) 0 ∷
+    get (reply.Got letter_a) ∷
+    []
+    )
+
+-- the sender asks again under a word that it used before its crash, and takes the answer for its old message as one for
+-- the new message, which is not got
+abbrev pub old_message_acknowledged : List Line
+old_message_acknowledged = first_get ++ (
+    crash Sender ∷
+    recover Sender ∷
+    put letter_b ∷
+    start 7 emits NeedUid 7 ∷
+    to_sender (Accept 7 9) emits Send 9 letter_b ∷
+    resend Receiver emits Ack 9 true ∷
+    to_sender (Ack 9 true) emits Cleanup 9 ∷
+    ack reply.Yes ∷
+    []
+    )
+
+-- the history of a story
+abbrev pub history_of : List Line → List Event
+history_of story = reverse (map (λ l. l.event) story)
+
+-- the packets of a story
+abbrev pub packets_of : List Line → List Emission
+packets_of story = filter_map (λ l. l.emission) story
+
+-- each line, the newest first, emits what it says
+abbrev pub EmitEach : List Line → Type 0
+EmitEach [] = Unit {0}
+EmitEach (l ∷ past) = (event_emission (map (λ p. p.event) past) l.event ≡ l.emission) × EmitEach past
+
+-- over the whole story the replies are right, each line emits what it says, and each packet delivered was emitted before
+pub record IsExample (story : List Line) : Type 0 where
+  pub right : IsRight (history_of story)
+  pub each : EmitEach (reverse story)
+  pub emitted : emissions (history_of story) ≡ packets_of story
+  pub honest : IsHonest (history_of story)
 
 -- besides, no word is used twice, and this run of the queue serves the stream
-pub record IsServedExample (story : List Event) (emitted : List Emission) (run : List Step) : Type 0 where
-  pub example : IsExample story emitted
-  pub fresh : IsFresh (reverse story)
+pub record IsServedExample (story : List Line) (run : List Step) : Type 0 where
+  pub example : IsExample story
+  pub fresh : IsFresh (history_of story)
   pub allowed : IsRun run
-  pub served : without_losses run ≡ calls 1 (reverse story)
+  pub served : without_losses run ≡ calls 1 (history_of story)
+
+-- besides, the last line, and no other, uses a word again
+pub record IsRepeatExample (story : List Line) : Type 0 where
+  pub example : IsExample story
+  pub fresh_before : IsFresh (drop 1 (history_of story))
+  pub not_fresh : ¬ (IsFresh (history_of story))

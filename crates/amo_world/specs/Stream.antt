@@ -38,6 +38,7 @@ pub record Stream : Type 0 where
 abbrev pub initial : ℕ → Stream
 initial number = record { sender = unused (sender.initial number); receiver = unused (receiver.initial number) }
 
+-- the other side of a stream
 abbrev pub other : End → End
 other Sender = Receiver
 other Receiver = Sender

@@ -1,34 +1,58 @@
 //! Worked examples of histories, as laws: the definitions say of each what they should.
-ghost use Rattle.std.specs.Prelude.{ℕ, List, reverse, drop};
+ghost use Rattle.std.specs.Prelude.{ℕ};
 ghost use Rattle.amo_object.specs.declared.step.End.{End};
 ghost use Rattle.amo_packet.specs.declared.packet.OwnedPacket.{OwnedPacket};
 ghost use Rattle.amo_world.specs.Example as example;
-ghost use Rattle.amo_world.specs.Example.{IsExample, IsServedExample};
-ghost use Rattle.amo_world.specs.History.{IsHonest, IsFresh};
+ghost use Rattle.amo_world.specs.Example.{history_of, IsExample, IsServedExample, IsRepeatExample};
+ghost use Rattle.amo_world.specs.History.{IsRight, IsHonest, IsFresh, IsCalm};
+ghost use Rattle.amo_world.specs.Served.{IsServed};
 
-/// Stories without a crash: the first request, a whole handshake, and packets that come again.
+/// Stories without a crash: the first request, a whole handshake, and packets and words that come again.
 pub fn handshakes()
-    ensures first_needuid { IsServedExample example.first_needuid example.first_needuid_emits example.first_needuid_run }
-    ensures handshake { IsServedExample example.handshake example.handshake_emits example.handshake_run }
-    ensures send_repeated { IsServedExample example.send_repeated example.send_repeated_emits example.send_repeated_run }
-    ensures needuid_repeated { IsServedExample example.needuid_repeated example.needuid_repeated_emits example.needuid_repeated_run }
+    ensures first_needuid { IsServedExample example.first_needuid example.first_needuid_run }
+    ensures calm { IsCalm (history_of example.first_needuid) }
+    ensures handshake { IsServedExample example.handshake example.handshake_run }
+    ensures send_repeated { IsServedExample example.send_repeated example.send_repeated_run }
+    ensures needuid_repeated { IsServedExample example.needuid_repeated example.needuid_repeated_run }
+    ensures words_said_again { IsServedExample example.words_said_again example.words_said_again_run }
+    ensures good_journal { IsServedExample example.good_journal example.good_journal_run }
 {}
 
 /// Stories in which a host crashes.
 pub fn crashes()
-    ensures receiver_before_send { IsServedExample example.receiver_crash_before_send
-        example.receiver_crash_before_send_emits example.receiver_crash_before_send_run }
-    ensures sender_after_send { IsServedExample example.sender_crash_after_send
-        example.sender_crash_after_send_emits example.sender_crash_after_send_run }
-    ensures receiver_after_get { IsServedExample example.receiver_crash_after_get
-        example.receiver_crash_after_get_emits example.receiver_crash_after_get_run }
-    ensures calls_while_down { IsServedExample example.calls_while_down example.calls_while_down_emits example.calls_while_down_run }
+    ensures receiver_before_send { IsServedExample example.receiver_crash_before_send example.receiver_crash_before_send_run }
+    ensures sender_after_send { IsServedExample example.sender_crash_after_send example.sender_crash_after_send_run }
+    ensures receiver_after_get { IsServedExample example.receiver_crash_after_get example.receiver_crash_after_get_run }
+    ensures calls_while_down { IsServedExample example.calls_while_down example.calls_while_down_run }
 {}
 
-/// Stories that break a premise: a word that is used twice, and a packet that nobody emitted.
-pub fn broken_premises()
-    ensures word_repeated { IsExample example.start_word_repeated example.start_word_repeated_emits }
-    ensures fresh_before { IsFresh (drop 1 (reverse example.start_word_repeated)) }
-    ensures not_fresh { ¬ (IsFresh (reverse example.start_word_repeated)) }
-    ensures not_honest { (side : End) (packet : OwnedPacket) (word : ℕ) → ¬ (IsHonest (example.unsent_delivery side packet word)) }
+/// Stories that are not fresh: a side uses a word twice.
+pub fn repeated_words()
+    ensures of_a_start { IsRepeatExample example.start_word_repeated }
+    ensures of_an_offer { IsRepeatExample example.offer_word_repeated }
+{}
+
+/// Stories that are not honest: a packet that nobody emitted, one that comes back, and one that strays.
+pub fn unsent_packets()
+    ensures at_first { (side : End) (stream : ℕ) (packet : OwnedPacket) (word : ℕ) →
+        ¬ (IsHonest (history_of (example.unsent_delivery side stream packet word))) }
+    ensures returned { ¬ (IsHonest (history_of example.returned_packet)) }
+    ensures stray { ¬ (IsHonest (history_of example.stray_packet)) }
+{}
+
+/// What each premise of serving is for. Each story lacks one of them alone, and no run of the queue serves its stream: a
+/// forged reply, a message that was never sent, and a word used twice, of an offer and of a start.
+pub fn needed_premises()
+    ensures reply_forged { (¬ (IsRight (history_of example.forged_journal)))
+        × IsHonest (history_of example.forged_journal) × IsFresh (history_of example.forged_journal) }
+    ensures message_invented { IsRight (history_of example.message_invented)
+        × (¬ (IsHonest (history_of example.message_invented))) × IsFresh (history_of example.message_invented) }
+    ensures message_got_twice { IsExample example.message_got_twice
+        × (¬ (IsFresh (history_of example.message_got_twice))) }
+    ensures old_message_acknowledged { IsExample example.old_message_acknowledged
+        × (¬ (IsFresh (history_of example.old_message_acknowledged))) }
+    ensures unserved { (¬ (IsServed 1 (history_of example.forged_journal)))
+        × (¬ (IsServed 1 (history_of example.message_invented)))
+        × (¬ (IsServed 1 (history_of example.message_got_twice)))
+        × (¬ (IsServed 1 (history_of example.old_message_acknowledged))) }
 {}

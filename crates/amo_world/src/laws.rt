@@ -1,6 +1,10 @@
 //! Laws of histories. Each is the contract of a function that does nothing.
-ghost use Rattle.std.specs.Prelude.{◌≡◌, ◌≢◌, ℕ, ◌+◌, Some, List, [], ◌∷◌, ◌++◌, reverse, take, slice_get};
+ghost use Rattle.std.specs.Prelude.{◌≡◌, ◌≢◌, ℕ, ◌+◌, true, Some, List, [], ◌∷◌, ◌++◌, reverse, take, slice_get};
 ghost use Rattle.std.specs.Option.{option_to_list};
+ghost use Rattle.amo_object.specs.declared.step.Step.{Step};
+ghost use Rattle.amo_object.specs.declared.step.Step.TheVariants.{Put, Ack};
+ghost use Rattle.amo_object.specs.Run.{IsCrashFree};
+ghost use Rattle.amo_object.specs.Delivery.{messages_put, messages_got, IsSubsequence};
 ghost use Rattle.amo_world.specs.declared.event.Event.{Event};
 ghost use Rattle.amo_world.specs.Stream.{after};
 ghost use Rattle.amo_world.specs.History.{stream_after, stream_before, emissions, event_emission, IsRight, IsCalm};
@@ -22,7 +26,20 @@ pub fn in_order_of_time()
         → reverse (take (place + 1) events) ≡ e ∷ reverse (take place events) }
 {}
 
-/// Where no packet comes and no host crashes, each stream is served.
+/// What a client may rely on where its stream is served: what is got was put, in that order and each message at most
+/// once; while no host crashes, what was put is got or still waits; and after the answer yes, the last message put was
+/// got.
+pub fn served_streams()
+    ensures order { (number : ℕ) (events : List Event) → IsServed number events →
+        IsSubsequence (messages_got (calls number events)) (messages_put (calls number events)) }
+    ensures nothing_lost { (number : ℕ) (events : List Event) → IsServed number events → IsCrashFree (calls number events) →
+        (waiting : List (List ℕ)) × (messages_put (calls number events) ≡ messages_got (calls number events) ++ waiting) }
+    ensures yes { (number : ℕ) (events : List Event) (before later : List Step) (m : List ℕ) → IsServed number events →
+        calls number events ≡ before ++ Put m ∷ later ++ Ack true ∷ [] → messages_put later ≡ [] →
+        (earlier : List (List ℕ)) × (messages_got later ≡ earlier ++ m ∷ []) }
+{}
+
+/// In a right history in which no packet comes and no host crashes, each stream is served.
 pub fn calm_histories_serve()
     ensures { (number : ℕ) (events : List Event) → IsRight events → IsCalm events → IsServed number events }
 {}

@@ -11,6 +11,9 @@
 //!   served     some run of the at-most-once queue has, with its losses left out, exactly the stream's calls
 //! ```
 //!
+//! [`laws`] says what one event more changes and what a client may rely on where its stream is served; [`examples`] tells
+//! worked stories, among them one for each premise that shows what goes wrong without it.
+//!
 //! A slice or a vector of events is in the order of time. Where one meets a definition it is reversed; the two laws
 //! that this needs are [`laws::in_order_of_time`].
 #![tactic(auto)]
