@@ -18,8 +18,14 @@
 //! emitting copy nothing; contracts see it through one function, `packet_of`, as the packet that it stands for.
 #![tactic(auto)]
 
+mod fault;
 mod message;
 mod packet;
+mod reader;
+mod writer;
 
+pub use fault::{NoRoom, ReadFault};
 pub use message::{MAX_MESSAGE, Message, MessageFault};
 pub use packet::{Body, OwnedBody, OwnedPacket, Packet};
+pub use reader::read;
+pub use writer::{MAX_PACKET, write};

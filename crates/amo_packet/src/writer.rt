@@ -1,0 +1,98 @@
+//! Packets into bytes.
+ghost use Rattle.std.specs.Prelude.{◌≡◌, ◌<◌, ◌≤◌, ◌+◌, ◌++◌, ◌↔◌, length, drop, OnErr, IfOk, IsErr};
+ghost use Rattle.amo_packet.specs.Packet.{packet_of, body_of};
+ghost use Rattle.amo_packet.specs.Grammar.{header, kind_of, fields_of, message_of, spelling, IsSpellable};
+
+use crate::{Body, MAX_MESSAGE, NoRoom, Packet};
+use byteorder::{BigEndian, ByteOrder};
+
+/// The greatest length of a packet's spelling, in bytes.
+pub const MAX_PACKET: usize = 1042;
+
+/// Writes the packet's spelling at the front of the buffer, and answers its length.
+pub fn write(packet: &Packet<'_>, buffer: &mut [u8]) -> Result<usize, NoRoom>
+    requires { length (message_of (body_of packet.now.body)) ≤ MAX_MESSAGE }
+
+    ensures length { IfOk result (λ n. n ≡ length (spelling (packet_of packet.now))) }
+    ensures written { IfOk result (λ n. buffer.new ≡ spelling (packet_of packet.now) ++ drop n buffer.old) }
+
+    // A buffer of MAX_PACKET bytes is never too short.
+    ensures no_room { IsErr result ↔ (length buffer.old < length (spelling (packet_of packet.now))) }
+    ensures unchanged { OnErr result (buffer.new ≡ buffer.old) }
+    ensures bounded { length (spelling (packet_of packet.now)) ≤ MAX_PACKET }
+
+    // What is written spells this packet and no other, so it is read again as this packet.
+    ensures spellable { IsSpellable (packet_of packet.now) }
+{
+    let length = 8 + fields_length(&packet.body);
+    if buffer.len() < length {
+        return Err(NoRoom);
+    }
+    write_header(kind(&packet.body), packet.stream, buffer);
+    write_fields(&packet.body, &mut buffer[8..]);
+    Ok(length)
+}
+
+/// The number of the kind.
+fn kind(body: &Body<'_>) -> u8
+    ensures { result ≡ kind_of (body_of body.now) }
+{
+    match body {
+        Body::NeedUid(_) => 1,
+        Body::Accept(_, _) => 2,
+        Body::Send(_, _) => 3,
+        Body::Ack(_, _) => 4,
+        Body::Cleanup(_) => 5,
+    }
+}
+
+/// How many bytes the fields take.
+fn fields_length(body: &Body<'_>) -> usize
+    requires { length (message_of (body_of body.now)) ≤ MAX_MESSAGE }
+    ensures { result ≡ length (fields_of (body_of body.now)) }
+{
+    match body {
+        Body::NeedUid(_) => 8,
+        Body::Accept(_, _) => 16,
+        Body::Send(_, message) => 10 + message.len(),
+        Body::Ack(_, _) => 9,
+        Body::Cleanup(_) => 8,
+    }
+}
+
+/// Writes the header at the front.
+fn write_header(kind: u8, stream: u32, buffer: &mut [u8])
+    requires { 8 ≤ length buffer.old }
+    ensures { buffer.new ≡ header kind stream ++ drop 8 buffer.old }
+{
+    buffer[0] = 0x41;
+    buffer[1] = 0x4D;
+    buffer[2] = 1;
+    buffer[3] = kind;
+    BigEndian::write_u32(&mut buffer[4..], stream);
+}
+
+/// Writes the fields at the front.
+fn write_fields(body: &Body<'_>, buffer: &mut [u8])
+    requires message { length (message_of (body_of body.now)) ≤ MAX_MESSAGE }
+    requires room { length (fields_of (body_of body.now)) ≤ length buffer.old }
+    ensures { buffer.new ≡ fields_of (body_of body.now) ++ drop (length (fields_of (body_of body.now))) buffer.old }
+{
+    match body {
+        Body::NeedUid(jd) => BigEndian::write_u64(buffer, *jd),
+        Body::Accept(jd, id) => {
+            BigEndian::write_u64(buffer, *jd);
+            BigEndian::write_u64(&mut buffer[8..], *id);
+        }
+        Body::Send(id, message) => {
+            BigEndian::write_u64(buffer, *id);
+            BigEndian::write_u16(&mut buffer[8..], message.len() as u16);
+            buffer[10..10 + message.len()].copy_from_slice(message);
+        }
+        Body::Ack(id, got) => {
+            BigEndian::write_u64(buffer, *id);
+            buffer[8] = u8::from(*got);
+        }
+        Body::Cleanup(id) => BigEndian::write_u64(buffer, *id),
+    }
+}
