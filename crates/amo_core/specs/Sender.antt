@@ -116,3 +116,8 @@ awaits _ jd = false
 abbrev pub is_sending : SenderMode → ℕ → Bool
 is_sending (Send under m) id = under == id
 is_sending _ id = false
+
+-- the sender is down
+abbrev pub is_down : SenderMode → Bool
+is_down Down = true
+is_down _ = false

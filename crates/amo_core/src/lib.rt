@@ -17,12 +17,14 @@
 #![tactic(auto)]
 
 mod act;
+mod automaton;
 mod mode;
 mod receiver;
 mod reply;
 mod sender;
 
 pub use act::Act;
+pub use automaton::{Automaton, Outcome};
 pub use mode::Mode;
 pub use receiver::{GetRefusal, Receiver, ReceiverMode};
 pub use reply::Reply;

@@ -4,6 +4,8 @@ ghost use Rattle.amo_core.specs.Receiver as table;
 ghost use Rattle.amo_core.specs.declared.act.Act.TheVariants as act;
 
 mod handshake;
+mod judge;
+mod step;
 
 use crate::Mode;
 use amo_packet::Message;

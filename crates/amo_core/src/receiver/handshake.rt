@@ -1,5 +1,5 @@
 //! What a receiver's host makes happen: packets come and are answered, an answer is said again; a crash and a recovery.
-ghost use Rattle.std.specs.Prelude.{◌≡◌, ℕ, List, None, true, false, IsTrue, IsFalse, if◌then◌else◌};
+ghost use Rattle.std.specs.Prelude.{◌≡◌, ℕ, List, [], IfSome, None, true, false, IsTrue, IsFalse, if◌then◌else◌};
 ghost use Rattle.std.specs.Option.{option_map};
 ghost use Rattle.std.specs.Borrow.{sem};
 ghost use Rattle.std.specs.Io.BufRead.{Rests};
@@ -14,11 +14,13 @@ impl Receiver {
     ghost use Rattle.amo_core.specs.Receiver.{offers};
     ghost use Rattle.amo_core.specs.contracts.receiver.Receiver.{the_row};
     ghost use Rattle.amo_packet.specs.Packet.{body_of, packet_of};
+    ghost use Rattle.amo_packet.specs.Grammar.{message_of};
 
     /// Hears that the sender asks for an identifier: at rest, the word becomes one. An offer that was made for the
     /// sender's word already is made again.
     pub fn needuid(&mut self, jd: u64, word: u64) -> Option<Packet<'_>>
         ensures* row { sem 𝓛 (Rests the_row self.entry (λ new. table.needuid self.old self.old.mode jd word ≡ done new (option_map packet_of result))) }
+        ensures fits { IfSome result (λ p. message_of (body_of p.body) ≡ []) }
     {
         if self.offer(jd, word) {
             self.resend()
@@ -44,6 +46,7 @@ impl Receiver {
     /// Says the packet of the mode again: the offer, or that the message was got.
     pub fn resend(&self) -> Option<Packet<'_>>
         ensures row { table.row self.now act.Resend ≡ done self.now (option_map packet_of result) }
+        ensures fits { IfSome result (λ p. message_of (body_of p.body) ≡ []) }
     {
         match &self.mode {
             ReceiverMode::Accept(jd, id) => Some(self.packet(Body::Accept(*jd, *id))),
@@ -66,6 +69,7 @@ impl Receiver {
     /// other identifier is dropped, and answered for unless it is held already.
     pub fn send(&mut self, id: u64, message: Message) -> Option<Packet<'_>>
         ensures* row { sem 𝓛 (Rests the_row self.entry (λ new. table.send self.old self.old.mode id message ≡ done new (option_map packet_of result))) }
+        ensures fits { IfSome result (λ p. message_of (body_of p.body) ≡ []) }
     {
         if self.keep(id, message) {
             None
@@ -91,7 +95,8 @@ impl Receiver {
     /// Answers for an identifier that is not offered.
     fn answer(&self, id: u64) -> Option<Packet<'_>>
         requires { offers self.now.mode id ≡ false }
-        ensures { (m : List ℕ) → table.send self.now self.now.mode id m ≡ done self.now (option_map packet_of result) }
+        ensures fits { IfSome result (λ p. message_of (body_of p.body) ≡ []) }
+        ensures row { (m : List ℕ) → table.send self.now self.now.mode id m ≡ done self.now (option_map packet_of result) }
     {
         match &self.mode {
             ReceiverMode::Down => None,
@@ -104,6 +109,7 @@ impl Receiver {
     /// Hears that the sender is done with an identifier. A message that the client has not got yet stays.
     pub fn cleanup(&mut self, id: u64) -> Option<Packet<'_>>
         ensures* row { sem 𝓛 (Rests the_row self.entry (λ new. table.cleanup self.old self.old.mode id ≡ done new (option_map packet_of result))) }
+        ensures fits { IfSome result (λ p. message_of (body_of p.body) ≡ []) }
     {
         self.forget(id);
         None

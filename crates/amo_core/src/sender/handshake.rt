@@ -1,5 +1,5 @@
 //! What a sender's host makes happen: a handshake begins, is answered, and is said again; a crash and a recovery.
-ghost use Rattle.std.specs.Prelude.{◌≡◌, None, true, false, IsTrue, IsFalse, if◌then◌else◌};
+ghost use Rattle.std.specs.Prelude.{◌≡◌, ◌≤◌, length, IfSome, None, true, false, IsTrue, IsFalse, if◌then◌else◌};
 ghost use Rattle.std.specs.Option.{option_map};
 ghost use Rattle.std.specs.Borrow.{sem};
 ghost use Rattle.std.specs.Io.BufRead.{Rests};
@@ -7,7 +7,7 @@ ghost use Rattle.amo_core.specs.Sender as table;
 ghost use Rattle.amo_core.specs.declared.act.Act.TheVariants as act;
 
 use crate::sender::{Sender, SenderMode};
-use amo_packet::{Body, Packet};
+use amo_packet::{Body, MAX_MESSAGE, Packet};
 use std::mem;
 
 impl Sender {
@@ -15,10 +15,12 @@ impl Sender {
     ghost use Rattle.amo_core.specs.Sender.{awaits, is_sending};
     ghost use Rattle.amo_core.specs.contracts.sender.Sender.{the_row};
     ghost use Rattle.amo_packet.specs.Packet.{body_of, packet_of};
+    ghost use Rattle.amo_packet.specs.Grammar.{message_of};
 
     /// Begins a handshake for the first message that waits, under this word, if the sender is at rest: emits needuid.
     pub fn start(&mut self, word: u64) -> Option<Packet<'_>>
         ensures* row { sem 𝓛 (Rests the_row self.entry (λ new. table.row self.old (act.Start word) ≡ done new (option_map packet_of result))) }
+        ensures fits { IfSome result (λ p. length (message_of (body_of p.body)) ≤ MAX_MESSAGE) }
     {
         if self.begin(word) {
             self.resend()
@@ -44,6 +46,7 @@ impl Sender {
     /// Says the packet of the mode again: needuid while it asks, send while it sends.
     pub fn resend(&self) -> Option<Packet<'_>>
         ensures row { table.row self.now act.Resend ≡ done self.now (option_map packet_of result) }
+        ensures fits { IfSome result (λ p. length (message_of (body_of p.body)) ≤ MAX_MESSAGE) }
     {
         match &self.mode {
             SenderMode::NeedId(jd, _) => Some(self.packet(Body::NeedUid(*jd))),
@@ -66,6 +69,7 @@ impl Sender {
     /// offer is given back by a cleanup, unless the message is being sent under it already.
     pub fn accept(&mut self, jd: u64, id: u64) -> Option<Packet<'_>>
         ensures* row { sem 𝓛 (Rests the_row self.entry (λ new. table.accept self.old self.old.mode jd id ≡ done new (option_map packet_of result))) }
+        ensures fits { IfSome result (λ p. length (message_of (body_of p.body)) ≤ MAX_MESSAGE) }
     {
         if self.take_offer(jd, id) {
             self.resend()
@@ -94,7 +98,8 @@ impl Sender {
     /// Gives an offer back that was not awaited.
     fn decline(&self, jd: u64, id: u64) -> Option<Packet<'_>>
         requires { awaits self.now.mode jd ≡ false }
-        ensures { table.accept self.now self.now.mode jd id ≡ done self.now (option_map packet_of result) }
+        ensures fits { IfSome result (λ p. length (message_of (body_of p.body)) ≤ MAX_MESSAGE) }
+        ensures row { table.accept self.now self.now.mode jd id ≡ done self.now (option_map packet_of result) }
     {
         match &self.mode {
             SenderMode::Down => None,
@@ -107,6 +112,7 @@ impl Sender {
     /// An answer that says "got" is followed by a cleanup, in every mode but down.
     pub fn ack(&mut self, id: u64, got: bool) -> Option<Packet<'_>>
         ensures* row { sem 𝓛 (Rests the_row self.entry (λ new. table.ack self.old self.old.mode id got ≡ done new (option_map packet_of result))) }
+        ensures fits { IfSome result (λ p. length (message_of (body_of p.body)) ≤ MAX_MESSAGE) }
     {
         self.settle(id, got);
         self.clean_up(id, got)
@@ -127,7 +133,8 @@ impl Sender {
     /// Lets the receiver forget an identifier whose message was got.
     fn clean_up(&self, id: u64, got: bool) -> Option<Packet<'_>>
         requires { is_sending self.now.mode id ≡ false }
-        ensures { table.ack self.now self.now.mode id got ≡ done self.now (option_map packet_of result) }
+        ensures fits { IfSome result (λ p. length (message_of (body_of p.body)) ≤ MAX_MESSAGE) }
+        ensures row { table.ack self.now self.now.mode id got ≡ done self.now (option_map packet_of result) }
     {
         match &self.mode {
             SenderMode::Down => None,
