@@ -1,11 +1,8 @@
 -- What is wrong with bytes that spell no packet: the first fault in a fixed order.
-use Rattle.std.specs.Prelude.{◌≡◌, ◌<◌, ◌^◌, ℕ, ◌+◌, ◌==◌, nat_lt, nat_le, Bool, not, ◌&&◌, if◌then◌else◌, List, [], ◌∷◌, ◌++◌, length, drop, slice_index, Option, None, Some, Result, Ok, Err}
+use Rattle.std.specs.Prelude.{ℕ, ◌+◌, ◌==◌, nat_lt, nat_le, Bool, not, ◌&&◌, if◌then◌else◌, List, [], ◌∷◌, length, drop, slice_index, Option, None, Some}
 use Rattle.byteorder.specs.Endian.{big_number}
 use Rattle.amo_packet.specs.declared.fault.ReadFault.{ReadFault}
 use Rattle.amo_packet.specs.declared.fault.ReadFault.TheVariants.{Short, Magic, Version, Kind, Flag, Length, Long}
-use Rattle.amo_packet.specs.declared.packet.Body.{Body}
-use Rattle.amo_packet.specs.Packet.{body_of}
-use Rattle.amo_packet.specs.Grammar.{header, Spells}
 
 -- the number of a fault
 abbrev pub fault_code : ReadFault → ℕ
@@ -59,8 +56,3 @@ first_of (row ∷ rows) = if row.1 then Some row.0 else first_of rows
 -- what is wrong with the bytes, or nothing
 unfoldable pub first_fault : List ℕ → Option ReadFault
 first_fault bytes = first_of (fault_table bytes)
-
--- what reading a kind's fields answers: on whatever stream, the packet that header and fields spell, or their first fault
-abbrev pub IsReading : ℕ → List ℕ → Result Body ReadFault → Type 0
-IsReading kind fields (Ok body) = (stream : ℕ) → stream < 2 ^ 32 → Spells (header kind stream ++ fields) (record { stream = stream; body = body_of body })
-IsReading kind fields (Err fault) = (stream : ℕ) → first_fault (header kind stream ++ fields) ≡ Some fault

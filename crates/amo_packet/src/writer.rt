@@ -1,7 +1,7 @@
 //! Packets into bytes.
-ghost use Rattle.std.specs.Prelude.{◌≡◌, ◌<◌, ◌≤◌, ◌+◌, ◌++◌, ◌↔◌, length, drop, OnErr, IfOk, IsErr};
+ghost use Rattle.std.specs.Prelude.{◌≡◌, ◌<◌, ◌≤◌, ◌+◌, ◌++◌, ◌↔◌, length, drop, OnOk, OnErr, IfOk, IsErr};
 ghost use Rattle.amo_packet.specs.Packet.{packet_of, body_of};
-ghost use Rattle.amo_packet.specs.Grammar.{header, kind_of, fields_of, message_of, spelling, IsSpellable};
+ghost use Rattle.amo_packet.specs.Grammar.{header, kind_of, fields_of, message_of, spelling, FitsFields, IsSpellable};
 
 use crate::{Body, MAX_MESSAGE, NoRoom, Packet};
 use byteorder::{BigEndian, ByteOrder};
@@ -10,26 +10,29 @@ use byteorder::{BigEndian, ByteOrder};
 pub const MAX_PACKET: usize = 1042;
 
 /// Writes the packet's spelling at the front of the buffer, and answers its length.
+///
+/// A buffer of [`MAX_PACKET`] bytes always has room.
+#[tactic(auto, unfolding(crate::specs::Grammar::spelling))]
 pub fn write(packet: &Packet<'_>, buffer: &mut [u8]) -> Result<usize, NoRoom>
     requires { length (message_of (body_of packet.now.body)) ≤ MAX_MESSAGE }
 
-    ensures length { IfOk result (λ n. n ≡ length (spelling (packet_of packet.now))) }
+    ensures answer { IfOk result (λ n. n ≡ length (spelling (packet_of packet.now))) }
     ensures written { IfOk result (λ n. buffer.new ≡ spelling (packet_of packet.now) ++ drop n buffer.old) }
 
-    // A buffer of MAX_PACKET bytes is never too short.
+    // No other packet has the spelling that was written, so reading it gives this packet back.
+    ensures spellable { OnOk result (IsSpellable (packet_of packet.now)) }
+
     ensures no_room { IsErr result ↔ (length buffer.old < length (spelling (packet_of packet.now))) }
     ensures unchanged { OnErr result (buffer.new ≡ buffer.old) }
     ensures bounded { length (spelling (packet_of packet.now)) ≤ MAX_PACKET }
-
-    // What is written spells this packet and no other, so it is read again as this packet.
-    ensures spellable { IsSpellable (packet_of packet.now) }
 {
-    let length = 8 + fields_length(&packet.body);
+    let Packet { stream, body } = *packet;
+    let length = 8 + fields_length(&body);
     if buffer.len() < length {
         return Err(NoRoom);
     }
-    write_header(kind(&packet.body), packet.stream, buffer);
-    write_fields(&packet.body, &mut buffer[8..]);
+    write_header(kind(&body), stream, buffer);
+    write_fields(&body, &mut buffer[8..]);
     Ok(length)
 }
 
@@ -76,7 +79,8 @@ fn write_header(kind: u8, stream: u32, buffer: &mut [u8])
 fn write_fields(body: &Body<'_>, buffer: &mut [u8])
     requires message { length (message_of (body_of body.now)) ≤ MAX_MESSAGE }
     requires room { length (fields_of (body_of body.now)) ≤ length buffer.old }
-    ensures { buffer.new ≡ fields_of (body_of body.now) ++ drop (length (fields_of (body_of body.now))) buffer.old }
+    ensures written { buffer.new ≡ fields_of (body_of body.now) ++ drop (length (fields_of (body_of body.now))) buffer.old }
+    ensures fits { FitsFields (body_of body.now) }
 {
     match body {
         Body::NeedUid(jd) => BigEndian::write_u64(buffer, *jd),
