@@ -66,7 +66,7 @@ impl Outcome {
 
 /// Writes a packet at the front of the buffer, if there is one, and answers its length.
 pub(crate) fn emit(packet: Option<Packet<'_>>, buffer: &mut [u8; MAX_PACKET]) -> Option<usize>
-    requires { ForSome packet.entry (λ p. length (message_of (body_of p.body)) ≤ MAX_MESSAGE) }
+    requires { ForSome packet (λ p. length (message_of (body_of p.body)) ≤ MAX_MESSAGE) }
     ensures { Writes (option_map packet_of packet.entry) buffer.old buffer.new result }
 {
     let packet = packet?;
