@@ -1,14 +1,12 @@
 -- Bytes without a fault spell a packet.
-use Rattle.std.proofs.Common.{◌≡◌, ◌<◌, ◌≤◌, ◌^◌, ◌⊎◌, ℕ, zero, suc, ◌+◌, Bool, true, false, List, [], ◌∷◌, ◌++◌, length, get_or, slice_index, drop, Option, Some, None, refl, sym, ap, subst, ◌∙◌, arith, inl, inr}
+use Rattle.std.proofs.Common.{◌≡◌, ◌<◌, ◌≤◌, ◌^◌, ◌⊎◌, ℕ, zero, suc, Bool, true, false, List, ◌++◌, length, get_or, slice_index, drop, Some, None, refl, sym, ap, subst, ◌∙◌, arith, inl, inr}
 use Rattle.std.proofs.lemmas.Bool.{cases_order}
 use Rattle.std.proofs.lemmas.Bool.Decides.{nat_tests}
-use Rattle.std.proofs.lemmas.List.{length-drop}
 use Rattle.byteorder.specs.Endian.{big_number}
 use Rattle.byteorder.specs.Numbers.{big_from-lt}
 use Rattle.amo_packet.specs.declared.fault.ReadFault.{ReadFault}
 use Rattle.amo_packet.specs.declared.fault.ReadFault.TheVariants.{Short, Long}
 use Rattle.amo_packet.specs.declared.packet.OwnedPacket.{OwnedPacket}
-use Rattle.amo_packet.specs.declared.packet.OwnedBody.TheVariants.{NeedUid, Accept, Send, Ack, Cleanup}
 use Rattle.amo_packet.specs.Grammar.{header, flag, Spells}
 use Rattle.amo_packet.specs.Fault.{first_fault}
 use Rattle.amo_packet.proofs.Numbers.{AreBytes, AreBytes-drop}
@@ -24,10 +22,10 @@ word_below xs fits = big_from-lt 0 8 xs fits
 -- where each wrong length is a fault, no fault means the right length
 right_length : (bytes xs : List ℕ) (n : ℕ) → ((f : ReadFault) → MissesLength xs n f → first_fault bytes ≡ Some f) → first_fault bytes ≡ None → length xs ≡ n
 right_length bytes xs n misses none = elim (cases_order (length xs) n) [
-      | inl e ↦ e
-      | inr (inl lt) ↦ let some = misses Short (inl (refl, lt)) in absurd cc
-      | inr (inr gt) ↦ let some = misses Long (inr (refl, gt)) in absurd cc
-    ]
+  | inl e ↦ e
+  | inr (inl lt) ↦ let some = misses Short (inl (refl, lt)) in absurd cc
+  | inr (inr gt) ↦ let some = misses Long (inr (refl, gt)) in absurd cc
+]
 
 kind_known : (kind stream : ℕ) (fields : List ℕ) → first_fault (header kind stream ++ fields) ≡ None → (kind ≡ 0) ⊎ (5 < kind) → ⊥
 unfolding first_fault

@@ -17,9 +17,9 @@ AreBytes-drop n xs h i = rw get_or-drop (h (n + i))
 
 pub AreBytes-from_All : (xs : List ℕ) → All (λ b. b < 256) xs → AreBytes xs
 AreBytes-from_All xs h i = elim (cases_lt i (length xs)) [
-      | inl lt ↦ h i 0 lt
-      | inr le ↦ rw (get_or_past xs i 0 le) (omega arith)
-    ]
+  | inl lt ↦ h i 0 lt
+  | inr le ↦ rw (get_or_past xs i 0 le) (omega arith)
+]
 
 byte_at-below : (k n : ℕ) → byte_at k n < 256
 byte_at-below zero n = omega arith
@@ -46,6 +46,7 @@ big_bytes-all_8 xs n long fits e = sym (be_bytes_8 xs n long fits (omega arith))
 
 -- where two numbers of the same width begin the same list, they are one, and so are the bytes after them
 pub big_bytes-cancel : (n a b : ℕ) (x y : List ℕ) → a < 256 ^ n → b < 256 ^ n → big_bytes n a ++ x ≡ big_bytes n b ++ y → (a ≡ b) × (x ≡ y)
-big_bytes-cancel n a b x y small small' e =
-    (sym (big_number-reads_back n a x small) ∙ ap (big_number n) e ∙ big_number-reads_back n b y small',
-     sym (drop_at (big_bytes n a) x n (length-bytes_high_first n a)) ∙ ap (drop n) e ∙ drop_at (big_bytes n b) y n (length-bytes_high_first n b))
+big_bytes-cancel n a b x y small small' e = (
+  sym (big_number-reads_back n a x small) ∙ ap (big_number n) e ∙ big_number-reads_back n b y small',
+  sym (drop_at (big_bytes n a) x n (length-bytes_high_first n a)) ∙ ap (drop n) e ∙ drop_at (big_bytes n b) y n (length-bytes_high_first n b),
+)

@@ -1,5 +1,5 @@
 -- Spellings: how long they are, and that none begins another.
-use Rattle.std.proofs.Common.{◌≡◌, ◌<◌, ◌≤◌, ◌^◌, ◌+◌, ℕ, Bool, true, false, List, [], ◌∷◌, ◌++◌, length, take, drop, slice_index, All, refl, sym, ap, ◌∙◌, arith}
+use Rattle.std.proofs.Common.{◌≡◌, ◌<◌, ◌≤◌, ◌+◌, ℕ, Bool, true, false, List, [], ◌∷◌, ◌++◌, length, take, drop, slice_index, All, refl, sym, ap, ◌∙◌, arith}
 use Rattle.std.proofs.lemmas.List.{take_at, drop_at}
 use Rattle.std.proofs.lemmas.List.Elements.{All-nil, All-cons, All-append}
 use Rattle.byteorder.specs.Endian.{big_bytes}
@@ -55,9 +55,10 @@ abbrev Same : OwnedBody → OwnedBody → List ℕ → List ℕ → Type 0
 Same a b x y = (a ≡ b) × (x ≡ y)
 
 message-cancel : (m m' x y : List ℕ) → length m ≡ length m' → m ++ x ≡ m' ++ y → (m ≡ m') × (x ≡ y)
-message-cancel m m' x y len e =
-    (sym (take_at m x (length m') len) ∙ ap (take (length m')) e ∙ take_at m' y (length m') refl,
-     sym (drop_at m x (length m') len) ∙ ap (drop (length m')) e ∙ drop_at m' y (length m') refl)
+message-cancel m m' x y len e = (
+  sym (take_at m x (length m') len) ∙ ap (take (length m')) e ∙ take_at m' y (length m') refl,
+  sym (drop_at m x (length m') len) ∙ ap (drop (length m')) e ∙ drop_at m' y (length m') refl,
+)
 
 same_fields : (a b : OwnedBody) (x y : List ℕ) → FitsFields a → FitsFields b → kind_of a ≡ kind_of b → fields_of a ++ x ≡ fields_of b ++ y → Same a b x y
 same_fields (NeedUid jd) (NeedUid jd') x y f f' k e =

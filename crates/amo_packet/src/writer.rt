@@ -3,11 +3,15 @@ ghost use Rattle.std.specs.Prelude.{◌≡◌, ◌<◌, ◌≤◌, ◌+◌, ◌+
 ghost use Rattle.amo_packet.specs.Packet.{packet_of, body_of};
 ghost use Rattle.amo_packet.specs.Grammar.{header, kind_of, fields_of, message_of, spelling, FitsFields, IsSpellable};
 
+use crate::layout::{
+    ACCEPT, ACCEPT_LENGTH, ACK, ACK_LENGTH, CLEANUP, CLEANUP_LENGTH, HEADER_LENGTH, MAGIC, NEEDUID,
+    NEEDUID_LENGTH, SEND, SEND_LENGTH, VERSION,
+};
 use crate::{Body, MAX_MESSAGE, NoRoom, Packet};
 use byteorder::{BigEndian, ByteOrder};
 
 /// The greatest length of a packet's spelling, in bytes.
-pub const MAX_PACKET: usize = 1042;
+pub const MAX_PACKET: usize = HEADER_LENGTH + SEND_LENGTH + MAX_MESSAGE;
 
 /// Writes the packet's spelling at the front of the buffer, and answers its length.
 ///
@@ -27,12 +31,12 @@ pub fn write(packet: &Packet<'_>, buffer: &mut [u8]) -> Result<usize, NoRoom>
     ensures bounded { length (spelling (packet_of packet.now)) ≤ MAX_PACKET }
 {
     let Packet { stream, body } = *packet;
-    let length = 8 + fields_length(&body);
+    let length = HEADER_LENGTH + fields_length(&body);
     if buffer.len() < length {
         return Err(NoRoom);
     }
     write_header(kind(&body), stream, buffer);
-    write_fields(&body, &mut buffer[8..]);
+    write_fields(&body, &mut buffer[HEADER_LENGTH..]);
     Ok(length)
 }
 
@@ -41,11 +45,11 @@ fn kind(body: &Body<'_>) -> u8
     ensures { result ≡ kind_of (body_of body.now) }
 {
     match body {
-        Body::NeedUid(_) => 1,
-        Body::Accept(_, _) => 2,
-        Body::Send(_, _) => 3,
-        Body::Ack(_, _) => 4,
-        Body::Cleanup(_) => 5,
+        Body::NeedUid(_) => NEEDUID,
+        Body::Accept(_, _) => ACCEPT,
+        Body::Send(_, _) => SEND,
+        Body::Ack(_, _) => ACK,
+        Body::Cleanup(_) => CLEANUP,
     }
 }
 
@@ -55,22 +59,22 @@ fn fields_length(body: &Body<'_>) -> usize
     ensures { result ≡ length (fields_of (body_of body.now)) }
 {
     match body {
-        Body::NeedUid(_) => 8,
-        Body::Accept(_, _) => 16,
-        Body::Send(_, message) => 10 + message.len(),
-        Body::Ack(_, _) => 9,
-        Body::Cleanup(_) => 8,
+        Body::NeedUid(_) => NEEDUID_LENGTH,
+        Body::Accept(_, _) => ACCEPT_LENGTH,
+        Body::Send(_, message) => SEND_LENGTH + message.len(),
+        Body::Ack(_, _) => ACK_LENGTH,
+        Body::Cleanup(_) => CLEANUP_LENGTH,
     }
 }
 
 /// Writes the header at the front.
 fn write_header(kind: u8, stream: u32, buffer: &mut [u8])
-    requires { 8 ≤ length buffer.old }
-    ensures { buffer.new ≡ header kind stream ++ drop 8 buffer.old }
+    requires { HEADER_LENGTH ≤ length buffer.old }
+    ensures { buffer.new ≡ header kind stream ++ drop HEADER_LENGTH buffer.old }
 {
-    buffer[0] = 0x41;
-    buffer[1] = 0x4D;
-    buffer[2] = 1;
+    buffer[0] = MAGIC[0];
+    buffer[1] = MAGIC[1];
+    buffer[2] = VERSION;
     buffer[3] = kind;
     BigEndian::write_u32(&mut buffer[4..], stream);
 }
@@ -91,7 +95,7 @@ fn write_fields(body: &Body<'_>, buffer: &mut [u8])
         Body::Send(id, message) => {
             BigEndian::write_u64(buffer, *id);
             BigEndian::write_u16(&mut buffer[8..], message.len() as u16);
-            buffer[10..10 + message.len()].copy_from_slice(message);
+            buffer[SEND_LENGTH..SEND_LENGTH + message.len()].copy_from_slice(message);
         }
         Body::Ack(id, got) => {
             BigEndian::write_u64(buffer, *id);
