@@ -22,6 +22,8 @@ mod mode;
 mod receiver;
 mod reply;
 mod sender;
+#[cfg(test)]
+mod tests;
 
 pub use act::Act;
 pub use automaton::{Automaton, Outcome};
