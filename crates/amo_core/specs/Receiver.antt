@@ -1,5 +1,5 @@
 -- The table of a receiver.
-use Rattle.std.specs.Prelude.{ℕ, ◌==◌, true, false, if◌then◌else◌, List, Option, Some, None}
+use Rattle.std.specs.Prelude.{ℕ, ◌==◌, Bool, true, false, if◌then◌else◌, List, Option, Some, None}
 use Rattle.amo_packet.specs.declared.packet.OwnedPacket.{OwnedPacket}
 use Rattle.amo_packet.specs.declared.packet.OwnedBody.{OwnedBody}
 use Rattle.amo_packet.specs.declared.packet.OwnedBody.TheVariants as packet
@@ -102,3 +102,8 @@ offered_word _ _ word = None
 abbrev pub used_word : State → Act → Option ℕ
 used_word s (act.Deliver p word) = offered_word s.mode p.body word
 used_word s _ = None
+
+-- the receiver offers this identifier
+abbrev pub offers : ReceiverMode → ℕ → Bool
+offers (Accept jd offered) id = offered == id
+offers _ id = false

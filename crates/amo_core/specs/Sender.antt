@@ -106,3 +106,18 @@ row s act.Recover = recover s s.mode
 abbrev pub used_word : State → Act → Option ℕ
 used_word s (act.Start word) = option_map (λ p. word) (row s (act.Start word)).emitted
 used_word s _ = None
+
+-- the sender asks under this word
+abbrev pub awaits : SenderMode → ℕ → Bool
+awaits (NeedId asked m) jd = asked == jd
+awaits _ jd = false
+
+-- the sender sends under this identifier
+abbrev pub is_sending : SenderMode → ℕ → Bool
+is_sending (Send under m) id = under == id
+is_sending _ id = false
+
+-- the sender is down
+abbrev pub is_down : SenderMode → Bool
+is_down Down = true
+is_down _ = false

@@ -17,12 +17,16 @@
 #![tactic(auto)]
 
 mod act;
+mod automaton;
 mod mode;
 mod receiver;
 mod reply;
 mod sender;
+#[cfg(test)]
+mod tests;
 
 pub use act::Act;
+pub use automaton::{Automaton, Outcome};
 pub use mode::Mode;
 pub use receiver::{GetRefusal, Receiver, ReceiverMode};
 pub use reply::Reply;

@@ -3,6 +3,10 @@ ghost use Rattle.std.specs.Prelude.{◌≡◌};
 ghost use Rattle.amo_core.specs.Receiver as table;
 ghost use Rattle.amo_core.specs.declared.act.Act.TheVariants as act;
 
+mod handshake;
+mod judge;
+mod step;
+
 use crate::Mode;
 use amo_packet::Message;
 use std::marker::Model;

@@ -18,8 +18,23 @@
 //! emitting copy nothing; contracts see it through one function, `packet_of`, as the packet that it stands for.
 #![tactic(auto)]
 
+mod fault;
+mod laws;
+mod layout;
 mod message;
 mod packet;
+mod reader;
+mod writer;
 
+pub use fault::{NoRoom, ReadFault};
+pub use laws::{
+    bytes_without_a_fault_spell_a_packet, no_spelling_begins_another, spellings_are_bounded,
+    spellings_are_bytes, spellings_are_unique, what_is_written_is_read,
+};
 pub use message::{MAX_MESSAGE, Message, MessageFault};
 pub use packet::{Body, OwnedBody, OwnedPacket, Packet};
+pub use reader::read;
+pub use writer::{MAX_PACKET, write};
+
+#[cfg(test)]
+mod tests;

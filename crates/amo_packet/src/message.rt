@@ -92,7 +92,7 @@ mod tests {
     #[test]
     fn copies_up_to_the_limit(rt: HostRuntime) -> Result<(), Fail> {
         let bytes = vec![in rt.alloc(); 0x61; MAX_MESSAGE + 1]?;
-        for length in [0, 1, MAX_MESSAGE] {
+        for length in 0..=MAX_MESSAGE {
             let copied = Message::copy(rt.alloc(), &bytes[..length]);
             assert!(rt; matches!(&copied, Ok(message) if message.bytes() == &bytes[..length]));
         }

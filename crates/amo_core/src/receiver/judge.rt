@@ -1,0 +1,50 @@
+//! What a receiver would reply, and which word it would use up: looked up, with nothing changed.
+ghost use Rattle.std.specs.Prelude.{◌≡◌, ◌↔◌, Some, IsTrue};
+ghost use Rattle.amo_core.specs.Receiver as table;
+ghost use Rattle.amo_core.specs.declared.act.Act.TheVariants as act;
+
+use crate::receiver::{Receiver, ReceiverMode};
+use crate::{Act, Reply};
+use amo_packet::OwnedBody;
+
+impl Receiver {
+    /// Whether this is the reply of the act's row. It never is where the act is none of a receiver's.
+    pub fn replies(&self, act: &Act, reply: &Reply) -> bool
+        ensures { IsTrue result ↔ ((table.row self.now act.now).reply ≡ Some reply.now) }
+    {
+        match act {
+            Act::Get => self.replies_get(reply),
+            Act::Put(_) | Act::Ack | Act::Start(_) => false,
+            Act::Resend | Act::Deliver(_, _) | Act::Crash | Act::Recover => matches!(
+                reply,
+                Reply::Done
+            ),
+        }
+    }
+
+    fn replies_get(&self, reply: &Reply) -> bool
+        ensures { IsTrue result ↔ ((table.row self.now act.Get).reply ≡ Some reply.now) }
+    {
+        match (&self.mode, reply) {
+            (ReceiverMode::Rcvd(_, held), Reply::Got(message)) => held.bytes() == message.bytes(),
+            (ReceiverMode::Rcvd(_, _), _) => false,
+            (ReceiverMode::Down, Reply::Down) => true,
+            (ReceiverMode::Down, _) => false,
+            (_, Reply::Nothing) => true,
+            _ => false,
+        }
+    }
+
+    /// The word that the act would use up: of a needuid that finds the receiver at rest.
+    pub fn used_word(&self, act: &Act) -> Option<u64>
+        ensures { result ≡ table.used_word self.now act.now }
+    {
+        match (act, &self.mode) {
+            (Act::Deliver(packet, word), ReceiverMode::Idle) => match packet.body {
+                OwnedBody::NeedUid(_) => Some(*word),
+                _ => None,
+            },
+            _ => None,
+        }
+    }
+}

@@ -1,0 +1,5 @@
+pub mod Numbers
+pub mod Spellings
+pub mod Fields
+pub mod Faults
+pub mod Faultless

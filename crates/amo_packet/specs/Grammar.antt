@@ -1,0 +1,61 @@
+-- The packet grammar: the bytes that spell each packet. Numbers stand with the highest byte first.
+use Rattle.std.specs.Prelude.{◌≡◌, ◌≤◌, ◌<◌, ◌^◌, ℕ, Bool, true, false, List, [], ◌∷◌, ◌++◌, length}
+use Rattle.byteorder.specs.Endian.{big_bytes}
+use Rattle.amo_packet.specs.declared.packet.OwnedPacket.{OwnedPacket}
+use Rattle.amo_packet.specs.declared.packet.OwnedBody.{OwnedBody}
+use Rattle.amo_packet.specs.declared.packet.OwnedBody.TheVariants.{NeedUid, Accept, Send, Ack, Cleanup}
+
+-- 41 4D, the version, the kind, and the stream
+abbrev pub header : ℕ → ℕ → List ℕ
+header kind stream = 0x41 ∷ 0x4D ∷ 1 ∷ kind ∷ big_bytes 4 stream
+
+-- the byte of a flag
+abbrev pub flag : Bool → ℕ
+flag false = 0
+flag true = 1
+
+-- the number of a kind
+abbrev pub kind_of : OwnedBody → ℕ
+kind_of (NeedUid jd) = 1
+kind_of (Accept jd id) = 2
+kind_of (Send id message) = 3
+kind_of (Ack id got) = 4
+kind_of (Cleanup id) = 5
+
+-- the fields that follow the header: words of eight bytes, a message behind its length in two, a flag
+abbrev pub fields_of : OwnedBody → List ℕ
+fields_of (NeedUid jd) = big_bytes 8 jd
+fields_of (Accept jd id) = big_bytes 8 jd ++ big_bytes 8 id
+fields_of (Send id message) = big_bytes 8 id ++ big_bytes 2 (length message) ++ message
+fields_of (Ack id got) = big_bytes 8 id ++ flag got ∷ []
+fields_of (Cleanup id) = big_bytes 8 id
+
+-- the bytes of a packet, and no others: nothing follows the fields
+unfoldable pub spelling : OwnedPacket → List ℕ
+spelling p = header (kind_of p.body) p.stream ++ fields_of p.body
+
+-- the message that is sent; no bytes where none is
+abbrev pub message_of : OwnedBody → List ℕ
+message_of (NeedUid jd) = []
+message_of (Accept jd id) = []
+message_of (Send id message) = message
+message_of (Ack id got) = []
+message_of (Cleanup id) = []
+
+-- each number fits its field, and the message its limit
+abbrev pub FitsFields : OwnedBody → Type 0
+FitsFields (NeedUid jd) = jd < 2 ^ 64
+FitsFields (Accept jd id) = (jd < 2 ^ 64) × (id < 2 ^ 64)
+FitsFields (Send id message) = (id < 2 ^ 64) × (length message ≤ 1024)
+FitsFields (Ack id got) = id < 2 ^ 64
+FitsFields (Cleanup id) = id < 2 ^ 64
+
+-- the packet has a spelling that tells it from all others
+pub record IsSpellable (p : OwnedPacket) : Type 0 where
+  pub stream : p.stream < 2 ^ 32
+  pub body : FitsFields p.body
+
+-- all of the bytes spell the packet
+pub record Spells (bytes : List ℕ) (p : OwnedPacket) : Type 0 where
+  pub fits : IsSpellable p
+  pub exact : bytes ≡ spelling p

@@ -1,0 +1,35 @@
+//! The fixed bytes of packets, the numbers of their kinds, and the lengths of their parts in bytes.
+
+/// The bytes that every packet begins with.
+pub const MAGIC: [u8; 2] = [0x41, 0x4D];
+
+/// The version of the packets that are read and written.
+pub const VERSION: u8 = 1;
+
+/// The magic, the version, the kind and the stream.
+pub const HEADER_LENGTH: usize = 8;
+
+pub const NEEDUID: u8 = 1;
+
+pub const ACCEPT: u8 = 2;
+
+pub const SEND: u8 = 3;
+
+pub const ACK: u8 = 4;
+
+pub const CLEANUP: u8 = 5;
+
+/// The fields of a needuid: a word.
+pub const NEEDUID_LENGTH: usize = 8;
+
+/// The fields of an accept: two words.
+pub const ACCEPT_LENGTH: usize = 16;
+
+/// The fields of a send before its message: a word, and the message's length in two bytes.
+pub const SEND_LENGTH: usize = 10;
+
+/// The fields of an ack: a word and a flag.
+pub const ACK_LENGTH: usize = 9;
+
+/// The fields of a cleanup: a word.
+pub const CLEANUP_LENGTH: usize = 8;
