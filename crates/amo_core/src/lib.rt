@@ -10,6 +10,9 @@
 //!   crash, recover           all is forgotten; the side comes back
 //! ```
 //!
+//! A [`Sender`] and a [`Receiver`] can be driven by hand, call by call. Whoever keeps sides of both kinds keeps an
+//! [`Automaton`], either of the two, with one step that takes any act and writes what it emits into a buffer.
+//!
 //! The method is Belsnes's (1976) as told by Lynch, *Distributed Algorithms*, chapter 22. A message travels under an
 //! identifier that the receiver made for this one handshake; the receiver takes a message only under the identifier
 //! that it offered last, and says "got" only once its client has the message. So a repeated packet finds its
