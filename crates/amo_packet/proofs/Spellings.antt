@@ -36,12 +36,15 @@ pub spelling_short : (p : OwnedPacket) → IsSpellable p → length (spelling p)
 spelling_short p f = omega (arith, length-spelling p, length-fixed p.body f.body)
 
 -- a spellable packet keeps to the limit of messages
-pub message_short : (b : OwnedBody) → FitsFields b → length (message_of b) ≤ 1024
-message_short (NeedUid jd) f = omega arith
-message_short (Accept jd id) f = omega arith
-message_short (Send id message) f = f.1
-message_short (Ack id got) f = omega arith
-message_short (Cleanup id) f = omega arith
+message_within : (b : OwnedBody) → FitsFields b → length (message_of b) ≤ 1024
+message_within (NeedUid jd) f = omega arith
+message_within (Accept jd id) f = omega arith
+message_within (Send id message) f = f.1
+message_within (Ack id got) f = omega arith
+message_within (Cleanup id) f = omega arith
+
+pub message_short : (p : OwnedPacket) → IsSpellable p → length (message_of p.body) ≤ 1024
+message_short p f = message_within p.body f.body
 
 -- ---- no spelling begins another
 

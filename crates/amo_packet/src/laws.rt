@@ -5,7 +5,7 @@ ghost use Rattle.amo_packet.specs.declared.packet.OwnedPacket.{OwnedPacket};
 ghost use Rattle.amo_packet.specs.Grammar.{kind_of, message_of, spelling, IsSpellable, Spells};
 ghost use Rattle.amo_packet.specs.Fault.{fixed_length, first_fault};
 
-use crate::MAX_PACKET;
+use crate::{MAX_MESSAGE, MAX_PACKET};
 
 /// No packet's spelling begins another's: of two that begin the same bytes the packets are one, and so is what follows.
 pub fn no_spelling_begins_another()
@@ -32,9 +32,11 @@ pub fn bytes_without_a_fault_spell_a_packet()
     ensures no_fault { (bytes : List ℕ) (p : OwnedPacket) → Spells bytes p → first_fault bytes ≡ None }
 {}
 
-/// A spelling is as long as its kind's fixed part and its message together, and never longer than [`MAX_PACKET`].
+/// A spelling is as long as its kind's fixed part and its message together. A message is within [`MAX_MESSAGE`], so a
+/// spelling is within [`MAX_PACKET`].
 pub fn spellings_are_bounded()
     ensures length_of { (p : OwnedPacket) → length (spelling p) ≡ fixed_length (kind_of p.body) + length (message_of p.body) }
+    ensures message { (p : OwnedPacket) → IsSpellable p → length (message_of p.body) ≤ MAX_MESSAGE }
     ensures bounded { (p : OwnedPacket) → IsSpellable p → length (spelling p) ≤ MAX_PACKET }
 {}
 
