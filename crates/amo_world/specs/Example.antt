@@ -1,4 +1,4 @@
--- Worked examples: short stories on stream 1. A line of a story is an event, with the packet that it emits, if any.
+-- Worked examples: short stories, each a list of lines. A line is an event, with the packet that it emits, if any.
 use Rattle.std.specs.Prelude.{◌≡◌, ℕ, true, false, Option, None, Some, List, [], ◌∷◌, ◌++◌, map, reverse, drop}
 use Rattle.std.specs.List.{filter_map}
 use Rattle.amo_object.specs.declared.step.End.{End}
@@ -140,8 +140,7 @@ needuid_repeated = handshake ++ (
 abbrev pub needuid_repeated_run : List Step
 needuid_repeated_run = step.Put [] ∷ step.Get [] ∷ step.Ack true ∷ []
 
--- words that are said again without being used up: a second start finds the sender asking already, the request comes
--- again while its offer stands, and the receiver's word is the sender's too
+-- words said again that are not used up: by a start while the sender asks, by a request while its offer stands, by the other side
 abbrev pub words_said_again : List Line
 words_said_again =
     put letter_a ∷
@@ -310,8 +309,7 @@ message_got_twice = first_get ++ (
     []
     )
 
--- the sender asks again under a word that it used before its crash, and takes the answer for its old message as one for
--- the new message, which is not got
+-- the sender asks under a word of before its crash, and takes the answer for its old message as one for the new, which is not got
 abbrev pub old_message_acknowledged : List Line
 old_message_acknowledged = first_get ++ (
     crash Sender ∷
