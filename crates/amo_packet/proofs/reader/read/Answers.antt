@@ -26,11 +26,12 @@ returns-in_err-body-clause-complete c =
     let p = err_from_is_err_and c.from_residual-in_err-body.result c.from_residual-in_err-body.ensures.1 in
     rw p.1 (λ q s. spelt_bytes_have_no_fault c.args.bytes.now _ q (fault_of_body c) s)
 
-abbrev spelt : (c : goal.In_ok-body) → Spells c.args.bytes.now (packet_of (record { stream = c.in_ok-kind.stream; body = c.in_ok-body.body }))
-spelt c = rw c.in_ok-kind.ensures.found.1 (c.in_ok-body.ensures c.in_ok-kind.stream c.in_ok-kind.ensures.found.0)
-
 pub returns-clause-complete : goal.returns-clause-complete
-returns-clause-complete c = λ q s. Spells-unique c.args.bytes.now _ q (spelt c) s
+returns-clause-complete c =
+    let spelt : Spells c.args.bytes.now (packet_of (record { stream = c.in_ok-kind.stream; body = c.in_ok-body.body })) = rw c.in_ok-kind.ensures.found.1 (c.in_ok-body.ensures c.in_ok-kind.stream c.in_ok-kind.ensures.found.0) in
+    λ q s. Spells-unique c.args.bytes.now _ q spelt s
 
 pub returns-clause-fault : goal.returns-clause-fault
-returns-clause-fault c = λ f. (λ e. absurd cc, λ e. absurd (spelt_bytes_have_no_fault c.args.bytes.now f _ e (spelt c)))
+returns-clause-fault c =
+    let spelt : Spells c.args.bytes.now (packet_of (record { stream = c.in_ok-kind.stream; body = c.in_ok-body.body })) = rw c.in_ok-kind.ensures.found.1 (c.in_ok-body.ensures c.in_ok-kind.stream c.in_ok-kind.ensures.found.0) in
+    λ f. (λ e. absurd cc, λ e. absurd (spelt_bytes_have_no_fault c.args.bytes.now f _ e spelt))
