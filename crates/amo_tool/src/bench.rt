@@ -2,15 +2,14 @@
 ghost use Rattle.std.specs.Prelude.{◌≡◌, List, Some, IfOk, [], ◌∷◌};
 ghost use Rattle.amo_world.specs.declared.event.Event.{Event};
 ghost use Rattle.amo_core.specs.Sender as sender;
-ghost use Rattle.amo_core.specs.Sender.Replies.{put_reply, ack_reply};
-ghost use Rattle.amo_core.specs.Receiver.Replies.{get_reply};
+ghost use Rattle.amo_core.specs.Sender.Replies.{put_reply};
 ghost use Rattle.amo_core.specs.declared.act.Act.TheVariants as act;
 ghost use Rattle.amo_tool.specs.Schedule.{InRange, IsStream};
 ghost use Rattle.amo_tool.specs.Transcript.{event_of, HasReply};
 
 use crate::schedule::Line;
 use crate::schedule::reader::STREAMS;
-use amo_core::{AckReply, GetRefusal, PutRefusal, Receiver, Reply, Sender};
+use amo_core::{PutRefusal, Receiver, Reply, Sender};
 use amo_packet::Message;
 use std::alloc::{AllocError, Global};
 use std::marker::Model;
@@ -44,29 +43,6 @@ fn put_reply(told: Result<(), PutRefusal>) -> Reply
     }
 }
 
-/// The reply to a get.
-fn get_reply(told: Result<Message, GetRefusal>) -> Reply
-    ensures { result ≡ get_reply told }
-{
-    match told {
-        Ok(message) => Reply::Got(message),
-        Err(GetRefusal::Nothing) => Reply::Nothing,
-        Err(GetRefusal::Down) => Reply::Down,
-    }
-}
-
-/// The reply to a call for what became of the last put.
-fn ack_reply(told: AckReply) -> Reply
-    ensures { result ≡ ack_reply told }
-{
-    match told {
-        AckReply::Yes => Reply::Yes,
-        AckReply::No => Reply::No,
-        AckReply::NotYet => Reply::NotYet,
-        AckReply::Down => Reply::Down,
-    }
-}
-
 impl Bench {
     ghost use Rattle.amo_tool.specs.Bench.{Stands, SenderActs, ReceiverActs, sender_at};
 
@@ -96,14 +72,14 @@ impl Bench {
         ensures { ReceiverActs self.old self.new stream act.Get result }
     {
         let receiver = &mut self.receivers[stream as usize - 1];
-        get_reply(receiver.get())
+        Reply::from(receiver.get())
     }
 
     fn get_ack(&self, stream: u32) -> Reply
         requires { IsStream stream }
         ensures { (sender.row (sender_at self.now stream) act.Ack).reply ≡ Some result }
     {
-        ack_reply(self.senders[stream as usize - 1].get_ack())
+        Reply::from(self.senders[stream as usize - 1].get_ack())
     }
 
     /// Makes the call of a line, and answers its reply: the right one, whatever the history that the sides stand for.
