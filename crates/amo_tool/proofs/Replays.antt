@@ -106,7 +106,8 @@ calm_after past (Put s m) calm = (tt, calm)
 calm_after past (Get s) calm = (tt, calm)
 calm_after past (Ack s) calm = (tt, calm)
 
-right_all : (past : List Event) (xs : List Line) → IsRight past → IsRight (history_from past xs)
+-- every reply of client calls is right
+pub right_all : (past : List Event) (xs : List Line) → IsRight past → IsRight (history_from past xs)
 right_all past [] right = right
 right_all past (x ∷ xs) right = right_all (event_after past x ∷ past) xs (right_after past x right)
 

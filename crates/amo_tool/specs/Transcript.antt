@@ -10,7 +10,7 @@ use Rattle.amo_core.specs.declared.reply.Reply.{Reply}
 use Rattle.amo_core.specs.declared.reply.Reply.TheVariants as reply
 use Rattle.amo_world.specs.declared.event.Event.{Event}
 use Rattle.amo_world.specs.Stream.{reply_of}
-use Rattle.amo_world.specs.History.{stream_after}
+use Rattle.amo_world.specs.History.{stream_after, IsRight}
 use Rattle.amo_world.specs.Served.{IsServed}
 use Rattle.amo_audit.specs.Hexadecimal.{hex}
 use Rattle.amo_tool.specs.Schedule.{Spells, IsMalformedAt}
@@ -87,11 +87,12 @@ history_of lines = history_from [] lines
 abbrev pub flatten : List (List ℕ) → List ℕ
 flatten texts = flat_map (λ text. text) texts
 
--- the lines that the bytes spell, their transcript, and that each stream is served by their events
+-- the lines that the bytes spell, their transcript, that its replies are right, and that each stream is served by their events
 pub record IsReplayed (bytes : List ℕ) (texts : List (List ℕ)) : Type 0 where
   pub lines : List Line
   pub spelt : Spells lines bytes
   pub told : texts ≡ transcript lines
+  pub right : IsRight (history_of lines)
   pub served : (number : ℕ) → IsServed number (history_of lines)
 
 -- the transcript of these bytes, and how it ends; no line that reads delivers a packet or uses a word yet

@@ -47,7 +47,7 @@ fn step<W: Sink>(
 
 /// Replays a schedule, and writes a line for each event. The schedule is read whole before any event.
 pub fn replay<W: Sink>(alloc: Global, bytes: &[u8], sink: &mut W) -> Result<Ending, ToolFault>
-    // Exactly the transcript is written, the ending is its own, and each stream is served by what was replayed.
+    // Exactly the transcript is written, the ending is its own, each reply is right, and each stream is served by what was replayed.
     ensures ok { IfOk result (λ ending. (texts : List (List ℕ)) × IsTranscript bytes.now texts ending
         × Appends (W.written sink.old) (W.written sink.new) (flatten texts)) }
     // Whole lines of it are written where memory runs out.

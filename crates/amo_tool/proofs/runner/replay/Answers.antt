@@ -5,7 +5,7 @@ use Rattle.std.proofs.lemmas.List.{length_push, map-id}
 use Rattle.amo_tool.specs.Transcript.{transcript, history_of}
 use Rattle.amo_tool.specs.declared.outcome.ToolFault.TheVariants.{NoMemory, Device}
 use Rattle.amo_audit.proofs.Written.{Appends-append}
-use Rattle.amo_tool.proofs.Replays.{so_far, memory_told, device_told, told_more, history_from-append, length-history_from, all_served}
+use Rattle.amo_tool.proofs.Replays.{so_far, memory_told, device_told, told_more, history_from-append, length-history_from, right_all, all_served}
 use Rattle.amo_tool.proofs.runner.replay.Goals as goal
 
 pub returns-in-Err-clause-memory : goal.returns-in-Err-clause-memory
@@ -45,6 +45,7 @@ returns-clause-ok g c =
         lines = c.loop-line.yielded;
         spelt = rw whole c.in-Ok.ensures.spelt;
         told = refl;
+        right = right_all [] c.loop-line.yielded tt;
         served = λ number. all_served number c.loop-line.yielded;
       },
       c.loop-line.invariant.told,
