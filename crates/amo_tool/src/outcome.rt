@@ -12,7 +12,7 @@ pub enum Ending {
     Malformed(usize),
     /// This line delivers a packet that was not emitted before; the lines before it were replayed.
     Unsent(usize),
-    /// This line uses a word a second time; the lines before it were replayed.
+    /// This line uses an identifier a second time; the lines before it were replayed.
     Repeat(usize),
 }
 

@@ -1,7 +1,7 @@
 //! Tells a replay's ending: the line of its fault, and the status that the program ends with.
 ghost use Rattle.std.specs.Prelude.{◌≡◌, ◌<◌, IfOk, IsErrOf};
 ghost use Rattle.std.specs.String.{string_bytes};
-ghost use Rattle.std.specs.Io.KnownBytes.{Appends, Keeps};
+ghost use Rattle.std.specs.Io.KnownBytes.{Appends};
 ghost use Rattle.amo_audit.specs.Sink.{AppendsFront};
 ghost use Rattle.amo_tool.specs.Ending.{fault_line, status_of};
 

@@ -17,7 +17,7 @@ const AFTER_HELP: &str = "Example:
 Status:
   0  done
   2  unreadable input or words
-  3  a premise is broken: a packet that nobody sent, or a word used twice
+  3  a premise is broken: a packet that nobody sent, or an identifier used twice
   4  want of memory, or a fault of a device";
 
 const REPLAY_ABOUT: &str = "Replays a schedule, and prints a line for each event";
