@@ -1,7 +1,7 @@
 -- Either automaton, with one table for both.
 use Rattle.std.specs.Prelude.{◌≡◌, ℕ, ◌++◌, Option, None, Some, List, length, drop}
 use Rattle.amo_packet.specs.declared.packet.OwnedPacket.{OwnedPacket}
-use Rattle.amo_packet.specs.Grammar.{spelling}
+use Rattle.amo_packet.specs.Grammar.{spelling, IsSpellable}
 use Rattle.amo_core.specs.declared.act.Act.{Act}
 use Rattle.amo_core.specs.declared.act.Act.TheVariants.{Put}
 use Rattle.amo_core.specs.declared.reply.Reply.{Reply}
@@ -35,7 +35,8 @@ abbrev pub handed_back : Act → Option Reply → Option (List ℕ)
 handed_back (Put m) told = put_back m told
 handed_back _ told = None
 
--- the packet stands at the front of the buffer, if there is one, and the rest of the buffer is as it was
+-- the packet stands at the front of the buffer, if there is one, in a spelling that no other packet has, and the rest of
+-- the buffer is as it was
 abbrev pub Writes : Option OwnedPacket → List ℕ → List ℕ → Option ℕ → Type 0
 Writes None old new written = (new ≡ old) × (written ≡ None)
-Writes (Some p) old new written = (new ≡ spelling p ++ drop (length (spelling p)) old) × (written ≡ Some (length (spelling p)))
+Writes (Some p) old new written = IsSpellable p × (new ≡ spelling p ++ drop (length (spelling p)) old) × (written ≡ Some (length (spelling p)))

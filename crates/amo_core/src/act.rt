@@ -12,9 +12,9 @@ pub enum Act {
     Ack,
     /// The host begins a handshake for the first message that waits, under this word. A sender's.
     Start(u64),
-    /// The host says the last packet again, since nothing came back.
+    /// The host says the packet of the mode, if it has one, since nothing came back.
     Resend,
-    /// A packet comes, with the word that an offer would be made under.
+    /// A packet comes, with the word that an offer would be made under. Whoever hands it in has looked at its stream.
     Deliver(OwnedPacket, u64),
     /// The host goes down, and forgets everything.
     Crash,

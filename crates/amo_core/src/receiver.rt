@@ -67,8 +67,9 @@ impl GetRefusal {
 ///       Down <---- crash, from every mode
 /// ```
 ///
-/// A send under any other identifier is answered by an ack that says "not known here", and the send of `Ack(id)` by
-/// one that says "got". A resend says accept or that ack again.
+/// The needuid of an offer is answered by its accept again. A send under any other identifier is answered by an ack that
+/// says "not known here", and the send of `Ack(id)` by one that says "got". A resend says that accept or that ack. While
+/// the host is down nothing is answered.
 #[derive(Drop)]
 pub struct Receiver {
     stream: u32,

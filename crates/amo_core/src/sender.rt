@@ -91,7 +91,8 @@ pub enum AckReply {
 ///        Down <---- crash, from every mode; the waiting list is forgotten too
 /// ```
 ///
-/// Any other accept is answered by a cleanup, and so is any ack that says "got". A resend says needuid or send again.
+/// An accept that comes again in `Send(id, m)` is not answered. Any other accept is answered by a cleanup, and so is any
+/// ack that says "got". A resend says needuid or send again. While the host is down nothing is answered.
 #[derive(Drop)]
 pub struct Sender {
     stream: u32,

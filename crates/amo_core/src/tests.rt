@@ -101,6 +101,18 @@ fn handshake(rt: HostRuntime) -> Result<(), Fail> {
     Ok(())
 }
 
+/// A sender says the packet of its mode again, and nothing at rest.
+#[test]
+fn sender_says_its_packet_again(rt: HostRuntime) -> Result<(), Fail> {
+    let mut sender = sender_with(rt.alloc(), b"a")?;
+    assert_eq!(rt; Datagram::of(sender.resend()).length, 0);
+    assert_eq!(rt; Datagram::of(sender.start(7)).bytes(), NEEDUID_7);
+    assert_eq!(rt; Datagram::of(sender.resend()).bytes(), NEEDUID_7);
+    to_sender(&mut sender, ACCEPT_7_9)?;
+    assert_eq!(rt; Datagram::of(sender.resend()).bytes(), SEND_9_A);
+    Ok(())
+}
+
 /// The longest message makes the longest packet.
 #[test]
 fn longest_message(rt: HostRuntime) -> Result<(), Fail> {
@@ -212,6 +224,22 @@ fn steps(rt: HostRuntime) -> Result<(), Fail> {
     assert!(rt; matches!(outcome.reply, Some(Reply::Done)));
     assert_eq!(rt; outcome.length, Some(24));
     assert_eq!(rt; &buffer[..24], ACCEPT_7_9);
+    Ok(())
+}
+
+/// The same of a sender.
+#[test]
+fn steps_of_a_sender(rt: HostRuntime) -> Result<(), Fail> {
+    let mut side = Automaton::Sender(sender_with(rt.alloc(), b"a")?);
+    let mut buffer = [0; MAX_PACKET];
+    assert!(rt; side.replies(&Act::Ack, &Reply::NotYet));
+    assert!(rt; !side.replies(&Act::Ack, &Reply::Yes));
+    let act = Act::Start(7);
+    assert_eq!(rt; side.used_word(&act), Some(7));
+    let outcome = side.step(act, &mut buffer);
+    assert!(rt; matches!(outcome.reply, Some(Reply::Done)));
+    assert_eq!(rt; outcome.length, Some(16));
+    assert_eq!(rt; &buffer[..16], NEEDUID_7);
     Ok(())
 }
 

@@ -43,7 +43,7 @@ impl Receiver {
         }
     }
 
-    /// Says the packet of the mode again: the offer, or that the message was got.
+    /// Says the packet of the mode: the offer again, or that the message was got.
     pub fn resend(&self) -> Option<Packet<'_>>
         ensures row { table.row self.now act.Resend ≡ done self.now (option_map packet_of result) }
         ensures fits { IfSome result (λ p. message_of (body_of p.body) ≡ []) }
@@ -66,7 +66,7 @@ impl Receiver {
     }
 
     /// Takes a message under the identifier that was offered last, and holds it for the client. A message under any
-    /// other identifier is dropped, and answered for unless it is held already.
+    /// other identifier is dropped, and answered for unless it is held already, or the receiver is down.
     pub fn send(&mut self, id: u64, message: Message) -> Option<Packet<'_>>
         ensures* row { sem 𝓛 (Rests the_row self.entry (λ new. table.send self.old self.old.mode id message ≡ done new (option_map packet_of result))) }
         ensures fits { IfSome result (λ p. message_of (body_of p.body) ≡ []) }

@@ -66,7 +66,7 @@ impl Sender {
     }
 
     /// Takes the identifier that the receiver offers for the sender's word, and emits the message under it. Any other
-    /// offer is given back by a cleanup, unless the message is being sent under it already.
+    /// offer is given back by a cleanup, unless the message is being sent under it already, or the sender is down.
     pub fn accept(&mut self, jd: u64, id: u64) -> Option<Packet<'_>>
         ensures* row { sem 𝓛 (Rests the_row self.entry (λ new. table.accept self.old self.old.mode jd id ≡ done new (option_map packet_of result))) }
         ensures fits { IfSome result (λ p. length (message_of (body_of p.body)) ≤ MAX_MESSAGE) }
@@ -108,7 +108,7 @@ impl Sender {
         }
     }
 
-    /// Hears whether the message of an identifier was got. That settles the current message, if it was sent under it.
+    /// Hears that the message of an identifier was got, or that the receiver does not know it. That settles the current message, if it was sent under it.
     /// An answer that says "got" is followed by a cleanup, in every mode but down.
     pub fn ack(&mut self, id: u64, got: bool) -> Option<Packet<'_>>
         ensures* row { sem 𝓛 (Rests the_row self.entry (λ new. table.ack self.old self.old.mode id got ≡ done new (option_map packet_of result))) }
