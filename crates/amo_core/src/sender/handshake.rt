@@ -108,8 +108,8 @@ impl Sender {
         }
     }
 
-    /// Hears that the message of an identifier was got, or that the receiver does not know it. That settles the current message, if it was sent under it.
-    /// An answer that says "got" is followed by a cleanup, in every mode but down.
+    /// Hears that the message of an identifier was got, or that the receiver does not know it. That settles the current
+    /// message, if it was sent under it. An answer that says "got" is followed by a cleanup, in every mode but down.
     pub fn ack(&mut self, id: u64, got: bool) -> Option<Packet<'_>>
         ensures* row { sem 𝓛 (Rests the_row self.entry (λ new. table.ack self.old self.old.mode id got ≡ done new (option_map packet_of result))) }
         ensures fits { IfSome result (λ p. length (message_of (body_of p.body)) ≤ MAX_MESSAGE) }
