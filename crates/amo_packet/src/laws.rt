@@ -33,11 +33,12 @@ pub fn bytes_without_a_fault_spell_a_packet()
 {}
 
 /// A spelling is as long as its kind's fixed part and its message together. A message is within [`MAX_MESSAGE`], so a
-/// spelling is within [`MAX_PACKET`].
+/// spelling is within [`MAX_PACKET`]. These two are 1024 and 1042.
 pub fn spellings_are_bounded()
     ensures length_of { (p : OwnedPacket) → length (spelling p) ≡ fixed_length (kind_of p.body) + length (message_of p.body) }
     ensures message { (p : OwnedPacket) → IsSpellable p → length (message_of p.body) ≤ MAX_MESSAGE }
     ensures bounded { (p : OwnedPacket) → IsSpellable p → length (spelling p) ≤ MAX_PACKET }
+    ensures limits { (MAX_MESSAGE ≡ 1024) × (MAX_PACKET ≡ 1042) }
 {}
 
 /// A spelling consists of bytes, where its message does.

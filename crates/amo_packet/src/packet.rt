@@ -12,7 +12,7 @@ pub enum OwnedBody {
     Accept(u64, u64),
     /// The sender sends its message under the identifier.
     Send(u64, Message),
-    /// The receiver says whether the message of the identifier was got.
+    /// The receiver says that the message of the identifier was got, or that the identifier is not known there.
     Ack(u64, bool),
     /// The sender is done with the identifier.
     Cleanup(u64),
@@ -36,7 +36,7 @@ pub enum Body<'a> {
     Accept(u64, u64),
     /// The sender sends its message under the identifier.
     Send(u64, &'a [u8]),
-    /// The receiver says whether the message of the identifier was got.
+    /// The receiver says that the message of the identifier was got, or that the identifier is not known there.
     Ack(u64, bool),
     /// The sender is done with the identifier.
     Cleanup(u64),

@@ -17,7 +17,8 @@ use crate::{Body, MAX_MESSAGE, Packet, ReadFault};
 use byteorder::{BigEndian, ByteOrder};
 use std::cmp::Ordering;
 
-/// The packet that all of the bytes spell. A message is borrowed from where it lies in them.
+/// The packet that all of the bytes spell, or their first fault in the order that [`ReadFault`] tells. A message is
+/// borrowed from where it lies in them.
 pub fn read(bytes: &[u8]) -> Result<Packet<'_>, ReadFault>
     // What is read is what the bytes spell, and what they spell is read.
     ensures found { IfOk result (λ p. Spells bytes.now (packet_of p)) }
