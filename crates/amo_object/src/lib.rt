@@ -4,7 +4,7 @@
 //!
 //! A sender puts messages, a receiver gets them in the order put, and each is got at most once. A message
 //! may be lost instead, but only while a host is down. The sender may ask what became of its last message:
-//! it was got (yes), it may or may not have been got (no), or it still waits and there is no answer yet.
+//! it was got (yes), a host crashed and it may or may not have been got (no), or it still waits and there is no answer yet.
 //! The object is that of Lampson, Lynch and Søgaard-Andersen, "Correctness of At-Most-Once
 //! Message Delivery Protocols" (1993); Lynch, "Distributed Algorithms" (1996), chapter 22, presents the
 //! protocols that implement it.

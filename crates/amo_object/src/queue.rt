@@ -15,7 +15,7 @@ pub enum QueueFault {
     NotAllowed,
     /// The machine's fault: no memory for one more message. Only a put that is allowed meets it. The queue
     /// stays as it was.
-    #[error("no memory")]
+    #[error("out of memory")]
     NoMemory,
 }
 

@@ -1,4 +1,6 @@
 //! The steps of the queue.
+ghost use Rattle.std.specs.Prelude.{◌≡◌};
+
 use crate::Bytes;
 
 /// The two sides of a stream.
@@ -8,6 +10,20 @@ pub enum End {
     Sender,
     /// The side that gets.
     Receiver,
+}
+
+impl End {
+    ghost use Rattle.amo_object.specs.End.{other};
+
+    /// The other side of the stream.
+    pub fn other(self) -> End
+        ensures { result ≡ other self }
+    {
+        match self {
+            End::Sender => End::Receiver,
+            End::Receiver => End::Sender,
+        }
+    }
 }
 
 /// A step of the queue.
@@ -28,6 +44,6 @@ pub enum Step {
     DownReply(End),
     /// The message at a place, counted from 0, is lost.
     Lose(usize),
-    /// What was known of the last message put is lost, so that from now on it may or may not have been got.
+    /// What was known of the last message put is lost: from now on it, if one was put, may or may not have been got.
     LoseAck,
 }

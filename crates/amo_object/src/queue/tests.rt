@@ -80,7 +80,7 @@ fn faults_tell_their_number_and_cause(rt: HostRuntime) -> Result<(), Fail> {
             1,
             "the queue does not allow this step",
         ),
-        (QueueFault::NoMemory, 9, "no memory"),
+        (QueueFault::NoMemory, 9, "out of memory"),
     ] {
         assert_eq!(rt; fault.code(), code);
         assert_eq!(rt; format!(in rt.alloc(); "{fault}")?.as_str(), text);
