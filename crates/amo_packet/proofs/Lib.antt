@@ -3,3 +3,4 @@ pub mod Spellings
 pub mod Fields
 pub mod Faults
 pub mod Faultless
+pub mod Ties

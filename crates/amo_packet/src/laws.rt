@@ -1,11 +1,12 @@
 //! What holds of every packet and its spelling. A law is a function that does nothing: its contract is the law,
 //! and is proved like any other.
 ghost use Rattle.std.specs.Prelude.{◌≡◌, ◌≤◌, ◌<◌, ◌+◌, ℕ, List, ◌++◌, length, None, All};
+ghost use Rattle.std.specs.declared.cmp.Ordering.TheVariants.{Equal};
 ghost use Rattle.amo_packet.specs.declared.packet.OwnedPacket.{OwnedPacket};
 ghost use Rattle.amo_packet.specs.Grammar.{kind_of, message_of, spelling, IsSpellable, Spells};
 ghost use Rattle.amo_packet.specs.Fault.{fixed_length, first_fault};
 
-use crate::{MAX_MESSAGE, MAX_PACKET};
+use crate::{MAX_MESSAGE, MAX_PACKET, OwnedPacket};
 
 /// No packet's spelling begins another's: of two that begin the same bytes the packets are one, and so is what follows.
 pub fn no_spelling_begins_another()
@@ -44,4 +45,9 @@ pub fn spellings_are_bounded()
 /// A spelling consists of bytes, where its message does.
 pub fn spellings_are_bytes()
     ensures { (p : OwnedPacket) → All (λ b. b < 256) (message_of p.body) → All (λ b. b < 256) (spelling p) }
+{}
+
+/// Packets are told apart by their order: two that compare equal are one.
+pub fn packets_that_tie_are_one()
+    ensures { (p q : OwnedPacket) → ⟦<OwnedPacket as Ord>⟧.cmp p q ≡ Equal → p ≡ q }
 {}

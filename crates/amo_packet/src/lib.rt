@@ -43,8 +43,8 @@ mod writer;
 
 pub use fault::{NoRoom, ReadFault};
 pub use laws::{
-    bytes_without_a_fault_spell_a_packet, no_spelling_begins_another, spellings_are_bounded,
-    spellings_are_bytes, spellings_are_unique, what_is_written_is_read,
+    bytes_without_a_fault_spell_a_packet, no_spelling_begins_another, packets_that_tie_are_one,
+    spellings_are_bounded, spellings_are_bytes, spellings_are_unique, what_is_written_is_read,
 };
 pub use message::{MAX_MESSAGE, Message, MessageFault};
 pub use packet::{Body, OwnedBody, OwnedPacket, Packet};

@@ -1,10 +1,13 @@
 //! Packets, with the message owned or borrowed.
-ghost use Rattle.std.specs.Prelude.{◌≡◌};
+ghost use Rattle.std.specs.Prelude.{◌≡◌, ◌≢◌, ◌<◌, ◌≤◌, ◌↔◌, [], length, IfOk, IsErrOf};
+ghost use Rattle.amo_packet.specs.Grammar.{message_of};
+ghost use Rattle.amo_packet.specs.Packet.{packet_of, body_of};
 
-use crate::Message;
+use crate::{MAX_MESSAGE, Message, MessageFault};
+use std::alloc::Global;
 
 /// What a packet says, with a message of its own.
-#[derive(Debug, Drop)]
+#[derive(Clone, Debug, PartialEq, Eq, PartialOrd, Ord, Drop)]
 pub enum OwnedBody {
     /// The sender asks for an identifier, under a word of its own.
     NeedUid(u64),
@@ -19,7 +22,7 @@ pub enum OwnedBody {
 }
 
 /// A packet that owns its message. Contracts speak of every packet as one of these.
-#[derive(Debug, Drop)]
+#[derive(Clone, Debug, PartialEq, Eq, PartialOrd, Ord, Drop)]
 pub struct OwnedPacket {
     /// The stream's number. A packet may name any.
     pub stream: u32,
@@ -52,11 +55,10 @@ pub struct Packet<'a> {
 }
 
 impl OwnedBody {
-    ghost use Rattle.amo_packet.specs.Packet.{body_of};
-
     /// What is said, with the message borrowed.
     pub fn as_body(&self) -> Body<'_>
-        ensures { body_of result ≡ self.now }
+        ensures value { body_of result ≡ self.now }
+        ensures bounded { length (message_of self.now) ≤ MAX_MESSAGE }
     {
         match self {
             OwnedBody::NeedUid(jd) => Body::NeedUid(*jd),
@@ -69,15 +71,46 @@ impl OwnedBody {
 }
 
 impl OwnedPacket {
-    ghost use Rattle.amo_packet.specs.Packet.{packet_of};
-
     /// The packet, with its message borrowed.
     pub fn as_packet(&self) -> Packet<'_>
-        ensures { packet_of result ≡ self.now }
+        ensures value { packet_of result ≡ self.now }
+        ensures bounded { length (message_of self.now.body) ≤ MAX_MESSAGE }
     {
         Packet {
             stream: self.stream,
             body: self.body.as_body(),
         }
+    }
+}
+
+impl Body<'_> {
+    /// What is said, with the message copied. It takes memory only for a message with a byte to copy.
+    pub fn to_owned(&self, alloc: Global) -> Result<OwnedBody, MessageFault>
+        ensures ok { IfOk result (λ body. body ≡ body_of self.now) }
+        ensures too_long { IsErrOf result MessageFault.TooLong ↔ (MAX_MESSAGE < length (message_of (body_of self.now))) }
+        ensures memory { IsErrOf result MessageFault.NoMemory → message_of (body_of self.now) ≢ [] }
+    {
+        Ok(match self {
+            Body::NeedUid(jd) => OwnedBody::NeedUid(*jd),
+            Body::Accept(jd, id) => OwnedBody::Accept(*jd, *id),
+            Body::Send(id, message) => OwnedBody::Send(*id, Message::copy(alloc, message)?),
+            Body::Ack(id, got) => OwnedBody::Ack(*id, *got),
+            Body::Cleanup(id) => OwnedBody::Cleanup(*id),
+        })
+    }
+}
+
+impl Packet<'_> {
+    /// The packet, with its message copied. It takes memory only for a message with a byte to copy.
+    pub fn to_owned(&self, alloc: Global) -> Result<OwnedPacket, MessageFault>
+        ensures ok { IfOk result (λ packet. packet ≡ packet_of self.now) }
+        ensures too_long { IsErrOf result MessageFault.TooLong ↔ (MAX_MESSAGE < length (message_of (body_of self.now.body))) }
+        ensures memory { IsErrOf result MessageFault.NoMemory → message_of (body_of self.now.body) ≢ [] }
+    {
+        let body = self.body.to_owned(alloc)?;
+        Ok(OwnedPacket {
+            stream: self.stream,
+            body,
+        })
     }
 }

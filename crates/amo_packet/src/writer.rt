@@ -15,7 +15,8 @@ pub const MAX_PACKET: usize = HEADER_LENGTH + SEND_LENGTH + MAX_MESSAGE;
 
 /// Writes the packet's spelling at the front of the buffer, and answers its length in bytes. What is behind it stays.
 ///
-/// A message is at most [`MAX_MESSAGE`] bytes. [`NoRoom`] comes where the buffer is shorter than the spelling. A buffer of [`MAX_PACKET`] bytes always has room.
+/// A message is at most [`MAX_MESSAGE`] bytes. [`NoRoom`] comes where the buffer is shorter than the spelling. A buffer of
+/// [`MAX_PACKET`] bytes always has room.
 #[tactic(auto, unfolding(crate::specs::Grammar::spelling))]
 pub fn write(packet: &Packet<'_>, buffer: &mut [u8]) -> Result<usize, NoRoom>
     requires { length (message_of (body_of packet.now.body)) ≤ MAX_MESSAGE }
