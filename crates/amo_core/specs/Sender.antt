@@ -86,7 +86,7 @@ deliver s (packet.Accept jd id) = accept s s.mode jd id
 deliver s (packet.Ack id got) = ack s s.mode id got
 deliver s _ = quietly s
 
--- what was put last may or may not have been got
+-- up again, with what was put last, if anything, forgotten: it may or may not have been got
 abbrev pub recover : State → SenderMode → Row State
 recover s Down = quietly (record s { mode = Quiet false; waiting = [] })
 recover s _ = quietly s

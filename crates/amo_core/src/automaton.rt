@@ -107,4 +107,15 @@ impl Automaton {
             Automaton::Receiver(receiver) => receiver.used_word(act),
         }
     }
+
+    /// The packet that the act would emit, if any.
+    pub fn emission(&self, act: &Act) -> Option<Packet<'_>>
+        ensures value { option_map packet_of result ≡ (row self.now act.now).emitted }
+        ensures fits { ForSome result (λ p. length (message_of (body_of p.body)) ≤ MAX_MESSAGE) }
+    {
+        match self {
+            Automaton::Sender(sender) => sender.emission(act),
+            Automaton::Receiver(receiver) => receiver.emission(act),
+        }
+    }
 }

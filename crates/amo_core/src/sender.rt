@@ -3,6 +3,7 @@ ghost use Rattle.std.specs.Prelude.{◌≡◌, IfErr};
 ghost use Rattle.amo_core.specs.Sender as table;
 ghost use Rattle.amo_core.specs.declared.act.Act.TheVariants as act;
 
+mod emission;
 mod handshake;
 mod judge;
 mod step;

@@ -1,12 +1,6 @@
 //! A handshake driven by hand, packets as bytes in between, and the corners of both automata.
-ghost use Rattle.std.specs.Prelude.{◌≡◌, ◌≤◌, length};
-ghost use Rattle.std.specs.Option.{ForSome};
-ghost use Rattle.amo_packet.specs.Packet.{body_of};
-ghost use Rattle.amo_packet.specs.Grammar.{message_of};
-
-use crate::automaton::emit;
 use crate::{AckReply, Act, Automaton, GetRefusal, Mode, PutRefusal, Receiver, Reply, Sender};
-use amo_packet::{Body, MAX_MESSAGE, MAX_PACKET, Message, OwnedBody, OwnedPacket, Packet, read};
+use amo_packet::{MAX_MESSAGE, MAX_PACKET, Message, OwnedBody, OwnedPacket, read};
 use std::alloc::Global;
 use std::test::Fail;
 
@@ -30,21 +24,32 @@ struct Datagram {
 }
 
 impl Datagram {
-    /// The emitted packet as bytes; no bytes where none was emitted.
-    fn of(packet: Option<Packet<'_>>) -> Datagram
-        requires { ForSome packet (λ p. length (message_of (body_of p.body)) ≤ MAX_MESSAGE) }
-    {
-        let mut bytes = [0; MAX_PACKET];
-        let length = emit(packet, &mut bytes).unwrap_or(0);
-        Datagram { bytes, length }
-    }
-
     fn bytes(&self) -> &[u8] {
         match self.bytes.get(..self.length) {
             Some(bytes) => bytes,
             None => &[],
         }
     }
+}
+
+/// What an act of the sender emits; no bytes where it emits nothing.
+fn sender_emits(sender: &mut Sender, act: Act) -> Datagram {
+    let mut bytes = [0; MAX_PACKET];
+    let length = sender.step(act, &mut bytes).length.unwrap_or(0);
+    Datagram { bytes, length }
+}
+
+/// What an act of the receiver emits; no bytes where it emits nothing.
+fn receiver_emits(receiver: &mut Receiver, act: Act) -> Datagram {
+    let mut bytes = [0; MAX_PACKET];
+    let length = receiver.step(act, &mut bytes).length.unwrap_or(0);
+    Datagram { bytes, length }
+}
+
+/// The delivery of a datagram, with word 9 for an offer.
+fn delivery(alloc: Global, datagram: &[u8]) -> Result<Act, Fail> {
+    let packet = read(datagram)?.to_owned(alloc)?;
+    Ok(Act::Deliver(packet, 9))
 }
 
 /// The sender of stream 1 with this message waiting.
@@ -55,25 +60,13 @@ fn sender_with(alloc: Global, bytes: &[u8]) -> Result<Sender, Fail> {
 }
 
 /// Hands a datagram to a sender, and answers the one that it emits.
-fn to_sender(sender: &mut Sender, datagram: &[u8]) -> Result<Datagram, Fail> {
-    match read(datagram)?.body {
-        Body::Accept(jd, id) => Ok(Datagram::of(sender.accept(jd, id))),
-        Body::Ack(id, got) => Ok(Datagram::of(sender.ack(id, got))),
-        _ => Err("a packet for a sender".into()),
-    }
+fn to_sender(alloc: Global, sender: &mut Sender, datagram: &[u8]) -> Result<Datagram, Fail> {
+    Ok(sender_emits(sender, delivery(alloc, datagram)?))
 }
 
-/// Hands a datagram to a receiver, with word 9 for an offer, and answers the one that it emits.
+/// Hands a datagram to a receiver, and answers the one that it emits.
 fn to_receiver(alloc: Global, receiver: &mut Receiver, datagram: &[u8]) -> Result<Datagram, Fail> {
-    match read(datagram)?.body {
-        Body::NeedUid(jd) => Ok(Datagram::of(receiver.needuid(jd, 9))),
-        Body::Send(id, bytes) => {
-            let message = Message::copy(alloc, bytes)?;
-            Ok(Datagram::of(receiver.send(id, message)))
-        }
-        Body::Cleanup(id) => Ok(Datagram::of(receiver.cleanup(id))),
-        _ => Err("a packet for a receiver".into()),
-    }
+    Ok(receiver_emits(receiver, delivery(alloc, datagram)?))
 }
 
 /// Each packet of a handshake is the other side's next input.
@@ -81,18 +74,18 @@ fn to_receiver(alloc: Global, receiver: &mut Receiver, datagram: &[u8]) -> Resul
 fn handshake(rt: HostRuntime) -> Result<(), Fail> {
     let mut sender = sender_with(rt.alloc(), b"a")?;
     let mut receiver = Receiver::new(1);
-    let asked = Datagram::of(sender.start(7));
+    let asked = sender_emits(&mut sender, Act::Start(7));
     assert_eq!(rt; asked.bytes(), NEEDUID_7);
     let offered = to_receiver(rt.alloc(), &mut receiver, asked.bytes())?;
     assert_eq!(rt; offered.bytes(), ACCEPT_7_9);
-    let sent = to_sender(&mut sender, offered.bytes())?;
+    let sent = to_sender(rt.alloc(), &mut sender, offered.bytes())?;
     assert_eq!(rt; sent.bytes(), SEND_9_A);
     let silent = to_receiver(rt.alloc(), &mut receiver, sent.bytes())?;
     assert_eq!(rt; silent.length, 0);
     assert_eq!(rt; receiver.get()?.bytes(), b"a".as_slice());
-    let got = Datagram::of(receiver.resend());
+    let got = receiver_emits(&mut receiver, Act::Resend);
     assert_eq!(rt; got.bytes(), ACK_9_YES);
-    let done = to_sender(&mut sender, got.bytes())?;
+    let done = to_sender(rt.alloc(), &mut sender, got.bytes())?;
     assert_eq!(rt; done.bytes(), CLEANUP_9);
     let silent = to_receiver(rt.alloc(), &mut receiver, done.bytes())?;
     assert_eq!(rt; silent.length, 0);
@@ -105,11 +98,11 @@ fn handshake(rt: HostRuntime) -> Result<(), Fail> {
 #[test]
 fn sender_says_its_packet_again(rt: HostRuntime) -> Result<(), Fail> {
     let mut sender = sender_with(rt.alloc(), b"a")?;
-    assert_eq!(rt; Datagram::of(sender.resend()).length, 0);
-    assert_eq!(rt; Datagram::of(sender.start(7)).bytes(), NEEDUID_7);
-    assert_eq!(rt; Datagram::of(sender.resend()).bytes(), NEEDUID_7);
-    to_sender(&mut sender, ACCEPT_7_9)?;
-    assert_eq!(rt; Datagram::of(sender.resend()).bytes(), SEND_9_A);
+    assert_eq!(rt; sender_emits(&mut sender, Act::Resend).length, 0);
+    assert_eq!(rt; sender_emits(&mut sender, Act::Start(7)).bytes(), NEEDUID_7);
+    assert_eq!(rt; sender_emits(&mut sender, Act::Resend).bytes(), NEEDUID_7);
+    to_sender(rt.alloc(), &mut sender, ACCEPT_7_9)?;
+    assert_eq!(rt; sender_emits(&mut sender, Act::Resend).bytes(), SEND_9_A);
     Ok(())
 }
 
@@ -118,8 +111,11 @@ fn sender_says_its_packet_again(rt: HostRuntime) -> Result<(), Fail> {
 fn longest_message(rt: HostRuntime) -> Result<(), Fail> {
     let bytes = vec![in rt.alloc(); 0x61; MAX_MESSAGE]?;
     let mut sender = sender_with(rt.alloc(), bytes.as_slice())?;
-    assert_eq!(rt; Datagram::of(sender.start(7)).bytes(), NEEDUID_7);
-    assert_eq!(rt; to_sender(&mut sender, ACCEPT_7_9)?.length, 1042);
+    assert_eq!(rt; sender_emits(&mut sender, Act::Start(7)).bytes(), NEEDUID_7);
+    assert_eq!(rt;
+        to_sender(rt.alloc(), &mut sender, ACCEPT_7_9)?.length,
+        1042
+    );
     Ok(())
 }
 
@@ -169,11 +165,17 @@ fn sender_crashes_and_recovers(rt: HostRuntime) -> Result<(), Fail> {
     sender.crash();
     assert_eq!(rt; sender.mode(), Mode::Down);
     assert_eq!(rt; sender.get_ack(), AckReply::Down);
-    assert_eq!(rt; to_sender(&mut sender, ACK_9_YES)?.length, 0);
+    assert_eq!(rt; to_sender(rt.alloc(), &mut sender, ACK_9_YES)?.length, 0);
     sender.recover();
     assert_eq!(rt; sender.get_ack(), AckReply::No);
-    assert_eq!(rt; to_sender(&mut sender, ACK_9_YES)?.bytes(), CLEANUP_9);
-    assert_eq!(rt; to_sender(&mut sender, ACCEPT_7_9)?.bytes(), CLEANUP_9);
+    assert_eq!(rt;
+        to_sender(rt.alloc(), &mut sender, ACK_9_YES)?.bytes(),
+        CLEANUP_9
+    );
+    assert_eq!(rt;
+        to_sender(rt.alloc(), &mut sender, ACCEPT_7_9)?.bytes(),
+        CLEANUP_9
+    );
     Ok(())
 }
 

@@ -56,7 +56,7 @@ impl Receiver {
     }
 
     /// A packet of this stream.
-    fn packet<'a>(&self, body: Body<'a>) -> Packet<'a>
+    pub(crate) fn packet<'a>(&self, body: Body<'a>) -> Packet<'a>
         ensures { packet_of result ≡ record { stream = self.now.stream; body = body_of body.entry } }
     {
         Packet {
@@ -93,7 +93,7 @@ impl Receiver {
     }
 
     /// Answers for an identifier that is not offered.
-    fn answer(&self, id: u64) -> Option<Packet<'_>>
+    pub(crate) fn answer(&self, id: u64) -> Option<Packet<'_>>
         requires { offers self.now.mode id ≡ false }
         ensures fits { IfSome result (λ p. message_of (body_of p.body) ≡ []) }
         ensures row { (m : List ℕ) → table.send self.now self.now.mode id m ≡ done self.now (option_map packet_of result) }

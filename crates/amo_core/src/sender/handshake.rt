@@ -56,7 +56,7 @@ impl Sender {
     }
 
     /// A packet of this stream.
-    fn packet<'a>(&self, body: Body<'a>) -> Packet<'a>
+    pub(crate) fn packet<'a>(&self, body: Body<'a>) -> Packet<'a>
         ensures { packet_of result ≡ record { stream = self.now.stream; body = body_of body.entry } }
     {
         Packet {
@@ -96,7 +96,7 @@ impl Sender {
     }
 
     /// Gives an offer back that was not awaited.
-    fn decline(&self, jd: u64, id: u64) -> Option<Packet<'_>>
+    pub(crate) fn decline(&self, jd: u64, id: u64) -> Option<Packet<'_>>
         requires { awaits self.now.mode jd ≡ false }
         ensures fits { IfSome result (λ p. length (message_of (body_of p.body)) ≤ MAX_MESSAGE) }
         ensures row { table.accept self.now self.now.mode jd id ≡ done self.now (option_map packet_of result) }
@@ -131,10 +131,10 @@ impl Sender {
     }
 
     /// Lets the receiver forget an identifier whose message was got.
-    fn clean_up(&self, id: u64, got: bool) -> Option<Packet<'_>>
-        requires { is_sending self.now.mode id ≡ false }
+    pub(crate) fn clean_up(&self, id: u64, got: bool) -> Option<Packet<'_>>
         ensures fits { IfSome result (λ p. length (message_of (body_of p.body)) ≤ MAX_MESSAGE) }
-        ensures row { table.ack self.now self.now.mode id got ≡ done self.now (option_map packet_of result) }
+        ensures emitted { option_map packet_of result ≡ (table.ack self.now self.now.mode id got).emitted }
+        ensures row { is_sending self.now.mode id ≡ false → table.ack self.now self.now.mode id got ≡ done self.now (option_map packet_of result) }
     {
         match &self.mode {
             SenderMode::Down => None,
