@@ -8,7 +8,7 @@ use std::alloc::AllocError;
 
 /// Reads the bytes that this text spells into the front of `room`, and answers how many they are.
 ///
-/// None where it spells no bytes, or more than the room takes: the room is then unchanged.
+/// None where the text is no HEX, or spells more bytes than the room takes: the room is then unchanged.
 pub fn read_hex(text: &[u8], room: &mut [u8]) -> Option<usize>
     ensures found { IfSome result (λ n. text.now ≡ hex (take n room.new)) }
     ensures within { IfSome result (λ n. n ≤ length room.new) }

@@ -25,7 +25,7 @@ pub fn next_line(text: &[u8]) -> Option<(&[u8], &[u8])>
     cut(text, b'\n')
 }
 
-/// The first word and the words after it, where there are two at least.
+/// The first word and what stands behind the space after it, where there is a space. A word may be empty.
 pub fn next_word(text: &[u8]) -> Option<(&[u8], &[u8])>
     ensures found { IfSome result (λ parts. (text.now ≡ parts.0.now ++ 32 ∷ parts.1.now) × Lacks 32 parts.0.now) }
     ensures none { IfNone result (Lacks 32 text.now) }
