@@ -14,7 +14,8 @@ use Rattle.amo_world.specs.declared.event.Event.{Event}
 use Rattle.amo_object.specs.declared.step.Step.{Step}
 use Rattle.amo_object.specs.declared.step.Step.TheVariants as step
 use Rattle.amo_object.specs.Run.{IsRun, without_losses}
-use Rattle.amo_world.specs.History.{Emission, event_emission, emissions, IsRight, IsHonest, IsFresh}
+use Rattle.amo_world.specs.declared.emission.Emission.{Emission}
+use Rattle.amo_world.specs.History.{event_emission, emissions, IsRight, IsHonest, IsFresh}
 use Rattle.amo_world.specs.Served.{calls}
 
 -- an event, and what it emits

@@ -3,11 +3,12 @@ use Rattle.std.specs.Prelude.{◌≡◌, ℕ, ◌==◌, Bool, true, false, Optio
 use Rattle.std.specs.List.{Contains}
 use Rattle.std.specs.Option.{option_to_list, option_map}
 use Rattle.amo_object.specs.declared.step.End.{End}
-use Rattle.amo_packet.specs.declared.packet.OwnedPacket.{OwnedPacket}
+use Rattle.amo_object.specs.End.{other}
 use Rattle.amo_core.specs.declared.act.Act.{Act}
 use Rattle.amo_core.specs.declared.act.Act.TheVariants.{Deliver, Crash}
+use Rattle.amo_world.specs.declared.emission.Emission.{Emission}
 use Rattle.amo_world.specs.declared.event.Event.{Event}
-use Rattle.amo_world.specs.Stream.{Stream, initial, after, other, reply_of, emission_of, word_of, emitted_by, words_of}
+use Rattle.amo_world.specs.Stream.{Stream, initial, after, reply_of, emission_of, word_of, emitted_by, words_of}
 
 -- a stream after an event, if the event is one of its own
 abbrev pub after_if : Bool → Stream → Event → Stream
@@ -47,16 +48,14 @@ abbrev pub IsHonest : List Event → Type 0
 IsHonest events = Along DeliversEmitted events
 
 -- fresh: a word that is used up was not used up before, by that side of the stream
+abbrev pub IsNewWord : Stream → End → Act → Type 0
+IsNewWord s side act = IfSome (word_of s side act) (λ word. ¬ (Contains (words_of s side) word))
+
 abbrev pub UsesNewWord : List Event → Event → Type 0
-UsesNewWord past e = IfSome (word_of (stream_before past e) e.side e.act) (λ word. ¬ (Contains (words_of (stream_before past e) e.side) word))
+UsesNewWord past e = IsNewWord (stream_before past e) e.side e.act
 
 abbrev pub IsFresh : List Event → Type 0
 IsFresh events = Along UsesNewWord events
-
--- a packet emitted, and the side that emitted it
-pub record Emission : Type 0 where
-  pub side : End
-  pub packet : OwnedPacket
 
 -- what an event emitted
 abbrev pub event_emission : List Event → Event → Option Emission
@@ -78,3 +77,7 @@ IsCalmEvent past e = IsCalmAct e.act
 
 abbrev pub IsCalm : List Event → Type 0
 IsCalm events = Along IsCalmEvent events
+
+-- a history that goes on from another
+abbrev pub Extends : List Event → List Event → Type 0
+Extends later earlier = (newer : List Event) × (later ≡ newer ++ earlier)

@@ -2,3 +2,8 @@ pub mod Stream
 pub mod History
 pub mod Served
 pub mod Example
+pub mod Emission
+pub mod Side
+pub mod Sides
+pub mod World
+pub mod Fault

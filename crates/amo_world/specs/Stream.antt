@@ -1,14 +1,20 @@
 -- A stream: what its events leave of both its sides.
-use Rattle.std.specs.Prelude.{ℕ, Option, List, [], ◌++◌}
+use Rattle.std.specs.Prelude.{ℕ, ◌≤◌, Option, List, [], ◌++◌}
 use Rattle.std.specs.Option.{option_to_list}
 use Rattle.amo_object.specs.declared.step.End.{End}
 use Rattle.amo_object.specs.declared.step.End.TheVariants.{Sender, Receiver}
 use Rattle.amo_packet.specs.declared.packet.OwnedPacket.{OwnedPacket}
 use Rattle.amo_core.specs.declared.act.Act.{Act}
 use Rattle.amo_core.specs.declared.reply.Reply.{Reply}
+use Rattle.amo_core.specs.declared.automaton.Automaton.{Automaton}
+use Rattle.amo_core.specs.declared.automaton.Automaton.TheVariants as automaton
 use Rattle.amo_core.specs.Row.{Row}
 use Rattle.amo_core.specs.Sender as sender
 use Rattle.amo_core.specs.Receiver as receiver
+
+-- the streams of a host
+abbrev pub IsStream : ℕ → Type 0
+IsStream stream = (1 ≤ stream) × (stream ≤ 256)
 
 -- a side: the state of its automaton, the packets that it emitted, and the words that it used up, the newest first
 pub record Side (S : Type 0) : Type 0 where
@@ -38,10 +44,10 @@ pub record Stream : Type 0 where
 abbrev pub initial : ℕ → Stream
 initial number = record { sender = unused (sender.initial number); receiver = unused (receiver.initial number) }
 
--- the other side of a stream
-abbrev pub other : End → End
-other Sender = Receiver
-other Receiver = Sender
+-- the automaton of a side
+abbrev pub automaton_of : Stream → End → Automaton
+automaton_of s Sender = automaton.Sender s.sender.state
+automaton_of s Receiver = automaton.Receiver s.receiver.state
 
 -- what the row of an act replies, if the side has the act
 abbrev pub reply_of : Stream → End → Act → Option Reply

@@ -1,13 +1,15 @@
 //! Laws of histories. Each is the contract of a function that does nothing.
-ghost use Rattle.std.specs.Prelude.{◌≡◌, ◌≢◌, ℕ, ◌+◌, true, Some, List, [], ◌∷◌, ◌++◌, reverse, take, slice_get};
+ghost use Rattle.std.specs.Prelude.{◌≡◌, ◌≢◌, ℕ, ◌+◌, true, Some, List, [], ◌∷◌, ◌++◌, reverse, take, slice_get, IfSome};
+ghost use Rattle.std.specs.List.{Contains};
 ghost use Rattle.std.specs.Option.{option_to_list};
 ghost use Rattle.amo_object.specs.declared.step.Step.{Step};
 ghost use Rattle.amo_object.specs.declared.step.Step.TheVariants.{Put, Ack};
 ghost use Rattle.amo_object.specs.Run.{IsCrashFree};
 ghost use Rattle.amo_object.specs.Delivery.{messages_put, messages_got, IsSubsequence};
+ghost use Rattle.amo_world.specs.declared.emission.Emission.{Emission};
 ghost use Rattle.amo_world.specs.declared.event.Event.{Event};
-ghost use Rattle.amo_world.specs.Stream.{after};
-ghost use Rattle.amo_world.specs.History.{stream_after, stream_before, emissions, event_emission, IsRight, IsCalm};
+ghost use Rattle.amo_world.specs.Stream.{after, emitted_by};
+ghost use Rattle.amo_world.specs.History.{stream_after, stream_before, emissions, event_emission, IsRight, IsHonest, IsFresh, IsCalm, Extends};
 ghost use Rattle.amo_world.specs.Served.{call_of, calls, IsServed};
 
 /// What one event more changes: its own stream, by the row of its act, and no other.
@@ -42,4 +44,26 @@ pub fn served_streams()
 /// In a right history in which no packet comes and no host crashes, each stream is served.
 pub fn calm_histories_serve()
     ensures { (number : ℕ) (events : List Event) → IsRight events → IsCalm events → IsServed number events }
+{}
+
+/// A packet that was emitted bears the number of the stream of whose side it was, and that side emitted it.
+pub fn emitted_packets()
+    ensures bears { (past : List Event) (e : Event) → IfSome (event_emission past e) (λ x. x.packet.stream ≡ e.stream) }
+    ensures emitted { (past : List Event) (number : ℕ) → IfSome (slice_get (emissions past) number)
+        (λ x. Contains (emitted_by (stream_after x.packet.stream past) x.side) x.packet) }
+{}
+
+/// A history that goes on from an earlier one: where it is right, honest or fresh, so is the earlier one; and what was called
+/// and emitted in the earlier one comes first in it.
+pub fn longer_histories()
+    ensures itself { (past : List Event) → Extends past past }
+    ensures one_event { (past : List Event) (e : Event) → Extends (e ∷ past) past }
+    ensures further { (latest later earlier : List Event) → Extends latest later → Extends later earlier → Extends latest earlier }
+    ensures right { (later earlier : List Event) → Extends later earlier → IsRight later → IsRight earlier }
+    ensures honest { (later earlier : List Event) → Extends later earlier → IsHonest later → IsHonest earlier }
+    ensures fresh { (later earlier : List Event) → Extends later earlier → IsFresh later → IsFresh earlier }
+    ensures called { (number : ℕ) (later earlier : List Event) → Extends later earlier
+        → (more : List Step) × (calls number later ≡ calls number earlier ++ more) }
+    ensures emitted { (later earlier : List Event) → Extends later earlier
+        → (more : List Emission) × (emissions later ≡ emissions earlier ++ more) }
 {}

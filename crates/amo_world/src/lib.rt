@@ -1,5 +1,5 @@
 //! Events, histories, and what they mean: when a history is right, honest and fresh, and when it serves a stream.
-//! It runs no automaton and keeps no history yet: today it is what a reader has to believe, and the laws about it.
+//! A [`World`] keeps such a history: it accepts an event exactly where the history with it is right, honest and fresh.
 //!
 //! ```text
 //!   Event      what happened at one side of a stream, under whose pass, and what was told
@@ -7,9 +7,14 @@
 //!              nothing yet and one event more
 //!   right      every reply is the one of the tables, after all earlier events
 //!   honest     every packet delivered was emitted before, by the other side of its stream
-//!   fresh      no side of a stream uses a word twice
+//!   fresh      no side of a stream uses up a word twice
 //!   served     some run of the at-most-once queue has, with its losses left out, exactly the stream's calls
 //! ```
+//!
+//! A world keeps both sides of streams 1 to [`STREAMS`]: of each side its automaton, an index of the packets that it
+//! emitted, and the words that it used up. So it judges an event without reading the history again. It judges in the
+//! order of [`WorldFault`]'s three causes, the reply first; memory that is refused is told only of an event without a
+//! fault. It numbers the packets emitted over all streams, from 0, and tells each with its side.
 //!
 //! [`laws`] says what one event more changes and what a client may rely on where its stream is served; [`examples`] tells
 //! worked stories, among them one for each premise that shows what goes wrong without it.
@@ -18,10 +23,19 @@
 //! that this needs are [`laws::in_order_of_time`].
 #![tactic(auto)]
 
+mod emission;
 mod event;
 pub mod examples;
+mod fault;
 pub mod laws;
+mod side;
+mod sides;
+#[cfg(test)]
+mod tests;
+mod world;
 
 pub use amo_core::{Act, Reply};
 pub use amo_object::End;
 pub use event::Event;
+pub use fault::{NoMemory, WorldFault};
+pub use world::{STREAMS, World};
