@@ -1,0 +1,4 @@
+pub mod Permits
+pub mod Rising
+pub mod TimersLemmas
+pub mod WindowLemmas
