@@ -1,3 +1,3 @@
 pub mod Reading
-pub mod Telling
+pub mod Happenings
 pub mod Replays

@@ -1,34 +1,48 @@
 -- Schedules: lists of lines, and the bytes that spell them.
-use Rattle.std.specs.Prelude.{◌≡◌, ◌≢◌, ℕ, ◌+◌, ◌≤◌, Option, Some, None, List, [], ◌∷◌, ◌++◌, length, codes}
+use Rattle.std.specs.Prelude.{◌≡◌, ◌≢◌, ℕ, ◌+◌, ◌<◌, ◌≤◌, ◌^◌, Option, Some, None, List, [], ◌∷◌, ◌++◌, length, codes}
 use Rattle.std.specs.List.{flat_map, AllByRecursion}
 use Rattle.std.specs.Fmt.{decimal}
 use Rattle.hex.specs.Hex.{IsBytes}
+use Rattle.amo_world.specs.Stream.{IsStream}
 use Rattle.amo_audit.specs.Hexadecimal.{hex}
 use Rattle.amo_audit.specs.Line.{text_of, line_of}
+use Rattle.amo_object.specs.declared.step.End.{End}
+use Rattle.amo_object.specs.declared.step.End.TheVariants.{Sender, Receiver}
 use Rattle.amo_tool.specs.declared.schedule.ScheduleFault.{ScheduleFault}
 use Rattle.amo_tool.specs.declared.schedule.ScheduleFault.TheVariants.{NoMemory, Malformed}
 use Rattle.amo_tool.specs.declared.schedule.Line.{Line}
-use Rattle.amo_tool.specs.declared.schedule.Line.TheVariants.{Put, Get, Ack}
+use Rattle.amo_tool.specs.declared.schedule.Line.TheVariants.{Put, Get, Ack, Start, Resend, Deliver, Crash, Recover}
+
+-- the letter of a side
+abbrev pub letter_of : End → List ℕ
+letter_of Sender = codes "s"
+letter_of Receiver = codes "r"
 
 -- the words of a line
 abbrev pub words_of : Line → List (List ℕ)
 words_of (Put stream m) = codes "put" ∷ decimal stream ∷ hex m ∷ []
 words_of (Get stream) = codes "get" ∷ decimal stream ∷ []
 words_of (Ack stream) = codes "ack" ∷ decimal stream ∷ []
+words_of (Start stream word) = codes "start" ∷ decimal stream ∷ decimal word ∷ []
+words_of (Resend side stream) = codes "resend" ∷ letter_of side ∷ decimal stream ∷ []
+words_of (Deliver number word) = codes "deliver" ∷ decimal number ∷ decimal word ∷ []
+words_of (Crash side stream) = codes "crash" ∷ letter_of side ∷ decimal stream ∷ []
+words_of (Recover side stream) = codes "recover" ∷ letter_of side ∷ decimal stream ∷ []
 
 -- a line, with its end
 abbrev pub spelling_of : Line → List ℕ
 spelling_of line = line_of (words_of line)
-
--- the streams of a host
-abbrev pub IsStream : ℕ → Type 0
-IsStream stream = (1 ≤ stream) × (stream ≤ 256)
 
 -- the lines that there are
 abbrev pub InRange : Line → Type 0
 InRange (Put stream m) = IsStream stream × (length m ≤ 1024) × IsBytes m
 InRange (Get stream) = IsStream stream
 InRange (Ack stream) = IsStream stream
+InRange (Start stream word) = IsStream stream × (word < 2 ^ 64)
+InRange (Resend side stream) = IsStream stream
+InRange (Deliver number word) = (number < 2 ^ 64) × (word < 2 ^ 64)
+InRange (Crash side stream) = IsStream stream
+InRange (Recover side stream) = IsStream stream
 
 -- the bytes are these lines
 abbrev pub Spells : List Line → List ℕ → Type 0

@@ -1,9 +1,9 @@
-//! The program `amo`: replays schedules of client calls on both automata of 256 streams, and prints what they reply.
+//! The program `amo`: replays schedules on both automata of 256 streams, and prints what they reply and emit.
 //! It opens no socket and starts no thread yet.
 //!
 //! ```text
 //!   words      the program's words            choice    what they choose
-//!   schedule   lines, and how they are read   bench     both sides of every stream
+//!   schedule   lines, and how they are read   bench     both sides of every stream, with a world beside them
 //!   runner     replay: a line for each event  transcript, tell   what is printed
 //! ```
 #![tactic(auto)]

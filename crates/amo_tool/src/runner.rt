@@ -1,11 +1,11 @@
 //! Replays schedules.
-ghost use Rattle.std.specs.Prelude.{◌≡◌, ℕ, ◌<◌, List, ◌∷◌, length, take, IfOk, OnOk, IsErrOf};
+ghost use Rattle.std.specs.Prelude.{◌≡◌, ℕ, ◌<◌, List, ◌∷◌, take, Ok, Err, IfOk, IfSome, IfNone, OnOk, IsErrOf};
 ghost use Rattle.std.specs.Io.KnownBytes.{Appends};
 ghost use Rattle.amo_world.specs.declared.event.Event.{Event};
 ghost use Rattle.amo_audit.specs.Sink.{AppendsFront};
 ghost use Rattle.amo_tool.specs.Bench.{Stands};
 ghost use Rattle.amo_tool.specs.Schedule.{InRange, Spells};
-ghost use Rattle.amo_tool.specs.Transcript.{line_text, event_after, transcript, flatten, IsTranscript};
+ghost use Rattle.amo_tool.specs.Transcript.{becomes, line_text, transcript, flatten, IsTranscript};
 ghost use Rattle.amo_tool.specs.declared.schedule.Line.{Line};
 
 use crate::bench::Bench;
@@ -16,38 +16,42 @@ use crate::transcript::push_event;
 use amo_audit::{Sink, write_all};
 use std::alloc::Global;
 
-/// Makes the call of a line, and writes what it replied. The text is room for the line, which is made whole first.
+/// Makes a line happen, and writes what is told of it; or answers the ending, if the line cannot happen. The text is room
+/// for what is written, which is made whole first.
 fn step<W: Sink>(
     bench: &mut Bench,
     text: &mut Vec<u8>,
-    number: usize,
     line: Line,
     sink: &mut W,
-) -> Result<(), ToolFault>
-    requires { InRange line }
-    ensures told { OnOk result ((past : List Event) → Stands bench.old past → length past ≡ number
-        → Appends (W.written sink.old) (W.written sink.new) (line_text past line)) }
-    ensures stands { OnOk result ((past : List Event) → Stands bench.old past → Stands bench.new (event_after past line ∷ past)) }
+) -> Result<Option<Ending>, ToolFault>
+    requires line { InRange line }
+    requires stands { Stands bench.old.sides bench.old.world }
+    ensures happened { IfOk result (λ ended. IfNone ended ((e : Event) × (becomes bench.old.world line ≡ Ok e)
+        × (bench.new.world ≡ e ∷ bench.old.world) × Stands bench.new.sides bench.new.world
+        × Appends (W.written sink.old) (W.written sink.new) (line_text bench.old.world e))) }
+    ensures ended { IfOk result (λ ended. IfSome ended (λ ending. (becomes bench.old.world line ≡ Err ending)
+        × (W.written sink.new ≡ W.written sink.old))) }
     ensures calm { OnOk result (W.failures sink.new ≡ W.failures sink.old) }
     ensures memory { IsErrOf result ToolFault.NoMemory → W.written sink.new ≡ W.written sink.old }
-    ensures device { IsErrOf result ToolFault.Device → (past : List Event) → Stands bench.old past → length past ≡ number
-        → AppendsFront (W.written sink.old) (W.written sink.new) (line_text past line) }
+    ensures device { IsErrOf result ToolFault.Device → (e : Event) × (becomes bench.old.world line ≡ Ok e)
+        × AppendsFront (W.written sink.old) (W.written sink.new) (line_text bench.old.world e) }
     ensures failed { IsErrOf result ToolFault.Device → W.failures sink.old < W.failures sink.new }
 {
-    let reply = bench.answer(line);
-    text.clear();
-    if push_event(text, number, &reply).is_err() {
-        return Err(ToolFault::NoMemory);
+    match bench.perform(line, text) {
+        Ok(None) => {}
+        Ok(Some(ending)) => return Ok(Some(ending)),
+        Err(_) => return Err(ToolFault::NoMemory),
     }
     match write_all(sink, text.as_slice()) {
-        Ok(()) => Ok(()),
+        Ok(()) => Ok(None),
         Err(_) => Err(ToolFault::Device),
     }
 }
 
 /// Replays a schedule, and writes a line for each event. The schedule is read whole before any event.
 pub fn replay<W: Sink>(alloc: Global, bytes: &[u8], sink: &mut W) -> Result<Ending, ToolFault>
-    // Exactly the transcript is written, the ending is its own, each reply is right, and each stream is served by what was replayed.
+    // Exactly the transcript is written, the ending is its own, and what was replayed is right, honest and fresh. Each stream is
+    // served by it, if no packet was delivered and no host crashed.
     ensures ok { IfOk result (λ ending. (texts : List (List ℕ)) × IsTranscript bytes.now texts ending
         × Appends (W.written sink.old) (W.written sink.new) (flatten texts)) }
     // Whole lines of it are written where memory runs out.
@@ -69,12 +73,12 @@ pub fn replay<W: Sink>(alloc: Global, bytes: &[u8], sink: &mut W) -> Result<Endi
         return Err(ToolFault::NoMemory);
     };
     let mut text = Vec::new(alloc);
-    let mut number = 0;
     for line in lines {
-        if let Err(fault) = step(&mut bench, &mut text, number, line, sink) {
-            return Err(fault);
+        match step(&mut bench, &mut text, line, sink) {
+            Ok(None) => {}
+            Ok(Some(ending)) => return Ok(ending),
+            Err(fault) => return Err(fault),
         }
-        number += 1;
     }
     Ok(Ending::Done)
 }

@@ -1,8 +1,12 @@
 //! Schedules: what happens, a line for each event.
 ghost use Rattle.std.specs.Prelude.{◌≡◌};
 
+pub mod laws;
 pub mod reader;
+#[cfg(test)]
+mod tests;
 
+use amo_object::End;
 use amo_packet::Message;
 use thiserror::Error;
 
@@ -15,6 +19,17 @@ pub enum Line {
     Get(u32),
     /// `ack S`: a call on the sender of stream S for what became of the last put.
     Ack(u32),
+    /// `start S WORD`: the sender of stream S may start a handshake under this word.
+    Start(u32, u64),
+    /// `resend s S` or `resend r S`: the sender, or the receiver, of stream S sends its last packet again.
+    Resend(End, u32),
+    /// `deliver K WORD`: the packet that was emitted as number K, from 0, arrives at the other side of its stream.
+    /// A receiver that it asks for an identifier answers with this word.
+    Deliver(u64, u64),
+    /// `crash s S` or `crash r S`: the sender, or the receiver, of stream S goes down and forgets everything.
+    Crash(End, u32),
+    /// `recover s S` or `recover r S`: the sender, or the receiver, of stream S comes up again.
+    Recover(End, u32),
 }
 
 /// Why bytes are no schedule.

@@ -1,11 +1,11 @@
 //! Schedules and what the program prints of them, its words, and a device that fails.
 ghost use Rattle.std.specs.Prelude.{◌≡◌, ◌<◌};
 
+mod stories;
+
 use crate::choice::{Settings, WordsFault};
 use crate::outcome::{Ending, ToolFault};
 use crate::runner::replay;
-use crate::schedule::reader::read_schedule;
-use crate::schedule::{Line, ScheduleFault};
 use crate::tell::ending;
 use crate::words::settings;
 use amo_audit::Out;
@@ -41,8 +41,9 @@ fn told<L: Ledger>(alloc: Global, how: &Ending, blank: Blank) -> Result<(Vec<u8>
     Ok((out.into_inner(), status))
 }
 
+/// Client calls alone.
 #[test]
-fn replays_the_examples(rt: HostRuntime) -> Result<(), Fail> {
+fn replays_calls(rt: HostRuntime) -> Result<(), Fail> {
     let rows: [(&str, &str); 7] = [
         ("", ""),
         ("ack 1\n", "0 yes\n"),
@@ -68,66 +69,20 @@ fn replays_the_examples(rt: HostRuntime) -> Result<(), Fail> {
     Ok(())
 }
 
+/// Nothing is replayed of a schedule with a line that does not read, whatever stands before it.
 #[test]
-fn names_the_first_line_that_does_not_read(rt: HostRuntime) -> Result<(), Fail> {
-    let rows: [(&str, usize); 24] = [
+fn replays_nothing_of_what_does_not_read(rt: HostRuntime) -> Result<(), Fail> {
+    let rows: [(&str, usize); 4] = [
         ("\n", 1),
-        ("put 1 61", 1),
         ("get 1", 1),
-        ("get 1\nget 1", 2),
-        ("get 1\n\nget 1\n", 2),
-        ("get 1\r\n", 1),
-        ("get 0\n", 1),
-        ("get 257\n", 1),
-        ("get 01\n", 1),
-        ("get +1\n", 1),
-        ("get -1\n", 1),
-        ("get 18446744073709551617\n", 1),
-        ("get\n", 1),
-        ("get 1 \n", 1),
-        (" get 1\n", 1),
-        ("get  1\n", 1),
-        ("GET 1\n", 1),
-        ("got 1\n", 1),
-        ("ack 1 1\n", 1),
-        ("put 1\n", 1),
-        ("put 1 \n", 1),
-        ("ack 1\nput 1 6\n", 2),
-        ("ack 1\nput 1 6A\n", 2),
-        ("ack 1\nget 1\nstart 1 7\nget x\n", 3),
+        ("ack 1\nget 1\nstart 1 7\nget x\n", 4),
+        ("deliver 0 0\nget 257\n", 2),
     ];
     for (schedule, line) in rows {
         let (lines, how) = printed::<Brand>(rt.alloc(), schedule.as_bytes(), Blank::new(1))?;
         assert_eq!(rt; lines.as_slice(), b"".as_slice(), "{schedule}");
         assert_eq!(rt; how, Ending::Malformed(line), "{schedule}");
     }
-    Ok(())
-}
-
-/// A put on stream 1 of so many bytes.
-fn long_put(alloc: Global, length: usize) -> Result<Vec<u8>, AllocError> {
-    let mut schedule = Vec::new(alloc);
-    schedule.extend_from_slice(b"put 1 ")?;
-    for _ in 0..length {
-        schedule.extend_from_slice(b"61")?;
-    }
-    schedule.push(b'\n')?;
-    Ok(schedule)
-}
-
-#[test]
-fn reads_messages_up_to_the_limit(rt: HostRuntime) -> Result<(), Fail> {
-    let longest = long_put(rt.alloc(), 1024)?;
-    let (lines, how) = printed::<Brand>(rt.alloc(), longest.as_slice(), Blank::new(1))?;
-    assert_eq!(rt; lines.as_slice(), b"0 ok\n".as_slice());
-    assert_eq!(rt; how, Ending::Done);
-    let lines = read_schedule(rt.alloc(), longest.as_slice())?;
-    assert!(rt;
-        matches!(lines.as_slice(), [Line::Put(1, message)] if message.bytes().len() == 1024)
-    );
-    let longer = long_put(rt.alloc(), 1025)?;
-    let refused = read_schedule(rt.alloc(), longer.as_slice());
-    assert!(rt; matches!(refused, Err(ScheduleFault::Malformed(1))));
     Ok(())
 }
 
@@ -255,7 +210,7 @@ fn reads_the_words(rt: HostRuntime) -> Result<(), Fail> {
         (
             &["amo", "replay", "--help"],
             0,
-            "amo replay examples/first.schedule",
+            "amo replay examples/handshake.schedule",
         ),
         (&["amo", "--version"], 0, "amo 0.1.0\n"),
     ];

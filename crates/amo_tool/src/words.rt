@@ -12,7 +12,7 @@ const VERSION: &str = "0.1.0";
 const ABOUT: &str = "An at-most-once message service: commands that must never run twice.";
 
 const AFTER_HELP: &str = "Example:
-  amo replay examples/first.schedule
+  amo replay examples/handshake.schedule
 
 Status:
   0  done
@@ -23,14 +23,19 @@ Status:
 const REPLAY_ABOUT: &str = "Replays a schedule, and prints a line for each event";
 
 const REPLAY_AFTER_HELP: &str = "A schedule is a list of lines:
-  put S HEX  put a message on stream S, in lower-case hexadecimal, `-` for no bytes
-  get S      get a message from stream S
-  ack S      ask what became of the last put of stream S
+  put S HEX       put a message on stream S, in lower-case hexadecimal, `-` for no bytes
+  get S           get a message from stream S
+  ack S           ask what became of the last put of stream S
+  start S WORD    start a handshake on the sender of stream S, under this identifier
+  resend s S      send the last packet of the sender of stream S again; `r S` for the receiver
+  deliver K WORD  deliver the K-th packet emitted, counted from 0, with an identifier to offer
+  crash s S       crash the sender of stream S; `r S` for the receiver
+  recover s S     recover the sender of stream S; `r S` for the receiver
 
 Streams are numbered from 1 to 256.
 
 Example:
-  amo replay examples/first.schedule";
+  amo replay examples/handshake.schedule";
 
 /// Reads the words, the program's name first.
 pub fn settings(alloc: Global, words: Vec<String>) -> Result<Settings, WordsFault> {

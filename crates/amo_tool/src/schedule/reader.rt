@@ -1,19 +1,19 @@
 //! Reads schedules.
-ghost use Rattle.std.specs.Prelude.{◌≡◌, ◌≢◌, ℕ, ◌∷◌, ◌++◌, ◌≤◌, List, length, codes, IfOk, IfErr, IfSome, IfNone};
+ghost use Rattle.std.specs.Prelude.{◌≡◌, ◌≢◌, ℕ, ◌∷◌, ◌++◌, ◌<◌, ◌≤◌, ◌^◌, List, length, codes, IfOk, IfErr, IfSome, IfNone};
 ghost use Rattle.std.specs.Fmt.{decimal};
 ghost use Rattle.hex.specs.Hex.{IsBytes};
 ghost use Rattle.amo_audit.specs.Hexadecimal.{hex};
-ghost use Rattle.amo_audit.specs.Line.{text_of};
-ghost use Rattle.amo_tool.specs.Schedule.{words_of, IsStream, InRange, Spells, Faults, ReadsAs};
+ghost use Rattle.amo_object.specs.declared.step.End.{End};
+ghost use Rattle.amo_tool.specs.Schedule.{letter_of, Spells, Faults, ReadsAs};
+ghost use Rattle.amo_world.specs.Stream.{IsStream};
 ghost use Rattle.amo_tool.specs.declared.schedule.Line.{Line};
 
 use crate::schedule::{Line, ScheduleFault};
 use amo_audit::{next_line, next_word, read_decimal, read_hex};
+use amo_object::End;
 use amo_packet::{MAX_MESSAGE, Message, MessageFault};
+use amo_world::STREAMS;
 use std::alloc::{AllocError, Global};
-
-/// How many streams a host has. They are numbered from 1.
-pub const STREAMS: u32 = 256;
 
 /// The stream that this word names.
 fn read_stream(word: &[u8]) -> Option<u32>
@@ -42,11 +42,30 @@ fn read_message(alloc: Global, word: &[u8]) -> Result<Option<Message>, AllocErro
     }
 }
 
+/// The side that this word names.
+fn read_side(word: &[u8]) -> Option<End>
+    ensures found { IfSome result (λ side. word.now ≡ letter_of side) }
+    ensures none { IfNone result ((side : End) → word.now ≢ letter_of side) }
+{
+    match word {
+        b"s" => Some(End::Sender),
+        b"r" => Some(End::Receiver),
+        _ => None,
+    }
+}
+
+/// The side and the stream that these words name.
+fn read_side_of_stream(words: &[u8]) -> Option<(End, u32)>
+    ensures found { IfSome result (λ at. IsStream at.1 × (words.now ≡ letter_of at.0 ++ 32 ∷ decimal at.1)) }
+    ensures none { IfNone result ((side : End) (stream : ℕ) → IsStream stream → words.now ≢ letter_of side ++ 32 ∷ decimal stream) }
+{
+    let (side, stream) = next_word(words)?;
+    Some((read_side(side)?, read_stream(stream)?))
+}
+
 /// The put of which these are the words after the first.
 fn read_put(alloc: Global, words: &[u8]) -> Result<Option<Line>, AllocError>
-    ensures found { IfOk result (λ read. IfSome read (λ line. InRange line × (codes "put" ++ 32 ∷ words.now ≡ text_of (words_of line)))) }
-    ensures none { IfOk result (λ read. IfNone read ((stream : ℕ) (m : List ℕ) → IsStream stream → length m ≤ 1024 → IsBytes m
-        → words.now ≢ decimal stream ++ 32 ∷ hex m)) }
+    ensures { IfOk result (λ read. ReadsAs (codes "put" ++ 32 ∷ words.now) read) }
 {
     let Some((stream, message)) = next_word(words) else {
         return Ok(None);
@@ -58,6 +77,46 @@ fn read_put(alloc: Global, words: &[u8]) -> Result<Option<Line>, AllocError>
         return Ok(None);
     };
     Ok(Some(Line::Put(stream, message)))
+}
+
+/// The start of which these are the words after the first.
+fn read_start(words: &[u8]) -> Option<Line>
+    ensures { ReadsAs (codes "start" ++ 32 ∷ words.now) result }
+{
+    let (stream, word) = next_word(words)?;
+    Some(Line::Start(read_stream(stream)?, read_decimal(word)?))
+}
+
+/// The delivery of which these are the words after the first.
+fn read_deliver(words: &[u8]) -> Option<Line>
+    ensures { ReadsAs (codes "deliver" ++ 32 ∷ words.now) result }
+{
+    let (number, word) = next_word(words)?;
+    Some(Line::Deliver(read_decimal(number)?, read_decimal(word)?))
+}
+
+/// The resending of which these are the words after the first.
+fn read_resend(words: &[u8]) -> Option<Line>
+    ensures { ReadsAs (codes "resend" ++ 32 ∷ words.now) result }
+{
+    let (side, stream) = read_side_of_stream(words)?;
+    Some(Line::Resend(side, stream))
+}
+
+/// The crash of which these are the words after the first.
+fn read_crash(words: &[u8]) -> Option<Line>
+    ensures { ReadsAs (codes "crash" ++ 32 ∷ words.now) result }
+{
+    let (side, stream) = read_side_of_stream(words)?;
+    Some(Line::Crash(side, stream))
+}
+
+/// The recovery of which these are the words after the first.
+fn read_recover(words: &[u8]) -> Option<Line>
+    ensures { ReadsAs (codes "recover" ++ 32 ∷ words.now) result }
+{
+    let (side, stream) = read_side_of_stream(words)?;
+    Some(Line::Recover(side, stream))
 }
 
 /// The line of which this is the text, without its end.
@@ -73,6 +132,16 @@ fn read_line(alloc: Global, text: &[u8]) -> Result<Option<Line>, AllocError>
         Ok(read_stream(words).map(Line::Get))
     } else if command == b"ack".as_slice() {
         Ok(read_stream(words).map(Line::Ack))
+    } else if command == b"start".as_slice() {
+        Ok(read_start(words))
+    } else if command == b"resend".as_slice() {
+        Ok(read_resend(words))
+    } else if command == b"deliver".as_slice() {
+        Ok(read_deliver(words))
+    } else if command == b"crash".as_slice() {
+        Ok(read_crash(words))
+    } else if command == b"recover".as_slice() {
+        Ok(read_recover(words))
     } else {
         Ok(None)
     }
