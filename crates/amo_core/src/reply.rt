@@ -2,7 +2,7 @@
 use amo_packet::Message;
 
 /// What a client's call is told, or `Done` for an act of the host.
-#[derive(Clone, Debug, Drop)]
+#[derive(Clone, Debug, PartialEq, Eq, Drop)]
 pub enum Reply {
     /// The message waits to be sent.
     Ok,

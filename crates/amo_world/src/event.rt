@@ -7,7 +7,7 @@ use amo_object::End;
 use std::alloc::AllocError;
 
 /// What happened at one side of a stream, and what was told.
-#[derive(Clone, Debug, Drop)]
+#[derive(Clone, Debug, PartialEq, Eq, Drop)]
 pub struct Event {
     /// The number of the pass, a caller's token, under which it happened. In a replay it is 0.
     pub pass: usize,

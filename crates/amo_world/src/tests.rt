@@ -25,30 +25,6 @@ fn copy_of(event: &Event) -> Result<Event, NoMemory> {
     }
 }
 
-fn is_same_act(a: &Act, b: &Act) -> bool {
-    match (a, b) {
-        (Act::Put(m), Act::Put(n)) => m == n,
-        (Act::Start(v), Act::Start(w)) => v == w,
-        (Act::Deliver(p, v), Act::Deliver(q, w)) => p == q && v == w,
-        (Act::Resend, Act::Resend) => true,
-        (Act::Crash, Act::Crash) => true,
-        (Act::Recover, Act::Recover) => true,
-        _ => false,
-    }
-}
-
-fn is_same_reply(a: &Reply, b: &Reply) -> bool {
-    matches!((a, b), (Reply::Ok, Reply::Ok) | (Reply::Done, Reply::Done))
-}
-
-fn is_same(a: &Event, b: &Event) -> bool {
-    a.pass == b.pass
-        && a.side == b.side
-        && a.stream == b.stream
-        && is_same_act(&a.act, &b.act)
-        && is_same_reply(&a.reply, &b.reply)
-}
-
 /// Hands in an event of stream 1.
 fn judge(world: &mut World, side: End, act: Act, reply: Reply) -> Result<(), WorldFault> {
     world.apply(Event {
@@ -70,7 +46,7 @@ fn accept(world: &mut World, side: End, act: Act, reply: Reply) -> Result<(), Fa
         reply,
     };
     let copy = copy_of(&event)?;
-    if !is_same(&copy, &event) {
+    if copy != event {
         return Err("an equal copy".into());
     }
     match world.apply(event) {
