@@ -1,4 +1,3 @@
-pub mod Calm
 pub mod Consequences
 pub mod Order
 pub mod Lists
@@ -6,3 +5,18 @@ pub mod Kept
 pub mod Worlds
 pub mod Emitted
 pub mod Extensions
+pub mod Moving
+pub mod Packets
+pub mod Facts
+pub mod Views
+pub mod Fates
+pub mod Resolving
+pub mod ReceiverMoves
+pub mod ReceiverRows
+pub mod SenderHears
+pub mod SenderMoves
+pub mod Serving
+pub mod SenderFactsKept
+pub mod KnownOfSender
+pub mod ReceiverFactsKept
+pub mod FactsKept

@@ -5,7 +5,7 @@ use Rattle.std.specs.Option.{option_to_list, option_map}
 use Rattle.amo_object.specs.declared.step.End.{End}
 use Rattle.amo_object.specs.End.{other}
 use Rattle.amo_core.specs.declared.act.Act.{Act}
-use Rattle.amo_core.specs.declared.act.Act.TheVariants.{Deliver, Crash}
+use Rattle.amo_core.specs.declared.act.Act.TheVariants.{Deliver}
 use Rattle.amo_world.specs.declared.emission.Emission.{Emission}
 use Rattle.amo_world.specs.declared.event.Event.{Event}
 use Rattle.amo_world.specs.Stream.{Stream, initial, after, reply_of, emission_of, word_of, emitted_by, words_of}
@@ -65,18 +65,6 @@ event_emission past e = option_map (λ packet. record { side = e.side; packet = 
 abbrev pub emissions : List Event → List Emission
 emissions [] = []
 emissions (e ∷ past) = emissions past ++ option_to_list (event_emission past e)
-
--- calm: no packet is delivered, and no host crashes
-abbrev pub IsCalmAct : Act → Type 0
-IsCalmAct (Deliver packet word) = ⊥
-IsCalmAct Crash = ⊥
-IsCalmAct _ = Unit {0}
-
-abbrev pub IsCalmEvent : List Event → Event → Type 0
-IsCalmEvent past e = IsCalmAct e.act
-
-abbrev pub IsCalm : List Event → Type 0
-IsCalm events = Along IsCalmEvent events
 
 -- a history that goes on from another
 abbrev pub Extends : List Event → List Event → Type 0

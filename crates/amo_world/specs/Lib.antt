@@ -1,6 +1,9 @@
 pub mod Stream
 pub mod History
 pub mod Served
+pub mod Doubt
+pub mod Resolution
+pub mod View
 pub mod Example
 pub mod Emission
 pub mod Side

@@ -1,13 +1,18 @@
 -- A stream: what its events leave of both its sides.
-use Rattle.std.specs.Prelude.{ℕ, ◌≤◌, Option, List, [], ◌++◌}
+use Rattle.std.specs.Prelude.{ℕ, ◌≤◌, ◌==◌, if◌then◌else◌, Option, List, [], ◌∷◌, ◌++◌}
 use Rattle.std.specs.Option.{option_to_list}
 use Rattle.amo_object.specs.declared.step.End.{End}
 use Rattle.amo_object.specs.declared.step.End.TheVariants.{Sender, Receiver}
 use Rattle.amo_packet.specs.declared.packet.OwnedPacket.{OwnedPacket}
 use Rattle.amo_core.specs.declared.act.Act.{Act}
+use Rattle.amo_core.specs.declared.act.Act.TheVariants.{Get}
 use Rattle.amo_core.specs.declared.reply.Reply.{Reply}
 use Rattle.amo_core.specs.declared.automaton.Automaton.{Automaton}
 use Rattle.amo_core.specs.declared.automaton.Automaton.TheVariants as automaton
+use Rattle.amo_core.specs.declared.sender.SenderMode.{SenderMode}
+use Rattle.amo_core.specs.declared.sender.SenderMode.TheVariants.{NeedId, Send}
+use Rattle.amo_core.specs.declared.receiver.ReceiverMode.{ReceiverMode}
+use Rattle.amo_core.specs.declared.receiver.ReceiverMode.TheVariants.{Rcvd}
 use Rattle.amo_core.specs.Row.{Row}
 use Rattle.amo_core.specs.Sender as sender
 use Rattle.amo_core.specs.Receiver as receiver
@@ -35,14 +40,15 @@ module _ {S : Type 0} where
     words = option_to_list word ++ side.words;
   }
 
--- both sides
+-- both sides; and of what the sender is sending, the messages that the receiver's client did not take yet
 pub record Stream : Type 0 where
   pub sender : Side sender.State
   pub receiver : Side receiver.State
+  pub untaken : List (List ℕ)
 
 -- a stream of this number in which nothing happened yet
 abbrev pub initial : ℕ → Stream
-initial number = record { sender = unused (sender.initial number); receiver = unused (receiver.initial number) }
+initial number = record { sender = unused (sender.initial number); receiver = unused (receiver.initial number); untaken = [] }
 
 -- the automaton of a side
 abbrev pub automaton_of : Stream → End → Automaton
@@ -64,10 +70,26 @@ abbrev pub word_of : Stream → End → Act → Option ℕ
 word_of s Sender act = sender.used_word s.sender.state act
 word_of s Receiver act = receiver.used_word s.receiver.state act
 
+-- a message that a sender begins to send was not taken yet
+abbrev pub untaken_once_sent : SenderMode → SenderMode → List (List ℕ) → List (List ℕ)
+untaken_once_sent (NeedId jd waited) (Send id m) untaken = m ∷ []
+untaken_once_sent _ _ untaken = untaken
+
+-- a get takes the message that came under the sender's identifier
+abbrev pub untaken_once_got : Act → SenderMode → ReceiverMode → List (List ℕ) → List (List ℕ)
+untaken_once_got Get (Send id m) (Rcvd under held) untaken = if under == id then [] else untaken
+untaken_once_got _ _ _ untaken = untaken
+
 -- the stream after an act at a side
 abbrev pub after : Stream → End → Act → Stream
-after s Sender act = record s { sender = acted s.sender (sender.row s.sender.state act) (word_of s Sender act) }
-after s Receiver act = record s { receiver = acted s.receiver (receiver.row s.receiver.state act) (word_of s Receiver act) }
+after s Sender act = record s {
+  sender = acted s.sender (sender.row s.sender.state act) (word_of s Sender act);
+  untaken = untaken_once_sent s.sender.state.mode (sender.row s.sender.state act).state.mode s.untaken;
+}
+after s Receiver act = record s {
+  receiver = acted s.receiver (receiver.row s.receiver.state act) (word_of s Receiver act);
+  untaken = untaken_once_got act s.sender.state.mode s.receiver.state.mode s.untaken;
+}
 
 -- what a side emitted, the newest first
 abbrev pub emitted_by : Stream → End → List OwnedPacket

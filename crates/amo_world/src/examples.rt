@@ -4,13 +4,12 @@ ghost use Rattle.amo_object.specs.declared.step.End.{End};
 ghost use Rattle.amo_packet.specs.declared.packet.OwnedPacket.{OwnedPacket};
 ghost use Rattle.amo_world.specs.Example as example;
 ghost use Rattle.amo_world.specs.Example.{history_of, IsExample, IsServedExample, IsRepeatExample};
-ghost use Rattle.amo_world.specs.History.{IsRight, IsHonest, IsFresh, IsCalm};
+ghost use Rattle.amo_world.specs.History.{IsRight, IsHonest, IsFresh};
 ghost use Rattle.amo_world.specs.Served.{IsServed};
 
 /// Stories without a crash: the first request, a whole handshake, and packets and words that come again.
 pub fn handshakes()
     ensures first_needuid { IsServedExample example.first_needuid example.first_needuid_run }
-    ensures calm { IsCalm (history_of example.first_needuid) }
     ensures handshake { IsServedExample example.handshake example.handshake_run }
     ensures send_repeated { IsServedExample example.send_repeated example.send_repeated_run }
     ensures needuid_repeated { IsServedExample example.needuid_repeated example.needuid_repeated_run }

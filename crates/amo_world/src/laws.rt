@@ -4,13 +4,18 @@ ghost use Rattle.std.specs.List.{Contains};
 ghost use Rattle.std.specs.Option.{option_to_list};
 ghost use Rattle.amo_object.specs.declared.step.Step.{Step};
 ghost use Rattle.amo_object.specs.declared.step.Step.TheVariants.{Put, Ack};
+ghost use Rattle.amo_object.specs.Queue as queue;
 ghost use Rattle.amo_object.specs.Run.{IsCrashFree};
 ghost use Rattle.amo_object.specs.Delivery.{messages_put, messages_got, IsSubsequence};
 ghost use Rattle.amo_world.specs.declared.emission.Emission.{Emission};
 ghost use Rattle.amo_world.specs.declared.event.Event.{Event};
 ghost use Rattle.amo_world.specs.Stream.{after, emitted_by};
-ghost use Rattle.amo_world.specs.History.{stream_after, stream_before, emissions, event_emission, IsRight, IsHonest, IsFresh, IsCalm, Extends};
+ghost use Rattle.amo_world.specs.History.{stream_after, stream_before, emissions, event_emission, IsRight, IsHonest, IsFresh, Extends};
 ghost use Rattle.amo_world.specs.Served.{call_of, calls, IsServed};
+ghost use Rattle.amo_world.specs.Doubt as doubt;
+ghost use Rattle.amo_world.specs.Doubt.{Moves};
+ghost use Rattle.amo_world.specs.Resolution.{Resolves, Runs};
+ghost use Rattle.amo_world.specs.View.{view};
 
 /// What one event more changes: its own stream, by the row of its act, and no other.
 pub fn one_event_more()
@@ -41,9 +46,26 @@ pub fn served_streams()
         (earlier : List (List ℕ)) × (messages_got later ≡ earlier ++ m ∷ []) }
 {}
 
-/// In a right history in which no packet comes and no host crashes, each stream is served.
-pub fn calm_histories_serve()
-    ensures { (number : ℕ) (events : List Event) → IsRight events → IsCalm events → IsServed number events }
+/// In a right, honest and fresh history each event moves the queue in doubt that its stream is, and a client sees of the move
+/// the event's call alone.
+pub fn events_move_the_queue_in_doubt()
+    ensures { (past : List Event) (e : Event) → IsRight (e ∷ past) → IsHonest (e ∷ past) → IsFresh (e ∷ past)
+        → Moves (view (stream_before past e)) (option_to_list (call_of e.side e.act e.reply)) (view (stream_after e.stream (e ∷ past))) }
+{}
+
+/// Whatever a queue in doubt may stand for after it has moved comes, by steps of the at-most-once queue of which a client
+/// sees the same, from what it may have stood for before; so it is with each event of a right, honest and fresh history.
+pub fn doubts_resolve()
+    ensures moves { (s t : doubt.State) (steps : List Step) → Moves s steps t → (after : queue.State) → Resolves after t
+        → (before : queue.State) × Resolves before s × Runs before steps after }
+    ensures events { (past : List Event) (e : Event) → IsRight (e ∷ past) → IsHonest (e ∷ past) → IsFresh (e ∷ past)
+        → (after : queue.State) → Resolves after (view (stream_after e.stream (e ∷ past)))
+        → (before : queue.State) × Resolves before (view (stream_before past e)) × Runs before (option_to_list (call_of e.side e.act e.reply)) after }
+{}
+
+/// Each right, honest and fresh history serves each of its streams.
+pub fn histories_serve()
+    ensures { (number : ℕ) (events : List Event) → IsRight events → IsHonest events → IsFresh events → IsServed number events }
 {}
 
 /// A packet that was emitted bears the number of the stream of whose side it was, and that side emitted it.

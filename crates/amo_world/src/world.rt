@@ -1,10 +1,13 @@
 //! A world: a history that grows event by event, and is right, honest and fresh at every moment.
-ghost use Rattle.std.specs.Prelude.{◌≡◌, ◌↔◌, ◌<◌, ◌≤◌, ◌^◌, [], ◌∷◌, length, IfOk, IfErr, IfSome, OnOk, OnErr, IsErrOf, slice_get};
-ghost use Rattle.std.specs.Option.{option_map, ForSome};
+ghost use Rattle.std.specs.Prelude.{ℕ, ◌≡◌, ◌↔◌, ◌<◌, ◌≤◌, ◌^◌, [], ◌∷◌, length, IfOk, IfErr, IfSome, OnOk, OnErr, IsErrOf, slice_get};
+ghost use Rattle.std.specs.Option.{option_map, option_to_list, ForSome};
 ghost use Rattle.amo_packet.specs.Packet.{packet_of, body_of};
 ghost use Rattle.amo_packet.specs.Grammar.{message_of};
-ghost use Rattle.amo_world.specs.History.{emissions, HasRightReply, DeliversEmitted, UsesNewWord, IsRight, IsHonest, IsFresh};
+ghost use Rattle.amo_world.specs.History.{stream_after, stream_before, emissions, HasRightReply, DeliversEmitted, UsesNewWord, IsRight, IsHonest, IsFresh};
 ghost use Rattle.amo_world.specs.Stream.{IsStream};
+ghost use Rattle.amo_world.specs.Served.{call_of, IsServed};
+ghost use Rattle.amo_world.specs.Doubt.{Moves};
+ghost use Rattle.amo_world.specs.View.{view};
 ghost use Rattle.amo_world.specs.World.{Refuses};
 
 use crate::emission::Emissions;
@@ -67,6 +70,10 @@ impl World {
         requires { IsStream event.stream }
         ensures accepted { OnOk result (self.new ≡ event ∷ self.old) }
         ensures sound { OnOk result (IsRight self.new × IsHonest self.new × IsFresh self.new) }
+        // The queue in doubt that the stream is has moved, and a client saw of it the call alone; and every stream is served.
+        ensures moved { OnOk result (Moves (view (stream_before self.old event)) (option_to_list (call_of event.side event.act event.reply))
+            (view (stream_after event.stream self.new))) }
+        ensures served { OnOk result ((number : ℕ) → IsServed number self.new) }
         ensures wrong_reply { IsErrOf result WorldFault.WrongReply ↔ (¬ (HasRightReply self.old event)) }
         ensures unsent { IsErrOf result WorldFault.Unsent ↔ (HasRightReply self.old event × (¬ (DeliversEmitted self.old event))) }
         ensures repeat { IsErrOf result WorldFault.Repeat

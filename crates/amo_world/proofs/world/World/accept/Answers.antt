@@ -6,7 +6,7 @@ use Rattle.amo_world.specs.declared.event.Event.{Event}
 use Rattle.amo_world.specs.Emission.{first_of, IsTold}
 use Rattle.amo_world.specs.Stream.{Stream, after, emission_of}
 use Rattle.amo_world.specs.Sides.{KeepsBoth}
-use Rattle.amo_world.specs.History.{HasRightReply, DeliversEmitted, UsesNewWord}
+use Rattle.amo_world.specs.History.{stream_after, HasRightReply, DeliversEmitted, UsesNewWord}
 use Rattle.amo_world.proofs.Order.{reverse_push}
 use Rattle.amo_world.proofs.Worlds.{at_stream, unused, world_stays, world_grows, emission_by}
 use Rattle.amo_world.proofs.world.World.accept.Goals as goal
@@ -15,7 +15,7 @@ pub make-requires : goal.make-requires
 make-requires c =
     let same : c.in_ok-act.act ≡ c.args.event.act = search rules in
     let both = at_stream _ _ _ _ _ c.args.event.stream c.index_mut-sides.result.now c.self.invariant c.self.view_is c.requires.stream c.index_mut-sides.ensures.value in
-    rw same (unused _ _ _ c.args.event.side c.args.event.act both c.requires.sound.2)
+    rw same (unused _ _ (stream_after c.args.event.stream _) c.args.event.side c.args.event.act both c.requires.sound.2)
 
 pub invariant_of-self-in_err-emitted : goal.invariant_of-self-in_err-emitted
 invariant_of-self-in_err-emitted c =

@@ -1,0 +1,135 @@
+-- The queue in doubt: the at-most-once queue, in which what a crash may have lost is marked. It leaves later, or stays.
+use Rattle.std.specs.Prelude.{◌≡◌, ℕ, Bool, true, false, ◌||◌, Option, None, Some, List, [], ◌∷◌, ◌++◌}
+use Rattle.amo_object.specs.declared.step.End.{End}
+use Rattle.amo_object.specs.declared.step.End.TheVariants.{Sender, Receiver}
+use Rattle.amo_object.specs.declared.status.Status.{Status}
+use Rattle.amo_object.specs.declared.status.Status.TheVariants.{Yes, No, Open}
+use Rattle.amo_object.specs.declared.step.Step.{Step}
+use Rattle.amo_object.specs.declared.step.Step.TheVariants.{Put, Get, Ack, Crash, Recover, DownReply, Lose, LoseAck}
+use Rattle.amo_object.specs.Queue.{settled, status_of}
+
+-- a message of the queue, and whether it is in doubt
+pub record Entry : Type 0 where
+  pub message : List ℕ
+  pub doubted : Bool
+
+abbrev pub entry : Bool → List ℕ → Entry
+entry doubted m = record { message = m; doubted = doubted }
+
+-- the messages, first one first; what is known of the last one put, and whether that is in doubt; which sides are down
+pub record State : Type 0 where
+  pub entries : List Entry
+  pub status : Status
+  pub status_doubted : Bool
+  pub sender_down : Bool
+  pub receiver_down : Bool
+
+-- whether this side is down
+abbrev pub is_down : State → End → Bool
+is_down s Sender = s.sender_down
+is_down s Receiver = s.receiver_down
+
+-- whether some side is down
+abbrev pub is_any_down : State → Bool
+is_any_down s = s.sender_down || s.receiver_down
+
+-- this side is down from now on, or up
+abbrev pub set_down : State → End → Bool → State
+set_down s Sender down = record s { sender_down = down }
+set_down s Receiver down = record s { receiver_down = down }
+
+-- the message that comes first
+abbrev pub first : List Entry → Option (List ℕ)
+first [] = None
+first (e ∷ es) = Some e.message
+
+-- and those after it
+abbrev pub rest : List Entry → List Entry
+rest [] = []
+rest (e ∷ es) = es
+
+-- the status once a message has left before these: it is settled if the last one left
+abbrev pub settled_before : List Entry → Status → Status → Status
+settled_before [] status known = settled status known
+settled_before (e ∷ later) status known = status
+
+-- What happens to the queue. A change of one message names it by those before it and those after it.
+pub data Change : Type 0 where
+  call : Step → Change
+  mark : List Entry → Entry → List Entry → Change
+  unmark : List Entry → Entry → List Entry → Change
+  leave : List Entry → Entry → List Entry → Change
+  mark_status : Change
+  unmark_status : Change
+  settle_status : Change
+
+-- a step of the queue that a client sees may be taken here
+abbrev pub AllowsCall : State → Step → Type 0
+AllowsCall s (Put m) = s.sender_down ≡ false
+AllowsCall s (Get m) = (s.receiver_down ≡ false) × (first s.entries ≡ Some m)
+AllowsCall s (Ack answer) = (s.sender_down ≡ false) × (s.status ≡ status_of answer) × (s.status_doubted ≡ false)
+AllowsCall s (Crash side) = Unit {0}
+AllowsCall s (Recover side) = Unit {0}
+AllowsCall s (DownReply side) = is_down s side ≡ true
+AllowsCall s (Lose place) = ⊥
+AllowsCall s LoseAck = ⊥
+
+-- and what it leaves
+abbrev pub after_call : State → Step → State
+after_call s (Put m) = record s { entries = s.entries ++ entry false m ∷ []; status = Open; status_doubted = false }
+after_call s (Get m) = record s { entries = rest s.entries; status = settled_before (rest s.entries) s.status Yes }
+after_call s (Ack answer) = s
+after_call s (Crash side) = set_down s side true
+after_call s (Recover side) = set_down s side false
+after_call s (DownReply side) = s
+after_call s (Lose place) = s
+after_call s LoseAck = s
+
+-- Marks are set only while a side is down, and may be taken away at any time. What is marked may leave at any time: a message
+-- as at a loss, and a status for No.
+abbrev pub Allows : State → Change → Type 0
+Allows s (call step) = AllowsCall s step
+Allows s (mark before e later) = (is_any_down s ≡ true) × (s.entries ≡ before ++ e ∷ later)
+Allows s (unmark before e later) = s.entries ≡ before ++ e ∷ later
+Allows s (leave before e later) = (e.doubted ≡ true) × (s.entries ≡ before ++ e ∷ later)
+Allows s mark_status = is_any_down s ≡ true
+Allows s unmark_status = Unit {0}
+Allows s settle_status = s.status_doubted ≡ true
+
+-- the queue after a change that it allows
+abbrev pub after : State → Change → State
+after s (call step) = after_call s step
+after s (mark before e later) = record s { entries = before ++ entry true e.message ∷ later }
+after s (unmark before e later) = record s { entries = before ++ entry false e.message ∷ later }
+after s (leave before e later) = record s { entries = before ++ later; status = settled_before later s.status No }
+after s mark_status = record s { status_doubted = true }
+after s unmark_status = record s { status_doubted = false }
+after s settle_status = record s { status = No }
+
+-- these changes, one after another, each allowed where it stands
+abbrev pub AllowsAll : State → List Change → Type 0
+AllowsAll s [] = Unit {0}
+AllowsAll s (c ∷ cs) = Allows s c × AllowsAll (after s c) cs
+
+-- the queue after them
+abbrev pub after_all : State → List Change → State
+after_all s [] = s
+after_all s (c ∷ cs) = after_all (after s c) cs
+
+-- the steps among changes that a client sees
+abbrev pub calls_of : List Change → List Step
+calls_of [] = []
+calls_of (call step ∷ cs) = step ∷ calls_of cs
+calls_of (mark before e later ∷ cs) = calls_of cs
+calls_of (unmark before e later ∷ cs) = calls_of cs
+calls_of (leave before e later ∷ cs) = calls_of cs
+calls_of (mark_status ∷ cs) = calls_of cs
+calls_of (unmark_status ∷ cs) = calls_of cs
+calls_of (settle_status ∷ cs) = calls_of cs
+
+-- from one state to another by changes that are allowed, among which a client sees just these steps
+pub record Moves (s : State) (steps : List Step) (t : State) : Type 0 where
+  pub changes : List Change
+  pub allowed : AllowsAll s changes
+  pub reached : after_all s changes ≡ t
+  pub seen : calls_of changes ≡ steps
