@@ -5,9 +5,9 @@ use Rattle.std.proofs.lemmas.Grind.{flat_map-append}
 use Rattle.std.specs.List.{AllByRecursion}
 use Rattle.std.specs.Io.KnownBytes.{Appends}
 use Rattle.amo_world.specs.declared.event.Event.{Event}
-use Rattle.amo_world.specs.History.{IsRight, IsHonest, IsFresh, IsCalm}
+use Rattle.amo_world.specs.History.{IsRight, IsHonest, IsFresh}
 use Rattle.amo_world.specs.Served.{IsServed}
-use Rattle.amo_world.proofs.Calm.{follows}
+use Rattle.amo_world.proofs.Serving.{serves}
 use Rattle.amo_audit.specs.Sink.{AppendsFront}
 use Rattle.amo_audit.proofs.Written.{Appends-append}
 use Rattle.amo_tool.specs.Schedule.{InRange}
@@ -128,9 +128,9 @@ fresh_all past (x ∷ xs) fresh = cases (λ e is. fresh_all (e ∷ past) xs ((ha
     cases next (Ok e) is = next e is
     cases next (Err ending) is = fresh
 
--- every calm schedule is served
-pub all_served : (xs : List Line) → IsCalm (history_of xs) → (number : ℕ) → IsServed number (history_of xs)
-all_served xs calm number = let f = follows number (history_of xs) (right_all [] xs tt) calm in (f.steps, f.allowed, f.same)
+-- every schedule is served
+pub all_served : (xs : List Line) (number : ℕ) → IsServed number (history_of xs)
+all_served xs number = serves number (history_of xs) (right_all [] xs tt) (honest_all [] xs tt) (fresh_all [] xs tt)
 
 pub so_far : (ys all : List Line) → map (λ (x : Line). x) ys ≡ take (length ys) all → ys ≡ take (length ys) all
 so_far ys all e = sym (map-id ys) ∙ e

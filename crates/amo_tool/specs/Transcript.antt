@@ -14,7 +14,7 @@ use Rattle.amo_core.specs.declared.reply.Reply.TheVariants as reply
 use Rattle.amo_world.specs.declared.emission.Emission.{Emission}
 use Rattle.amo_world.specs.declared.event.Event.{Event}
 use Rattle.amo_world.specs.Stream.{reply_of, word_of, words_of}
-use Rattle.amo_world.specs.History.{stream_before, emissions, event_emission, IsRight, IsHonest, IsFresh, IsCalm}
+use Rattle.amo_world.specs.History.{stream_before, emissions, event_emission, IsRight, IsHonest, IsFresh}
 use Rattle.amo_world.specs.Served.{IsServed}
 use Rattle.amo_audit.specs.Hexadecimal.{hex}
 use Rattle.amo_tool.specs.Schedule.{Spells, IsMalformedAt}
@@ -121,7 +121,7 @@ abbrev pub flatten : List (List ℕ) → List ℕ
 flatten texts = flat_map (λ text. text) texts
 
 -- the lines that the bytes spell, their transcript and their ending; and of the history that they leave, that it is right, honest and
--- fresh, and that each stream is served by it, if it is calm
+-- fresh, and that each stream is served by it
 pub record IsReplayed (bytes : List ℕ) (texts : List (List ℕ)) (ending : Ending) : Type 0 where
   pub lines : List Line
   pub spelt : Spells lines bytes
@@ -130,7 +130,7 @@ pub record IsReplayed (bytes : List ℕ) (texts : List (List ℕ)) (ending : End
   pub right : IsRight (history_of lines)
   pub honest : IsHonest (history_of lines)
   pub fresh : IsFresh (history_of lines)
-  pub served : IsCalm (history_of lines) → (number : ℕ) → IsServed number (history_of lines)
+  pub served : (number : ℕ) → IsServed number (history_of lines)
 
 -- the transcript of these bytes, and how it ends
 abbrev pub IsTranscript : List ℕ → List (List ℕ) → Ending → Type 0

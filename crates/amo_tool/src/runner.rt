@@ -50,8 +50,8 @@ fn step<W: Sink>(
 
 /// Replays a schedule, and writes a line for each event. The schedule is read whole before any event.
 pub fn replay<W: Sink>(alloc: Global, bytes: &[u8], sink: &mut W) -> Result<Ending, ToolFault>
-    // Exactly the transcript is written, the ending is its own, and what was replayed is right, honest and fresh. Each stream is
-    // served by it, if no packet was delivered and no host crashed.
+    // Exactly the transcript is written, the ending is its own, and what was replayed is right, honest and fresh, so that each
+    // stream is served by it.
     ensures ok { IfOk result (λ ending. (texts : List (List ℕ)) × IsTranscript bytes.now texts ending
         × Appends (W.written sink.old) (W.written sink.new) (flatten texts)) }
     // Whole lines of it are written where memory runs out.
