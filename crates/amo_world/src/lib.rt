@@ -9,15 +9,20 @@
 //!   honest     every packet delivered was emitted before, by the other side of its stream
 //!   fresh      no side of a stream uses up a word twice
 //!   served     some run of the at-most-once queue has, with its losses left out, exactly the stream's calls
+//!   in doubt   what a crash may have lost, and may still arrive: it leaves later, or stays
 //! ```
+//!
+//! **Each right, honest and fresh history serves each of its streams** ([`laws::histories_serve`]). Between the protocol and
+//! the queue stands a queue in doubt. Each event moves it ([`laws::events_move_the_queue_in_doubt`]), and what it may stand
+//! for after an event comes by steps of the queue from what it may have stood for before ([`laws::doubts_resolve`]).
 //!
 //! A world keeps both sides of streams 1 to [`STREAMS`]: of each side its automaton, an index of the packets that it
 //! emitted, and the words that it used up. So it judges an event without reading the history again. It judges in the
 //! order of [`WorldFault`]'s three causes, the reply first; memory that is refused is told only of an event without a
 //! fault. It numbers the packets emitted over all streams, from 0, and tells each with its side.
 //!
-//! [`laws`] says what one event more changes and what a client may rely on where its stream is served; [`examples`] tells
-//! worked stories, among them one for each premise that shows what goes wrong without it.
+//! [`laws`] says besides what one event more changes and what a client may rely on where its stream is served; [`examples`]
+//! tells worked stories, among them one for each premise that shows what goes wrong without it.
 //!
 //! A slice or a vector of events is in the order of time. Where one meets a definition it is reversed; the two laws
 //! that this needs are [`laws::in_order_of_time`].
