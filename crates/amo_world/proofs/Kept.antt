@@ -32,8 +32,8 @@ use Rattle.amo_world.specs.Emission.{first_of, first_packet, IsTold}
 use Rattle.amo_world.specs.Side.{order, Keeps, IsEmission, with_place, with_word}
 use Rattle.amo_world.proofs.Lists.{contains_cases, contains_first, contains_other, slice_get-longer, slice_get-end}
 
-abbrev emission_of : End → OwnedPacket → Emission
-emission_of side packet = record { side = side; packet = packet }
+abbrev pub emission_by : End → OwnedPacket → Emission
+emission_by side packet = record { side = side; packet = packet }
 
 -- the same index, and the same words
 pub Keeps-same : (k n : Side) (side : End) (stored : List Emission) (automaton : Automaton) (emitted : List OwnedPacket) (words : List ℕ)
@@ -142,7 +142,7 @@ after_again k n side stored automaton emitted words word packet at state known p
 after_first : (k n : Side) (side : End) (stored : List Emission) (automaton : Automaton) (emitted : List OwnedPacket) (words : List ℕ) (word : Option ℕ) (packet : OwnedPacket) (next : ℕ)
     → n.automaton ≡ automaton → next ≡ length stored → ((q : OwnedPacket) → get order n.places q ≡ with_place (get order k.places) (Some packet) next q)
     → ((w : ℕ) → contains nat_cmp n.words w ≡ with_word (contains nat_cmp k.words) word w)
-    → Keeps k side stored k.automaton emitted words → Keeps n side (stored ++ emission_of side packet ∷ []) automaton (packet ∷ emitted) (option_to_list word ++ words)
+    → Keeps k side stored k.automaton emitted words → Keeps n side (stored ++ emission_by side packet ∷ []) automaton (packet ∷ emitted) (option_to_list word ++ words)
 after_first k n side stored automaton emitted words word packet next state end places used keeps = record {
   state = state;
   indexed = λ p among. subst IsSome (sym (places p)) (some_either (is_at (order packet) p) next (get order k.places p) (here_or_there p (contains_cases packet emitted p among)));
@@ -154,16 +154,16 @@ after_first k n side stored automaton emitted words word packet next state end p
     here_or_there p (inl here) = inl (subst (λ (x : OwnedPacket). is_at (order packet) x ≡ true) here (at_itself packet))
     here_or_there p (inr there) = inr (keeps.indexed p there)
 
-    at_end : (p : OwnedPacket) (place : ℕ) → packet ≡ p → next ≡ place → Contains (packet ∷ emitted) p × (slice_get (stored ++ emission_of side packet ∷ []) place ≡ Some (emission_of side p))
+    at_end : (p : OwnedPacket) (place : ℕ) → packet ≡ p → next ≡ place → Contains (packet ∷ emitted) p × (slice_get (stored ++ emission_by side packet ∷ []) place ≡ Some (emission_by side p))
     at_end p place same is = (
       subst (Contains (packet ∷ emitted)) same (contains_first packet emitted),
-      ap (slice_get (stored ++ emission_of side packet ∷ [])) (sym is ∙ end) ∙ slice_get-end stored (emission_of side packet) ∙ ap (λ (x : OwnedPacket). Some (emission_of side x)) same,
+      ap (slice_get (stored ++ emission_by side packet ∷ [])) (sym is ∙ end) ∙ slice_get-end stored (emission_by side packet) ∙ ap (λ (x : OwnedPacket). Some (emission_by side x)) same,
     )
 
     stands : (p : OwnedPacket) (place : ℕ) → ((is_at (order packet) p ≡ true) × (next ≡ place)) ⊎ (get order k.places p ≡ Some place)
-        → Contains (packet ∷ emitted) p × (slice_get (stored ++ emission_of side packet ∷ []) place ≡ Some (emission_of side p))
+        → Contains (packet ∷ emitted) p × (slice_get (stored ++ emission_by side packet ∷ []) place ≡ Some (emission_by side p))
     stands p place (inl (here, is)) = at_end p place (same_packet packet p here) is
-    stands p place (inr there) = let known = keeps.placed p place there in (contains_other packet emitted p known.0, slice_get-longer stored (emission_of side packet ∷ []) place _ known.1)
+    stands p place (inr there) = let known = keeps.placed p place there in (contains_other packet emitted p known.0, slice_get-longer stored (emission_by side packet ∷ []) place _ known.1)
 
 -- after any act
 pub Keeps-more : (k n : Side) (side : End) (stored : List Emission) (automaton : Automaton) (emitted : List OwnedPacket) (words : List ℕ) (word : Option ℕ) (now : Option OwnedPacket) (told : Emitted) (next : ℕ)
@@ -182,14 +182,14 @@ Keeps-more k n side stored automaton emitted words word now (Again at) next (pac
     (subst (λ (s : List Emission). Keeps n side s automaton (packet ∷ emitted) (option_to_list word ++ words)) (sym (append-nil stored)) kept)
 Keeps-more k n side stored automaton emitted words word now (First packet) next (is, absent) state end places used keeps =
     let kept = after_first k n side stored automaton emitted words word packet next state end places used keeps in
-    subst (λ (o : Option OwnedPacket). Keeps n side (stored ++ emission_of side packet ∷ []) automaton (option_to_list o ++ emitted) (option_to_list word ++ words)) (sym is) kept
+    subst (λ (o : Option OwnedPacket). Keeps n side (stored ++ emission_by side packet ∷ []) automaton (option_to_list o ++ emitted) (option_to_list word ++ words)) (sym is) kept
 
 -- what is told is what is emitted
 pub told_from : (k : Side) (side : End) (stored : List Emission) (automaton : Automaton) (emitted : List OwnedPacket) (words : List ℕ) (now : Option OwnedPacket) (told : Emitted)
-    → IsEmission k now told → Keeps k side stored automaton emitted words → IsTold stored side told (option_map (emission_of side) now)
-told_from k side stored automaton emitted words now Nothing none keeps = ap (option_map (emission_of side)) none
-told_from k side stored automaton emitted words now (Again place) (packet, is, found) keeps = (emission_of side packet, ap (option_map (emission_of side)) is, (keeps.placed packet place found).1)
-told_from k side stored automaton emitted words now (First packet) (is, absent) keeps = ap (option_map (emission_of side)) is
+    → IsEmission k now told → Keeps k side stored automaton emitted words → IsTold stored side told (option_map (emission_by side) now)
+told_from k side stored automaton emitted words now Nothing none keeps = ap (option_map (emission_by side)) none
+told_from k side stored automaton emitted words now (Again place) (packet, is, found) keeps = (emission_by side packet, ap (option_map (emission_by side)) is, (keeps.placed packet place found).1)
+told_from k side stored automaton emitted words now (First packet) (is, absent) keeps = ap (option_map (emission_by side)) is
 
 -- the automaton is the one that is kept
 itself : (k : Side) (side : End) (stored : List Emission) (automaton : Automaton) (emitted : List OwnedPacket) (words : List ℕ)
@@ -222,19 +222,19 @@ receiver_makes k now next act told makes stored s both end Receiver = made_at k.
 -- what an act at a side tells
 abbrev pub TellsAt : Side → Act → Emitted → Type 0
 TellsAt was act told = (side : End) (stored : List Emission) (emitted : List OwnedPacket) (words : List ℕ) → Keeps was side stored was.automaton emitted words
-    → IsTold stored side told (option_map (emission_of side) (row was.automaton act).emitted)
+    → IsTold stored side told (option_map (emission_by side) (row was.automaton act).emitted)
 
 pub sender_tells : (k : Sides) (act : Act) (told : Emitted) → TellsAt k.sender act told
-    → (stored : List Emission) (s : Stream) → KeepsBoth k stored s → IsTold stored Sender told (option_map (emission_of Sender) (emitted_at s Sender act))
+    → (stored : List Emission) (s : Stream) → KeepsBoth k stored s → IsTold stored Sender told (option_map (emission_by Sender) (emitted_at s Sender act))
 sender_tells k act told tells stored s both =
     let keeps = both Sender in
-    subst (λ (a : Automaton). IsTold stored Sender told (option_map (emission_of Sender) (row a act).emitted)) keeps.state (tells Sender stored _ _ (itself k.sender Sender stored _ _ _ keeps))
+    subst (λ (a : Automaton). IsTold stored Sender told (option_map (emission_by Sender) (row a act).emitted)) keeps.state (tells Sender stored _ _ (itself k.sender Sender stored _ _ _ keeps))
 
 pub receiver_tells : (k : Sides) (act : Act) (told : Emitted) → TellsAt k.receiver act told
-    → (stored : List Emission) (s : Stream) → KeepsBoth k stored s → IsTold stored Receiver told (option_map (emission_of Receiver) (emitted_at s Receiver act))
+    → (stored : List Emission) (s : Stream) → KeepsBoth k stored s → IsTold stored Receiver told (option_map (emission_by Receiver) (emitted_at s Receiver act))
 receiver_tells k act told tells stored s both =
     let keeps = both Receiver in
-    subst (λ (a : Automaton). IsTold stored Receiver told (option_map (emission_of Receiver) (row a act).emitted)) keeps.state (tells Receiver stored _ _ (itself k.receiver Receiver stored _ _ _ keeps))
+    subst (λ (a : Automaton). IsTold stored Receiver told (option_map (emission_by Receiver) (row a act).emitted)) keeps.state (tells Receiver stored _ _ (itself k.receiver Receiver stored _ _ _ keeps))
 
 -- where an act was refused
 abbrev pub StaysAt : Side → Side → Type 0

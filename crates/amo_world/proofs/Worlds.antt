@@ -25,10 +25,7 @@ use Rattle.amo_world.specs.Stream.{IsStream, Stream, initial, after, automaton_o
 use Rattle.amo_world.specs.History.{stream_after, stream_before, after_if, emissions, event_emission, HasRightReply, DeliversEmitted, UsesNewWord, IsNewWord}
 use Rattle.amo_world.specs.World.{IsWorld}
 use Rattle.amo_world.proofs.Lists.{slice_get-longer, slice_get-end, set_cases, push_cases}
-use Rattle.amo_world.proofs.Kept.{Keeps-longer}
-
-abbrev pub emission_by : End → OwnedPacket → Emission
-emission_by side packet = record { side = side; packet = packet }
+use Rattle.amo_world.proofs.Kept.{emission_by, Keeps-longer}
 
 pub untrue : (b : Bool) → b ≡ false → b ≡ true → ⊥
 untrue true e is = cc

@@ -8,7 +8,8 @@ use Rattle.amo_world.specs.Stream.{Stream, after, emission_of}
 use Rattle.amo_world.specs.Sides.{KeepsBoth}
 use Rattle.amo_world.specs.History.{stream_after, HasRightReply, DeliversEmitted, UsesNewWord}
 use Rattle.amo_world.proofs.Order.{reverse_push}
-use Rattle.amo_world.proofs.Worlds.{at_stream, unused, world_stays, world_grows, emission_by}
+use Rattle.amo_world.proofs.Kept.{emission_by}
+use Rattle.amo_world.proofs.Worlds.{at_stream, unused, world_stays, world_grows}
 use Rattle.amo_world.proofs.world.World.accept.Goals as goal
 
 pub make-requires : goal.make-requires
