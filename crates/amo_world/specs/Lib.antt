@@ -5,6 +5,7 @@ pub mod Doubt
 pub mod Resolution
 pub mod View
 pub mod Example
+pub mod InDoubt
 pub mod Emission
 pub mod Side
 pub mod Sides

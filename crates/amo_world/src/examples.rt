@@ -1,9 +1,11 @@
 //! Worked examples of histories, as laws: the definitions say of each what they should.
-ghost use Rattle.std.specs.Prelude.{ℕ};
+ghost use Rattle.std.specs.Prelude.{◌≡◌, ℕ};
 ghost use Rattle.amo_object.specs.declared.step.End.{End};
 ghost use Rattle.amo_packet.specs.declared.packet.OwnedPacket.{OwnedPacket};
 ghost use Rattle.amo_world.specs.Example as example;
 ghost use Rattle.amo_world.specs.Example.{history_of, IsExample, IsServedExample, IsRepeatExample};
+ghost use Rattle.amo_world.specs.InDoubt as in_doubt;
+ghost use Rattle.amo_world.specs.InDoubt.{doubts_of};
 ghost use Rattle.amo_world.specs.History.{IsRight, IsHonest, IsFresh};
 ghost use Rattle.amo_world.specs.Served.{IsServed};
 
@@ -23,6 +25,15 @@ pub fn crashes()
     ensures sender_after_send { IsServedExample example.sender_crash_after_send example.sender_crash_after_send_run }
     ensures receiver_after_get { IsServedExample example.receiver_crash_after_get example.receiver_crash_after_get_run }
     ensures calls_while_down { IsServedExample example.calls_while_down example.calls_while_down_run }
+{}
+
+/// What stream 1 is as a queue in doubt, after each line of a story.
+pub fn doubts()
+    ensures handshake { doubts_of example.handshake ≡ in_doubt.handshake_doubts }
+    ensures receiver_before_send { doubts_of example.receiver_crash_before_send ≡ in_doubt.receiver_crash_before_send_doubts }
+    ensures sender_after_send { doubts_of example.sender_crash_after_send ≡ in_doubt.sender_crash_after_send_doubts }
+    ensures receiver_after_get { doubts_of example.receiver_crash_after_get ≡ in_doubt.receiver_crash_after_get_doubts }
+    ensures calls_while_down { doubts_of example.calls_while_down ≡ in_doubt.calls_while_down_doubts }
 {}
 
 /// Stories that are not fresh: a side uses a word twice.

@@ -1,0 +1,129 @@
+-- The worked stories as queues in doubt: what stream 1 is after each line.
+use Rattle.std.specs.Prelude.{true, false, List, [], ◌∷◌, ◌++◌}
+use Rattle.amo_object.specs.declared.step.End.TheVariants.{Sender, Receiver}
+use Rattle.amo_object.specs.declared.status.Status.{Status}
+use Rattle.amo_object.specs.declared.status.Status.TheVariants.{Yes, No, Open}
+use Rattle.amo_world.specs.declared.event.Event.{Event}
+use Rattle.amo_world.specs.History.{stream_after}
+use Rattle.amo_world.specs.Doubt.{Entry, State, entry, set_down}
+use Rattle.amo_world.specs.View.{view}
+use Rattle.amo_world.specs.Example.{Line, history_of, letter_a, letter_b}
+
+-- stream 1 after each event of a history, in the order of time
+abbrev pub views : List Event → List State
+views [] = []
+views (e ∷ past) = views past ++ view (stream_after 1 (e ∷ past)) ∷ []
+
+abbrev pub doubts_of : List Line → List State
+doubts_of story = views (history_of story)
+
+-- both sides are up, and the status is in no doubt
+abbrev pub up : List Entry → Status → State
+up es status = record { entries = es; status = status; status_doubted = false; sender_down = false; receiver_down = false }
+
+-- the status is in doubt
+abbrev pub status_in_doubt : State → State
+status_in_doubt s = record s { status_doubted = true }
+
+-- a side is down
+abbrev pub while_sender_down : State → State
+while_sender_down s = set_down s Sender true
+
+abbrev pub while_receiver_down : State → State
+while_receiver_down s = set_down s Receiver true
+
+-- the messages `a` and `b`, in doubt or not
+abbrev pub a : Entry
+a = entry false letter_a
+
+abbrev pub a_in_doubt : Entry
+a_in_doubt = entry true letter_a
+
+abbrev pub b : Entry
+b = entry false letter_b
+
+-- a whole handshake, for the message of no bytes: it is got at the sixth line
+abbrev pub handshake_doubts : List State
+handshake_doubts =
+    up (entry false [] ∷ []) Open ∷
+    up (entry false [] ∷ []) Open ∷
+    up (entry false [] ∷ []) Open ∷
+    up (entry false [] ∷ []) Open ∷
+    up (entry false [] ∷ []) Open ∷
+    up [] Yes ∷
+    up [] Yes ∷
+    up [] Yes ∷
+    up [] Yes ∷
+    up [] Yes ∷
+    []
+
+-- the receiver crashes after its offer: the message is in doubt from then on, and leaves when the sender hears of the loss
+abbrev pub receiver_crash_before_send_doubts : List State
+receiver_crash_before_send_doubts =
+    up (a ∷ []) Open ∷
+    up (a ∷ []) Open ∷
+    up (a ∷ []) Open ∷
+    while_receiver_down (up (a_in_doubt ∷ []) Open) ∷
+    up (a_in_doubt ∷ []) Open ∷
+    up (a_in_doubt ∷ []) Open ∷
+    up (a_in_doubt ∷ []) Open ∷
+    up (a_in_doubt ∷ []) Open ∷
+    up [] No ∷
+    up [] No ∷
+    []
+
+-- the sender crashes after its send: its message is in doubt until it arrives, and stands before the one that is put later
+abbrev pub sender_crash_after_send_doubts : List State
+sender_crash_after_send_doubts =
+    up (a ∷ []) Open ∷
+    up (a ∷ []) Open ∷
+    up (a ∷ []) Open ∷
+    up (a ∷ []) Open ∷
+    while_sender_down (up (a_in_doubt ∷ []) No) ∷
+    up (a_in_doubt ∷ []) No ∷
+    up (a_in_doubt ∷ b ∷ []) Open ∷
+    up (a ∷ b ∷ []) Open ∷
+    up (a ∷ b ∷ []) Open ∷
+    up (a ∷ b ∷ []) Open ∷
+    up (b ∷ []) Open ∷
+    up (b ∷ []) Open ∷
+    up (b ∷ []) Open ∷
+    up (b ∷ []) Open ∷
+    up (b ∷ []) Open ∷
+    up (b ∷ []) Open ∷
+    up (b ∷ []) Open ∷
+    up (b ∷ []) Open ∷
+    up [] Yes ∷
+    up [] Yes ∷
+    up [] Yes ∷
+    up [] Yes ∷
+    up [] Yes ∷
+    []
+
+-- the receiver crashes after the get: what is known of the message is in doubt from then on
+abbrev pub receiver_crash_after_get_doubts : List State
+receiver_crash_after_get_doubts =
+    up (a ∷ []) Open ∷
+    up (a ∷ []) Open ∷
+    up (a ∷ []) Open ∷
+    up (a ∷ []) Open ∷
+    up (a ∷ []) Open ∷
+    up [] Yes ∷
+    while_receiver_down (status_in_doubt (up [] Yes)) ∷
+    status_in_doubt (up [] Yes) ∷
+    status_in_doubt (up [] Yes) ∷
+    status_in_doubt (up [] Yes) ∷
+    up [] No ∷
+    up [] No ∷
+    []
+
+-- a sender that is down says No afterwards
+abbrev pub calls_while_down_doubts : List State
+calls_while_down_doubts =
+    while_sender_down (up [] No) ∷
+    while_sender_down (up [] No) ∷
+    while_sender_down (up [] No) ∷
+    while_sender_down (up [] No) ∷
+    up [] No ∷
+    up [] No ∷
+    []
