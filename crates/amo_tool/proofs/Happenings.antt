@@ -24,7 +24,7 @@ use Rattle.amo_world.specs.Stream.{reply_of, emitted_by, word_of, words_of}
 use Rattle.amo_world.specs.History.{stream_after, stream_before, emissions, HasRightReply, DeliversEmitted, UsesNewWord}
 use Rattle.amo_packet.specs.declared.packet.OwnedPacket.{OwnedPacket}
 use Rattle.amo_packet.specs.Grammar.{spelling}
-use Rattle.amo_world.proofs.Worlds.{emission_by}
+use Rattle.amo_world.proofs.Kept.{emission_by}
 use Rattle.amo_world.proofs.Emitted.{start_is_done, resend_is_done, deliver_is_done, crash_is_done, recover_is_done, stands}
 use Rattle.amo_tool.specs.Transcript.{delivery, happening, replied, is_new, uses_new_word, checked, becomes, IsReplayed, IsTranscript}
 use Rattle.amo_tool.specs.declared.schedule.Line.{Line}

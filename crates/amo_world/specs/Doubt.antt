@@ -1,4 +1,5 @@
--- The queue in doubt: the at-most-once queue, in which what a crash may have lost is marked. It leaves later, or stays.
+-- The queue in doubt: the at-most-once queue with a mark on each message, and on the status, that a crash may have lost. What is
+-- marked may be lost later; what bears no mark any more stays.
 use Rattle.std.specs.Prelude.{◌≡◌, ℕ, Bool, true, false, ◌||◌, Option, None, Some, List, [], ◌∷◌, ◌++◌}
 use Rattle.amo_object.specs.declared.step.End.{End}
 use Rattle.amo_object.specs.declared.step.End.TheVariants.{Sender, Receiver}
@@ -24,6 +25,10 @@ pub record State : Type 0 where
   pub sender_down : Bool
   pub receiver_down : Bool
 
+-- empty, with nothing put yet and both sides up
+abbrev pub start : State
+start = record { entries = []; status = Yes; status_doubted = false; sender_down = false; receiver_down = false }
+
 -- whether this side is down
 abbrev pub is_down : State → End → Bool
 is_down s Sender = s.sender_down
@@ -48,22 +53,25 @@ abbrev pub rest : List Entry → List Entry
 rest [] = []
 rest (e ∷ es) = es
 
--- the status once a message has left before these: it is settled if the last one left
+-- the status once a message in front of these has left: if none is behind it, an open status becomes the one given
 abbrev pub settled_before : List Entry → Status → Status → Status
 settled_before [] status known = settled status known
 settled_before (e ∷ later) status known = status
 
 -- What happens to the queue. A change of one message names it by those before it and those after it.
 pub data Change : Type 0 where
+  -- a visible step of the queue: a client's call, a crash or a recovery
   call : Step → Change
+  -- a message is marked, loses its mark, or is lost
   mark : List Entry → Entry → List Entry → Change
   unmark : List Entry → Entry → List Entry → Change
   leave : List Entry → Entry → List Entry → Change
+  -- the status is marked, loses its mark, or becomes No
   mark_status : Change
   unmark_status : Change
   settle_status : Change
 
--- a step of the queue that a client sees may be taken here
+-- a visible step of the queue is allowed here
 abbrev pub AllowsCall : State → Step → Type 0
 AllowsCall s (Put m) = s.sender_down ≡ false
 AllowsCall s (Get m) = (s.receiver_down ≡ false) × (first s.entries ≡ Some m)
@@ -85,8 +93,8 @@ after_call s (DownReply side) = s
 after_call s (Lose place) = s
 after_call s LoseAck = s
 
--- Marks are set only while a side is down, and may be taken away at any time. What is marked may leave at any time: a message
--- as at a loss, and a status for No.
+-- Marks are set only while a side is down, and may be taken away at any time. What is marked may be lost at any time: a message
+-- leaves, as at a loss of the queue, and a status becomes No.
 abbrev pub Allows : State → Change → Type 0
 Allows s (call step) = AllowsCall s step
 Allows s (mark before e later) = (is_any_down s ≡ true) × (s.entries ≡ before ++ e ∷ later)
@@ -116,7 +124,7 @@ abbrev pub after_all : State → List Change → State
 after_all s [] = s
 after_all s (c ∷ cs) = after_all (after s c) cs
 
--- the steps among changes that a client sees
+-- the visible steps among changes
 abbrev pub calls_of : List Change → List Step
 calls_of [] = []
 calls_of (call step ∷ cs) = step ∷ calls_of cs
@@ -127,7 +135,7 @@ calls_of (mark_status ∷ cs) = calls_of cs
 calls_of (unmark_status ∷ cs) = calls_of cs
 calls_of (settle_status ∷ cs) = calls_of cs
 
--- from one state to another by changes that are allowed, among which a client sees just these steps
+-- from one state to another by changes that are allowed, with just these visible steps among them
 pub record Moves (s : State) (steps : List Step) (t : State) : Type 0 where
   pub changes : List Change
   pub allowed : AllowsAll s changes

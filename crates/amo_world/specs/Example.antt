@@ -237,6 +237,47 @@ calls_while_down =
 abbrev pub calls_while_down_run : List Step
 calls_while_down_run = step.Crash Sender ∷ step.DownReply Sender ∷ step.DownReply Sender ∷ step.LoseAck ∷ step.Recover Sender ∷ step.Ack false ∷ []
 
+-- the receiver holds a message through a crash of the sender, which loses what waits; then the receiver crashes too
+abbrev pub message_held_through_a_crash : List Line
+message_held_through_a_crash =
+    put letter_a ∷
+    put letter_b ∷
+    start 7 emits NeedUid 7 ∷
+    to_receiver (NeedUid 7) 9 emits Accept 7 9 ∷
+    to_sender (Accept 7 9) emits Send 9 letter_a ∷
+    to_receiver (Send 9 letter_a) 0 ∷
+    crash Sender ∷
+    recover Sender ∷
+    put hi ∷
+    start 8 emits NeedUid 8 ∷
+    get (reply.Got letter_a) ∷
+    crash Receiver ∷
+    recover Receiver ∷
+    []
+
+abbrev pub message_held_through_a_crash_run : List Step
+message_held_through_a_crash_run =
+    step.Put letter_a ∷ step.Put letter_b ∷ step.Crash Sender ∷ step.Lose 1 ∷ step.Recover Sender ∷ step.Put hi ∷ step.Get letter_a ∷ step.Crash Receiver ∷ step.Recover Receiver ∷ []
+
+-- both sides are down at once, while a message waits
+abbrev pub both_sides_down : List Line
+both_sides_down =
+    put letter_a ∷
+    put letter_b ∷
+    start 7 emits NeedUid 7 ∷
+    to_receiver (NeedUid 7) 9 emits Accept 7 9 ∷
+    to_sender (Accept 7 9) emits Send 9 letter_a ∷
+    to_receiver (Send 9 letter_a) 0 ∷
+    get (reply.Got letter_a) ∷
+    crash Receiver ∷
+    crash Sender ∷
+    recover Sender ∷
+    recover Receiver ∷
+    []
+
+abbrev pub both_sides_down_run : List Step
+both_sides_down_run = step.Put letter_a ∷ step.Put letter_b ∷ step.Get letter_a ∷ step.Crash Receiver ∷ step.Crash Sender ∷ step.Lose 0 ∷ step.Recover Sender ∷ step.Recover Receiver ∷ []
+
 -- after a crash the sender asks under the word of its first request again
 abbrev pub start_word_repeated : List Line
 start_word_repeated =

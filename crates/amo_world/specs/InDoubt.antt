@@ -7,7 +7,7 @@ use Rattle.amo_world.specs.declared.event.Event.{Event}
 use Rattle.amo_world.specs.History.{stream_after}
 use Rattle.amo_world.specs.Doubt.{Entry, State, entry, set_down}
 use Rattle.amo_world.specs.View.{view}
-use Rattle.amo_world.specs.Example.{Line, history_of, letter_a, letter_b}
+use Rattle.amo_world.specs.Example.{Line, history_of, letter_a, letter_b, hi}
 
 -- stream 1 after each event of a history, in the order of time
 abbrev pub views : List Event → List State
@@ -50,6 +50,25 @@ handshake_doubts =
     up (entry false [] ∷ []) Open ∷
     up (entry false [] ∷ []) Open ∷
     up (entry false [] ∷ []) Open ∷
+    up [] Yes ∷
+    up [] Yes ∷
+    up [] Yes ∷
+    up [] Yes ∷
+    up [] Yes ∷
+    []
+
+-- a packet that comes again changes nothing
+abbrev pub send_repeated_doubts : List State
+send_repeated_doubts =
+    up (entry false hi ∷ []) Open ∷
+    up (entry false hi ∷ []) Open ∷
+    up (entry false hi ∷ []) Open ∷
+    up (entry false hi ∷ []) Open ∷
+    up (entry false hi ∷ []) Open ∷
+    up (entry false hi ∷ []) Open ∷
+    up [] Yes ∷
+    up [] Yes ∷
+    up [] Yes ∷
     up [] Yes ∷
     up [] Yes ∷
     up [] Yes ∷
@@ -125,5 +144,39 @@ calls_while_down_doubts =
     while_sender_down (up [] No) ∷
     while_sender_down (up [] No) ∷
     up [] No ∷
+    up [] No ∷
+    []
+
+-- a message that the receiver holds is in no doubt, whoever crashes; nor is one that was not sent, where nothing was offered for its request
+abbrev pub message_held_through_a_crash_doubts : List State
+message_held_through_a_crash_doubts =
+    up (a ∷ []) Open ∷
+    up (a ∷ b ∷ []) Open ∷
+    up (a ∷ b ∷ []) Open ∷
+    up (a ∷ b ∷ []) Open ∷
+    up (a ∷ b ∷ []) Open ∷
+    up (a ∷ b ∷ []) Open ∷
+    while_sender_down (up (a ∷ []) No) ∷
+    up (a ∷ []) No ∷
+    up (a ∷ entry false hi ∷ []) Open ∷
+    up (a ∷ entry false hi ∷ []) Open ∷
+    up (entry false hi ∷ []) Open ∷
+    while_receiver_down (up (entry false hi ∷ []) Open) ∷
+    up (entry false hi ∷ []) Open ∷
+    []
+
+-- a crash of the receiver puts nothing in doubt that waits, nor the status while something waits
+abbrev pub both_sides_down_doubts : List State
+both_sides_down_doubts =
+    up (a ∷ []) Open ∷
+    up (a ∷ b ∷ []) Open ∷
+    up (a ∷ b ∷ []) Open ∷
+    up (a ∷ b ∷ []) Open ∷
+    up (a ∷ b ∷ []) Open ∷
+    up (a ∷ b ∷ []) Open ∷
+    up (b ∷ []) Open ∷
+    while_receiver_down (up (b ∷ []) Open) ∷
+    while_receiver_down (while_sender_down (up [] No)) ∷
+    while_receiver_down (up [] No) ∷
     up [] No ∷
     []

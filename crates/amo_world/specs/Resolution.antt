@@ -1,4 +1,4 @@
--- Resolutions of the queue in doubt: each doubted message is kept or was lost, and so is a doubted status.
+-- Resolutions of the queue in doubt: each message in doubt is kept or lost, and a status in doubt stays or is No.
 use Rattle.std.specs.Prelude.{◌≡◌, ℕ, Bool, true, false, ◌||◌, ◌⊎◌, List, [], ◌∷◌, if◌then◌else◌}
 use Rattle.amo_object.specs.declared.status.Status.{Status}
 use Rattle.amo_object.specs.declared.status.Status.TheVariants.{Yes, No, Open}
@@ -36,7 +36,7 @@ keeps_last (f ∷ g ∷ fs) = keeps_last (g ∷ fs)
 abbrev pub IsKnown : Status → Bool → Status → Type 0
 IsKnown status doubted known = (known ≡ status) ⊎ ((doubted ≡ true) × (known ≡ No))
 
--- No, where nothing is known of the last message put and it is not kept
+-- No, where the status is open and the last message is not kept; elsewhere the status, or No too where it is in doubt
 abbrev pub ResolvesStatus : Status → Bool → Bool → Status → Type 0
 ResolvesStatus Open false doubted known = known ≡ No
 ResolvesStatus Open true doubted known = IsKnown Open doubted known
@@ -53,7 +53,7 @@ pub record Resolves (r : queue.State) (s : State) : Type 0 where
   pub sender_down : r.sender_down ≡ s.sender_down
   pub receiver_down : r.receiver_down ≡ s.receiver_down
 
--- a run of the queue between two states, in which a client sees just these steps
+-- a run of the queue between two states, with just these steps besides its losses
 pub record Runs (r : queue.State) (steps : List Step) (t : queue.State) : Type 0 where
   pub run : List Step
   pub allowed : IsRunFrom r run

@@ -40,7 +40,7 @@ module _ {S : Type 0} where
     words = option_to_list word ++ side.words;
   }
 
--- both sides; and of what the sender is sending, the messages that the receiver's client did not take yet
+-- both sides; and while the sender sends, the messages of what it sends that the receiver's client did not take yet. No row reads these.
 pub record Stream : Type 0 where
   pub sender : Side sender.State
   pub receiver : Side receiver.State

@@ -1,4 +1,4 @@
--- What a stream is as a queue in doubt: what its two sides know together.
+-- A stream as a queue in doubt, read off both modes, the packets emitted, and what was not taken yet.
 use Rattle.std.specs.Prelude.{ℕ, ◌==◌, Bool, true, false, ◌&&◌, ◌||◌, not, if◌then◌else◌, List, [], ◌∷◌, ◌++◌}
 use Rattle.amo_object.specs.declared.status.Status.{Status}
 use Rattle.amo_object.specs.declared.status.Status.TheVariants.{Yes, No, Open}
@@ -19,7 +19,7 @@ abbrev pub entries : Bool → List (List ℕ) → List Entry
 entries doubted [] = []
 entries doubted (m ∷ ms) = entry doubted m ∷ entries doubted ms
 
--- the receiver has an identifier, which it offers, or under which it holds a message or has given one away; a crash loses it
+-- the receiver has an identifier: it offers it, or holds a message under it, or gave the one under it to its client; a crash loses it
 abbrev pub has : ReceiverMode → ℕ → Bool
 has (receiving.Accept jd offered) id = offered == id
 has (receiving.Rcvd under held) id = under == id
@@ -46,7 +46,8 @@ abbrev pub carried : List OwnedPacket → ℕ → List (List ℕ)
 carried [] id = []
 carried (p ∷ ps) id = carried_by p.body id (carried ps id)
 
--- an offer made for a request, of an identifier that the receiver does not have any more
+-- an offer made for a request, of an identifier that the receiver does not have any more. While the sender asks under that request, a
+-- crash alone can have lost it.
 abbrev pub is_lost_offer : ReceiverMode → ℕ → OwnedBody → Bool
 is_lost_offer mode jd (packet.Accept asked id) = (asked == jd) && not (has mode id)
 is_lost_offer mode jd _ = false
@@ -56,14 +57,15 @@ abbrev pub may_meet_lost_offer : ReceiverMode → ℕ → List OwnedPacket → B
 may_meet_lost_offer mode jd [] = false
 may_meet_lost_offer mode jd (p ∷ ps) = is_lost_offer mode jd p.body || may_meet_lost_offer mode jd ps
 
--- what the receiver holds, or may still be sent under its offer, although the sender does not send it any more: that is in doubt
+-- the message that the receiver holds, in no doubt; or, while it offers an identifier under which the sender does not send any more, the
+-- message that was sent under it, which may still arrive and is in doubt
 abbrev pub received : SenderMode → ReceiverMode → List OwnedPacket → List Entry
 received mode (receiving.Rcvd id m) sent = entry false m ∷ []
 received mode (receiving.Accept jd id) sent = if sender.is_sending mode id then [] else entries true (carried sent id)
 received mode _ sent = []
 
--- what the sender is about to send, or sends and the receiver's client did not take: in doubt where a crash of the receiver
--- lost the identifier that it has, or may get
+-- what the sender is about to send, or sends and the receiver's client did not take, unless the receiver holds it and it is listed there:
+-- in doubt where a crash of the receiver lost the identifier that it has, or may get
 abbrev pub current : SenderMode → ReceiverMode → List OwnedPacket → List (List ℕ) → List Entry
 current (sending.NeedId jd m) mode offers untaken = entry (may_meet_lost_offer mode jd offers) m ∷ []
 current (sending.Send id m) mode offers untaken = if holds mode id then [] else entries (not (has mode id)) untaken
@@ -82,7 +84,7 @@ known sending.Down waiting untaken = No
 known mode [] untaken = known_of mode untaken
 known mode (m ∷ waiting) untaken = Open
 
--- the last message put was taken, the sender does not know it, and the receiver has forgotten it
+-- the last message put was taken, the sender was not told, and the receiver has forgotten it
 abbrev pub is_known_in_doubt : SenderMode → List (List ℕ) → List (List ℕ) → ReceiverMode → Bool
 is_known_in_doubt (sending.Send id m) [] [] mode = not (has_given mode id)
 is_known_in_doubt _ waiting untaken mode = false

@@ -25,15 +25,20 @@ pub fn crashes()
     ensures sender_after_send { IsServedExample example.sender_crash_after_send example.sender_crash_after_send_run }
     ensures receiver_after_get { IsServedExample example.receiver_crash_after_get example.receiver_crash_after_get_run }
     ensures calls_while_down { IsServedExample example.calls_while_down example.calls_while_down_run }
+    ensures message_held { IsServedExample example.message_held_through_a_crash example.message_held_through_a_crash_run }
+    ensures both_sides_down { IsServedExample example.both_sides_down example.both_sides_down_run }
 {}
 
 /// What stream 1 is as a queue in doubt, after each line of a story.
 pub fn doubts()
     ensures handshake { doubts_of example.handshake ≡ in_doubt.handshake_doubts }
+    ensures send_repeated { doubts_of example.send_repeated ≡ in_doubt.send_repeated_doubts }
     ensures receiver_before_send { doubts_of example.receiver_crash_before_send ≡ in_doubt.receiver_crash_before_send_doubts }
     ensures sender_after_send { doubts_of example.sender_crash_after_send ≡ in_doubt.sender_crash_after_send_doubts }
     ensures receiver_after_get { doubts_of example.receiver_crash_after_get ≡ in_doubt.receiver_crash_after_get_doubts }
     ensures calls_while_down { doubts_of example.calls_while_down ≡ in_doubt.calls_while_down_doubts }
+    ensures message_held { doubts_of example.message_held_through_a_crash ≡ in_doubt.message_held_through_a_crash_doubts }
+    ensures both_sides_down { doubts_of example.both_sides_down ≡ in_doubt.both_sides_down_doubts }
 {}
 
 /// Stories that are not fresh: a side uses a word twice.

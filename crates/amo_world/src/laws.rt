@@ -9,7 +9,7 @@ ghost use Rattle.amo_object.specs.Run.{IsCrashFree};
 ghost use Rattle.amo_object.specs.Delivery.{messages_put, messages_got, IsSubsequence};
 ghost use Rattle.amo_world.specs.declared.emission.Emission.{Emission};
 ghost use Rattle.amo_world.specs.declared.event.Event.{Event};
-ghost use Rattle.amo_world.specs.Stream.{after, emitted_by};
+ghost use Rattle.amo_world.specs.Stream.{initial, after, emitted_by};
 ghost use Rattle.amo_world.specs.History.{stream_after, stream_before, emissions, event_emission, IsRight, IsHonest, IsFresh, Extends};
 ghost use Rattle.amo_world.specs.Served.{call_of, calls, IsServed};
 ghost use Rattle.amo_world.specs.Doubt as doubt;
@@ -46,16 +46,20 @@ pub fn served_streams()
         (earlier : List (List ℕ)) × (messages_got later ≡ earlier ++ m ∷ []) }
 {}
 
-/// In a right, honest and fresh history each event moves the queue in doubt that its stream is, and a client sees of the move
-/// the event's call alone.
+/// As a queue in doubt, a stream of no events is empty, with the status Yes and both sides up. In a right, honest and fresh
+/// history each event moves the queue in doubt that its stream is by its own visible step, if it has one, and no other.
 pub fn events_move_the_queue_in_doubt()
-    ensures { (past : List Event) (e : Event) → IsRight (e ∷ past) → IsHonest (e ∷ past) → IsFresh (e ∷ past)
+    ensures first { (number : ℕ) → view (initial number) ≡ doubt.start }
+    ensures events { (past : List Event) (e : Event) → IsRight (e ∷ past) → IsHonest (e ∷ past) → IsFresh (e ∷ past)
         → Moves (view (stream_before past e)) (option_to_list (call_of e.side e.act e.reply)) (view (stream_after e.stream (e ∷ past))) }
 {}
 
-/// Whatever a queue in doubt may stand for after it has moved comes, by steps of the at-most-once queue of which a client
-/// sees the same, from what it may have stood for before; so it is with each event of a right, honest and fresh history.
+/// Each queue in doubt may stand for some queue, and an empty one at the start for the empty queue alone. Whatever it may stand
+/// for after it has moved comes, by steps of the queue with the same visible ones, from what it may have stood for before; so
+/// it is with each event of a right, honest and fresh history.
 pub fn doubts_resolve()
+    ensures exists { (s : doubt.State) → (r : queue.State) × Resolves r s }
+    ensures first { (r : queue.State) → Resolves r doubt.start → r ≡ queue.start }
     ensures moves { (s t : doubt.State) (steps : List Step) → Moves s steps t → (after : queue.State) → Resolves after t
         → (before : queue.State) × Resolves before s × Runs before steps after }
     ensures events { (past : List Event) (e : Event) → IsRight (e ∷ past) → IsHonest (e ∷ past) → IsFresh (e ∷ past)

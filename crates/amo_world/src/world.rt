@@ -70,7 +70,8 @@ impl World {
         requires { IsStream event.stream }
         ensures accepted { OnOk result (self.new ≡ event ∷ self.old) }
         ensures sound { OnOk result (IsRight self.new × IsHonest self.new × IsFresh self.new) }
-        // The queue in doubt that the stream is has moved, and a client saw of it the call alone; and every stream is served.
+        // The stream, as a queue in doubt, has moved by the event's visible step, if it has one, and no other; and every stream is
+        // served.
         ensures moved { OnOk result (Moves (view (stream_before self.old event)) (option_to_list (call_of event.side event.act event.reply))
             (view (stream_after event.stream self.new))) }
         ensures served { OnOk result ((number : ℕ) → IsServed number self.new) }
