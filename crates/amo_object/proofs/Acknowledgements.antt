@@ -1,4 +1,4 @@
--- What the answer yes tells: the last message put was got.
+-- What the reply yes tells: the last message put was got.
 use Rattle.std.proofs.Common.{◌≡◌, ℕ, ◌+◌, ◌<◌, ◌==◌, if◌then◌else◌, Bool, true, false, Some, List, [], ◌∷◌, ◌++◌, length, refl, sym, ◌∙◌, ap, subst, slice_get, remove, arith}
 use Rattle.std.proofs.lemmas.Bool.{eqb-false, ne_eqb}
 use Rattle.std.proofs.lemmas.List.{length-append}
@@ -10,14 +10,14 @@ use Rattle.amo_object.specs.declared.status.Status.{Status}
 use Rattle.amo_object.specs.declared.status.Status.TheVariants.{Yes, No, Open}
 use Rattle.amo_object.specs.declared.step.Step.{Step}
 use Rattle.amo_object.specs.declared.step.Step.TheVariants.{Put, Get, Ack, Crash, Recover, DownReply, Lose, LoseAck}
-use Rattle.amo_object.specs.Queue.{State, after, set_down, settled}
+use Rattle.amo_object.specs.Queue.{QueueState, after, set_down, settled}
 use Rattle.amo_object.specs.Run.{IsRunFrom, after_all, without_losses}
 use Rattle.amo_object.specs.Delivery.{messages_put, messages_got}
 use Rattle.amo_object.proofs.Deliveries.{messages-set_down, messages_put-without_losses, messages_got-without_losses}
 use Rattle.amo_object.proofs.Runs.{IsRunFrom-split, without_losses-split}
 
 -- a crash and a recovery leave the status
-status-set_down : (s : State) (side : End) (down : Bool) → (set_down s side down).status ≡ s.status
+status-set_down : (s : QueueState) (side : End) (down : Bool) → (set_down s side down).status ≡ s.status
 status-set_down s Sender down = refl
 status-set_down s Receiver down = refl
 
@@ -41,7 +41,7 @@ settled-other false status known e = refl
 settled-other true status known e = absurd cc
 
 -- a status No stays until the next put
-status-No : (s : State) (later : List Step) → s.status ≡ No → messages_put later ≡ [] → (after_all s later).status ≡ No
+status-No : (s : QueueState) (later : List Step) → s.status ≡ No → messages_put later ≡ [] → (after_all s later).status ≡ No
 status-No s [] lost quiet = lost
 status-No s (Put m ∷ later) lost quiet = absurd cc
 status-No s (Get m ∷ later) lost quiet = status-No (after s (Get m)) later (settled-No (0 + 1 == length s.messages) s.status Yes lost) quiet
@@ -52,7 +52,7 @@ status-No s (LoseAck ∷ later) lost quiet = status-No (after s LoseAck) later r
 status-No s (step ∷ later) lost quiet = status-No (after s step) later lost quiet
 
 -- nothing is got from an empty queue until the next put
-messages_got-nil : (s : State) (later : List Step) → s.messages ≡ [] → messages_put later ≡ [] → IsRunFrom s later → messages_got later ≡ []
+messages_got-nil : (s : QueueState) (later : List Step) → s.messages ≡ [] → messages_put later ≡ [] → IsRunFrom s later → messages_got later ≡ []
 messages_got-nil s [] none quiet run = refl
 messages_got-nil s (Put m ∷ later) none quiet run = absurd cc
 messages_got-nil s (Get m ∷ later) none quiet run = let first : slice_get [] 0 ≡ Some m = rw none at run.0.1 in absurd cc
@@ -63,7 +63,7 @@ messages_got-nil s (LoseAck ∷ later) none quiet run = messages_got-nil (after 
 messages_got-nil s (step ∷ later) none quiet run = messages_got-nil (after s step) later none quiet run.1
 
 -- while the last message put waits: if the status is Yes in the end, that message was got, and was got last
-messages_got-Yes : (s : State) (front : List (List ℕ)) (m : List ℕ) (later : List Step) → s.status ≡ Open → s.messages ≡ front ++ m ∷ [] → messages_put later ≡ [] → IsRunFrom s later → (after_all s later).status ≡ Yes
+messages_got-Yes : (s : QueueState) (front : List (List ℕ)) (m : List ℕ) (later : List Step) → s.status ≡ Open → s.messages ≡ front ++ m ∷ [] → messages_put later ≡ [] → IsRunFrom s later → (after_all s later).status ≡ Yes
     → (earlier : List (List ℕ)) × (messages_got later ≡ earlier ++ m ∷ [])
 messages_got-Yes s front m [] waits last quiet run got = absurd cc
 messages_got-Yes s front m (Put x ∷ later) waits last quiet run got = absurd cc
@@ -100,18 +100,18 @@ messages_got-Yes s front m (Lose place ∷ later) waits last quiet run got =
 messages_got-Yes s front m (LoseAck ∷ later) waits last quiet run got = let gone = status-No (after s LoseAck) later refl quiet in absurd cc
 
 -- where the status is Yes at the end of a run, the message put last was got, and was got last
-pub messages_got-last_put : (s : State) (before : List Step) (m : List ℕ) (later : List Step) → IsRunFrom s (before ++ Put m ∷ later) → messages_put later ≡ [] → (after_all s (before ++ Put m ∷ later)).status ≡ Yes
+pub messages_got-last_put : (s : QueueState) (before : List Step) (m : List ℕ) (later : List Step) → IsRunFrom s (before ++ Put m ∷ later) → messages_put later ≡ [] → (after_all s (before ++ Put m ∷ later)).status ≡ Yes
     → (earlier : List (List ℕ)) × (messages_got later ≡ earlier ++ m ∷ [])
 messages_got-last_put s [] m later run quiet got = messages_got-Yes (after s (Put m)) s.messages m later refl refl quiet run.1 got
 messages_got-last_put s (step ∷ before) m later run quiet got = messages_got-last_put (after s step) before m later run.1 quiet got
 
--- the same of what is seen of a run: after the last put comes the answer yes
-pub messages_got-acknowledged : (s : State) (run before : List Step) (m : List ℕ) (later : List Step) → IsRunFrom s run → without_losses run ≡ before ++ Put m ∷ later ++ Ack true ∷ [] → messages_put later ≡ []
+-- the same of what is seen of a run: after the last put comes the reply yes
+pub messages_got-acknowledged : (s : QueueState) (run before : List Step) (m : List ℕ) (later : List Step) → IsRunFrom s run → without_losses run ≡ before ++ Put m ∷ later ++ Ack true ∷ [] → messages_put later ≡ []
     → (earlier : List (List ℕ)) × (messages_got later ≡ earlier ++ m ∷ [])
 messages_got-acknowledged s run before m later allowed seen quiet =
-    let at_answer = without_losses-split run (before ++ Put m ∷ later) (Ack true) [] seen in
-    let at_put = without_losses-split at_answer.0 before (Put m) later at_answer.3 in
-    let parts = IsRunFrom-split s at_answer.0 (Ack true ∷ at_answer.1) (subst (λ (steps : List Step). IsRunFrom s steps) at_answer.2 allowed) in
+    let at_reply = without_losses-split run (before ++ Put m ∷ later) (Ack true) [] seen in
+    let at_put = without_losses-split at_reply.0 before (Put m) later at_reply.3 in
+    let parts = IsRunFrom-split s at_reply.0 (Ack true ∷ at_reply.1) (subst (λ (steps : List Step). IsRunFrom s steps) at_reply.2 allowed) in
     let found = messages_got-last_put s at_put.0 m at_put.1
     (subst (λ (steps : List Step). IsRunFrom s steps) at_put.2 parts.0)
     (sym (messages_put-without_losses at_put.1) ∙ ap messages_put at_put.4 ∙ quiet)

@@ -5,21 +5,21 @@ use Rattle.std.proofs.lemmas.List.Elements.{filter-append}
 use Rattle.amo_object.specs.declared.step.End.TheVariants.{Sender, Receiver}
 use Rattle.amo_object.specs.declared.step.Step.{Step}
 use Rattle.amo_object.specs.declared.step.Step.TheVariants.{Crash, Recover, Lose, LoseAck}
-use Rattle.amo_object.specs.Queue.{State, after, is_any_down}
+use Rattle.amo_object.specs.Queue.{QueueState, after, is_any_down}
 use Rattle.amo_object.specs.Run.{IsRunFrom, after_all, is_visible, without_losses, is_crash, IsCrashFree}
 
 -- two lists of steps joined lead where the second leads from where the first leads
-pub after_all-append : (s : State) (xs ys : List Step) → after_all s (xs ++ ys) ≡ after_all (after_all s xs) ys
+pub after_all-append : (s : QueueState) (xs ys : List Step) → after_all s (xs ++ ys) ≡ after_all (after_all s xs) ys
 after_all-append s [] ys = refl
 after_all-append s (x ∷ xs) ys = after_all-append (after s x) xs ys
 
 -- a run continued by a run from where it leads is a run
-pub IsRunFrom-append : (s : State) (xs ys : List Step) → IsRunFrom s xs → IsRunFrom (after_all s xs) ys → IsRunFrom s (xs ++ ys)
+pub IsRunFrom-append : (s : QueueState) (xs ys : List Step) → IsRunFrom s xs → IsRunFrom (after_all s xs) ys → IsRunFrom s (xs ++ ys)
 IsRunFrom-append s [] ys first then = then
 IsRunFrom-append s (x ∷ xs) ys first then = (first.0, IsRunFrom-append (after s x) xs ys first.1 then)
 
 -- a beginning of a run is a run, and so is the rest of it
-pub IsRunFrom-split : (s : State) (xs ys : List Step) → IsRunFrom s (xs ++ ys) → IsRunFrom s xs × IsRunFrom (after_all s xs) ys
+pub IsRunFrom-split : (s : QueueState) (xs ys : List Step) → IsRunFrom s (xs ++ ys) → IsRunFrom s xs × IsRunFrom (after_all s xs) ys
 IsRunFrom-split s [] ys run = (tt, run)
 IsRunFrom-split s (x ∷ xs) ys run = let rest = IsRunFrom-split (after s x) xs ys run.1 in ((run.0, rest.0), rest.1)
 
@@ -33,7 +33,7 @@ or-false false b e = (refl, e)
 or-false true b e = absurd cc
 
 -- where no side is down, none is after a step that is no crash
-pub is_any_down-after : (s : State) (x : Step) (xs : List Step) → is_any_down s ≡ false → IsCrashFree (x ∷ xs) → is_any_down (after s x) ≡ false
+pub is_any_down-after : (s : QueueState) (x : Step) (xs : List Step) → is_any_down s ≡ false → IsCrashFree (x ∷ xs) → is_any_down (after s x) ≡ false
 is_any_down-after s (Crash side) xs up quiet = absurd cc
 is_any_down-after s (Recover Sender) xs up quiet = (or-false s.sender_down s.receiver_down up).1
 is_any_down-after s (Recover Receiver) xs up quiet = rw (or-false s.sender_down s.receiver_down up).0
@@ -44,7 +44,7 @@ pub IsCrashFree-tail : (x : Step) (xs : List Step) → IsCrashFree (x ∷ xs) �
 IsCrashFree-tail x xs quiet = (or-false (is_crash x) (list_any is_crash xs) quiet).1
 
 -- while both sides are up and no host crashes, a run has no loss
-pub without_losses-crash_free : (s : State) (xs : List Step) → is_any_down s ≡ false → IsCrashFree xs → IsRunFrom s xs → without_losses xs ≡ xs
+pub without_losses-crash_free : (s : QueueState) (xs : List Step) → is_any_down s ≡ false → IsCrashFree xs → IsRunFrom s xs → without_losses xs ≡ xs
 without_losses-crash_free s [] up quiet run = refl
 without_losses-crash_free s (Lose place ∷ xs) up quiet run = let down = run.0.0 in absurd cc
 without_losses-crash_free s (LoseAck ∷ xs) up quiet run = let down = run.0 in absurd cc

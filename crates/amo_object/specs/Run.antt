@@ -3,15 +3,15 @@ use Rattle.std.specs.Prelude.{◌≡◌, Bool, true, false, not, List, [], ◌�
 use Rattle.std.specs.List.{list_any}
 use Rattle.amo_object.specs.declared.step.Step.{Step}
 use Rattle.amo_object.specs.declared.step.Step.TheVariants.{Crash, Lose, LoseAck}
-use Rattle.amo_object.specs.Queue.{State, start, Allows, after}
+use Rattle.amo_object.specs.Queue.{QueueState, start, Allows, after}
 
 -- these steps, one after another, each allowed where it stands
-abbrev pub IsRunFrom : State → List Step → Type 0
+abbrev pub IsRunFrom : QueueState → List Step → Type 0
 IsRunFrom s [] = Unit {0}
 IsRunFrom s (step ∷ steps) = Allows s step × IsRunFrom (after s step) steps
 
 -- the queue after these steps
-abbrev pub after_all : State → List Step → State
+abbrev pub after_all : QueueState → List Step → QueueState
 after_all s [] = s
 after_all s (step ∷ steps) = after_all (after s step) steps
 

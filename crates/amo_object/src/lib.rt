@@ -4,12 +4,12 @@
 //!
 //! A sender puts messages, a receiver gets them in the order put, and each is got at most once. A message
 //! may be lost instead, but only while a host is down. The sender may ask what became of its last message:
-//! it was got (yes), a host crashed and it may or may not have been got (no), or it still waits and there is no answer yet.
+//! it was got (yes), a host crashed and it may or may not have been got (no), or it still waits, and there is no reply yet.
 //! The object is that of Lampson, Lynch and Søgaard-Andersen, "Correctness of At-Most-Once
 //! Message Delivery Protocols" (1993); Lynch, "Distributed Algorithms" (1996), chapter 22, presents the
 //! protocols that implement it.
 //!
-//! - [`Step`] is one step: a client's call that answered, a crash or recovery of a host, or a loss. A loss
+//! - [`Step`] is one step: a client's call with its reply, a crash or recovery of a host, or a loss. A loss
 //!   is a choice of the queue's own, which no client sees.
 //! - [`Queue`] is the queue itself, as a plain program: it says which steps it allows and takes one.
 //! - A list of steps is a *run* if each is allowed where it stands (`specs/Run.antt`). A history of calls is

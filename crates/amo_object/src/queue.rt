@@ -22,7 +22,7 @@ pub enum QueueFault {
 impl QueueFault {
     ghost use Rattle.amo_object.specs.Fault.{fault_code};
 
-    /// The number of this fault: 1 for a step that is not allowed, 9 for want of memory.
+    /// The number of this fault: 1 for a step that is not allowed, 9 for no memory.
     pub fn code(&self) -> u8
         ensures { result ≡ fault_code self.now }
     {
@@ -47,9 +47,9 @@ pub struct Queue {
 }
 
 impl Model for Queue {
-    ghost use Rattle.amo_object.specs.Queue.{State};
+    ghost use Rattle.amo_object.specs.Queue.{QueueState};
 
-    ghost Value = { State };
+    ghost Value = { QueueState };
 
     ghost view = { λ q. record {
       messages = q.messages.items;
@@ -92,7 +92,7 @@ impl Queue {
         }
     }
 
-    /// Takes a step. Only a put may want memory. A step that is not taken is dropped with its message.
+    /// Takes a step. Only a put may run out of memory. A step that is not taken is dropped with its message.
     pub fn take(&mut self, step: Step) -> Result<(), QueueFault>
         ensures taken { OnOk result (Allows self.old step × (self.new ≡ after self.old step)) }
         ensures succeeds { Allows self.old step → (¬ (IsPut step)) → IsOk result }
@@ -117,7 +117,7 @@ impl Queue {
             Step::Recover(End::Receiver) => self.receiver_down = false,
             Step::Lose(place) => self.leave(place, Status::No),
             Step::LoseAck => self.status = Status::No,
-            Step::Ack(_answer) => {}
+            Step::Ack(_got) => {}
             Step::DownReply(_side) => {}
         }
         Ok(())

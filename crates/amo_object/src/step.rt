@@ -33,14 +33,14 @@ pub enum Step {
     Put(Bytes),
     /// The receiver's client gets the first message.
     Get(Bytes),
-    /// The sender's client is told of the last message put: `true` that it was got, or that none was put yet,
+    /// The sender's client learns of the last message put: `true` that it was got, or that none was put yet,
     /// `false` that a host crashed, and it, if one was put, may or may not have been got.
     Ack(bool),
     /// A side's host crashes.
     Crash(End),
     /// A side's host is up again.
     Recover(End),
-    /// A client's call on a side is answered that its host is down.
+    /// A client's call on a side has the reply that its host is down.
     DownReply(End),
     /// The message at a place, counted from 0, is lost.
     Lose(usize),

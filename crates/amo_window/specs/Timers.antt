@@ -7,9 +7,13 @@ use Rattle.amo_window.specs.declared.timers.Timer.{Timer}
 abbrev pub streams_of : List Timer → List ℕ
 streams_of timers = map (λ t. t.stream) timers
 
--- streams that timers can be made for: at most 256, and they rise
+-- the greatest number of streams that have timers together
+abbrev pub most_timers : ℕ
+most_timers = 256
+
+-- streams that timers can be made for: they are not too many, and they rise
 pub record CanBeTimed (streams : List ℕ) : Type 0 where
-  pub few : length streams ≤ 256
+  pub few : length streams ≤ most_timers
   pub rising : IsStrictlyIncreasing streams
 
 -- no time is set, and the first interval comes next

@@ -10,6 +10,10 @@ pub record Entry : Type 0 where
   pub key : ℕ
   pub stream : ℕ
 
+-- the greatest number of permits that a window may be made for
+abbrev pub most_permits : ℕ
+most_permits = 64
+
 -- how many permits may be out at once, and the stream of each that is out, under its key
 pub record Permits : Type 0 where
   pub limit : ℕ
@@ -56,6 +60,6 @@ by_key s = map.from_entries (slab.entries s)
 -- a slab that has room for as many permits as the limit says, and has no more of them
 pub record IsWithin (s : slab.Slab ℕ) (limit : ℕ) : Type 0 where
   pub least : 1 ≤ limit
-  pub greatest : limit ≤ 64
+  pub greatest : limit ≤ most_permits
   pub within : slab.slab_len s ≤ limit
   pub room : limit ≤ s.capacity

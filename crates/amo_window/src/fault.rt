@@ -1,6 +1,7 @@
 //! Why no window or timers were made.
 ghost use Rattle.std.specs.Prelude.{◌≡◌};
 
+use std::alloc::AllocError;
 use thiserror::Error;
 
 /// Why a window or timers could not be made. Nothing was taken or changed.
@@ -18,7 +19,7 @@ pub enum WindowFault {
 impl WindowFault {
     ghost use Rattle.amo_window.specs.Fault.{fault_code};
 
-    /// The number of this fault: 31 for limits, 9 for want of memory.
+    /// The number of this fault: 31 for limits, 9 for no memory.
     pub fn code(&self) -> u8
         ensures { result ≡ fault_code self.now }
     {
@@ -26,5 +27,15 @@ impl WindowFault {
             WindowFault::Limits => 31,
             WindowFault::NoMemory => 9,
         }
+    }
+}
+
+impl From<AllocError> for WindowFault {
+    ghost use Rattle.amo_window.specs.declared.fault.WindowFault.TheVariants.{NoMemory};
+
+    ghost from_gives = { λ _ fault. fault ≡ NoMemory };
+
+    fn from(_refused: AllocError) -> WindowFault {
+        WindowFault::NoMemory
     }
 }

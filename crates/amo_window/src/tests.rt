@@ -123,3 +123,19 @@ fn makes_timers_for_at_most_256_rising_streams(rt: HostRuntime) -> Result<(), Fa
     }
     Ok(())
 }
+
+#[test]
+fn faults_have_their_code_and_text(rt: HostRuntime) -> Result<(), Fail> {
+    for (fault, code, text) in [
+        (
+            WindowFault::Limits,
+            31,
+            "the limit or the streams are not allowed",
+        ),
+        (WindowFault::NoMemory, 9, "out of memory"),
+    ] {
+        assert_eq!(rt; fault.code(), code);
+        assert_eq!(rt; format!(in rt.alloc(); "{fault}")?.as_str(), text);
+    }
+    Ok(())
+}

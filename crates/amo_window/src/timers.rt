@@ -81,7 +81,7 @@ impl Model for Timers {
 }
 
 impl Timers {
-    ghost use Rattle.amo_window.specs.Timers.{streams_of, CanBeTimed, unset, sent, stopped, changed, due};
+    ghost use Rattle.amo_window.specs.Timers.{most_timers, streams_of, CanBeTimed, unset, sent, stopped, changed, due};
 
     /// Timers for these streams, with no time set. The streams are at most [`MAX_TIMERS`], and each is greater than
     /// the one before it. There may be none.
@@ -93,10 +93,8 @@ impl Timers {
         if streams.len() > MAX_TIMERS || !is_rising(streams) {
             return Err(WindowFault::Limits);
         }
-        match unset_timers(alloc, streams) {
-            Ok(timers) => Ok(Timers { timers }),
-            Err(_) => Err(WindowFault::NoMemory),
-        }
+        let timers = unset_timers(alloc, streams)?;
+        Ok(Timers { timers })
     }
 
     /// Something was sent on this stream at this time: the stream is due again one interval later, or at `u64::MAX`
@@ -138,7 +136,7 @@ impl Timers {
     pub fn due(&self, now: u64) -> Due<'_>
         ensures streams { result ≡ due now self.now }
         ensures rising { IsStrictlyIncreasing result }
-        ensures few { length result ≤ 256 }
+        ensures few { length result ≤ most_timers }
     {
         Due {
             timers: self.timers.as_slice(),
@@ -175,3 +173,6 @@ fn is_rising(streams: &[u32]) -> bool
 {
     streams.is_sorted_by(|before, after| before < after)
 }
+
+#[cfg(test)]
+mod tests;

@@ -69,22 +69,21 @@ impl Model for Window {
 }
 
 impl Window {
-    ghost use Rattle.amo_window.specs.Window.{out, Holds, StayOut, unopened, opened, closed};
+    ghost use Rattle.amo_window.specs.Window.{most_permits, out, Holds, StayOut, unopened, opened, closed};
 
-    /// A window from which at most `limit` permits are out at once. The limit is 1 to [`MAX_PERMITS`].
+    /// A window from which at most `limit` permits are out at once, with room for no more. The limit is 1 to
+    /// [`MAX_PERMITS`].
     pub fn new(alloc: Global, limit: usize) -> Result<Window, WindowFault>
-        ensures ok { IfOk result (λ w. (w ≡ unopened limit) × (1 ≤ limit) × (limit ≤ 64)) }
+        ensures ok { IfOk result (λ w. (w ≡ unopened limit) × (1 ≤ limit) × (limit ≤ most_permits)) }
         ensures none { IfOk result (λ w. out w ≡ 0) }
-        ensures limits { IsErrOf result WindowFault.Limits ↔ ((limit ≡ 0) ⊎ (64 < limit)) }
-        ensures memory { IsErrOf result WindowFault.NoMemory → (1 ≤ limit) × (limit ≤ 64) }
+        ensures limits { IsErrOf result WindowFault.Limits ↔ ((limit ≡ 0) ⊎ (most_permits < limit)) }
+        ensures memory { IsErrOf result WindowFault.NoMemory → (1 ≤ limit) × (limit ≤ most_permits) }
     {
         if limit == 0 || limit > MAX_PERMITS {
             return Err(WindowFault::Limits);
         }
-        match Slab::with_capacity(alloc, limit) {
-            Ok(permits) => Ok(Window { permits, limit }),
-            Err(_) => Err(WindowFault::NoMemory),
-        }
+        let permits = Slab::with_capacity(alloc, limit)?;
+        Ok(Window { permits, limit })
     }
 
     /// A permit for this stream, under a key that no other has. None, and nothing changed, exactly where as many are
@@ -126,8 +125,11 @@ impl Window {
     pub fn out(&self) -> usize
         ensures count { result ≡ out self.now }
         ensures bounded { result ≤ self.now.limit }
-        ensures limit { (1 ≤ self.now.limit) × (self.now.limit ≤ 64) }
+        ensures limit { (1 ≤ self.now.limit) × (self.now.limit ≤ most_permits) }
     {
         self.permits.len()
     }
 }
+
+#[cfg(test)]
+mod tests;

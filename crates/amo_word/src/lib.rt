@@ -3,7 +3,7 @@
 //!
 //! A host hands out a fresh identifier for each handshake, and a crash leaves it no memory of those that it used. So
 //! its words come from outside, as a value that has [`Words`]. For such a value contracts know the word still to come
-//! at each place 0, 1, 2, .., or that none is; a call answers place 0 and moves every place up by one.
+//! at each place 0, 1, 2, .., or that none is; a call gives the word at place 0 and moves every place up by one.
 //!
 //! - [`ChaChaWords`] are the key stream of ChaCha20, two of its words of 32 bits for each word, and never end. The seed
 //!   is the key, and a stream number picks one of 2^64 key streams: each life of a host takes a number of its own.

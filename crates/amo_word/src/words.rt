@@ -12,6 +12,6 @@ pub trait Words {
 
     /// The word at place 0, or none. Afterwards each place has what the place after it had.
     fn next(&mut self) -> Option<u64>
-        ensures answer { result ≡ to_come self.old 0 }
+        ensures first { result ≡ to_come self.old 0 }
         ensures rest { (k : ℕ) → to_come self.new k ≡ to_come self.old (k + 1) };
 }

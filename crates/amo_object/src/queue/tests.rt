@@ -4,9 +4,9 @@ use crate::{Bytes, End, Step};
 use std::alloc::{AllocError, Global};
 use std::test::Fail;
 
-/// A step, with the text of the message that it puts or gets.
+/// A step as a table writes it, with the text of the message that it puts or gets.
 #[derive(Clone, Copy)]
-enum Line {
+enum Written {
     Put(&'static [u8]),
     Get(&'static [u8]),
     Ack(bool),
@@ -17,50 +17,50 @@ enum Line {
     LoseAck,
 }
 
-fn step_of(alloc: Global, line: Line) -> Result<Step, AllocError> {
-    Ok(match line {
-        Line::Put(text) => Step::Put(Bytes::from(text.to_vec(alloc)?)),
-        Line::Get(text) => Step::Get(Bytes::from(text.to_vec(alloc)?)),
-        Line::Ack(answer) => Step::Ack(answer),
-        Line::Crash(side) => Step::Crash(side),
-        Line::Recover(side) => Step::Recover(side),
-        Line::DownReply(side) => Step::DownReply(side),
-        Line::Lose(place) => Step::Lose(place),
-        Line::LoseAck => Step::LoseAck,
+fn step_of(alloc: Global, written: Written) -> Result<Step, AllocError> {
+    Ok(match written {
+        Written::Put(text) => Step::Put(Bytes::from(text.to_vec(alloc)?)),
+        Written::Get(text) => Step::Get(Bytes::from(text.to_vec(alloc)?)),
+        Written::Ack(got) => Step::Ack(got),
+        Written::Crash(side) => Step::Crash(side),
+        Written::Recover(side) => Step::Recover(side),
+        Written::DownReply(side) => Step::DownReply(side),
+        Written::Lose(place) => Step::Lose(place),
+        Written::LoseAck => Step::LoseAck,
     })
 }
 
 #[test]
 fn takes_the_steps_that_it_allows(rt: HostRuntime) -> Result<(), Fail> {
     let mut queue = Queue::new(rt.alloc());
-    for (line, is_allowed) in [
-        (Line::Ack(true), true),
-        (Line::Put(b"one"), true),
-        (Line::Put(b"two"), true),
-        (Line::Ack(true), false),
-        (Line::Ack(false), false),
-        (Line::Get(b"two"), false),
-        (Line::Get(b"one"), true),
-        (Line::Get(b"one"), false),
-        (Line::Lose(0), false),
-        (Line::LoseAck, false),
-        (Line::Get(b"two"), true),
-        (Line::Ack(true), true),
-        (Line::Put(b"three"), true),
-        (Line::DownReply(End::Receiver), false),
-        (Line::Crash(End::Receiver), true),
-        (Line::DownReply(End::Receiver), true),
-        (Line::Get(b"three"), false),
-        (Line::Lose(1), false),
-        (Line::Lose(0), true),
-        (Line::Ack(false), true),
-        (Line::Recover(End::Receiver), true),
-        (Line::Get(b"three"), false),
-        (Line::Crash(End::Sender), true),
-        (Line::Put(b"four"), false),
-        (Line::Ack(false), false),
+    for (written, is_allowed) in [
+        (Written::Ack(true), true),
+        (Written::Put(b"one"), true),
+        (Written::Put(b"two"), true),
+        (Written::Ack(true), false),
+        (Written::Ack(false), false),
+        (Written::Get(b"two"), false),
+        (Written::Get(b"one"), true),
+        (Written::Get(b"one"), false),
+        (Written::Lose(0), false),
+        (Written::LoseAck, false),
+        (Written::Get(b"two"), true),
+        (Written::Ack(true), true),
+        (Written::Put(b"three"), true),
+        (Written::DownReply(End::Receiver), false),
+        (Written::Crash(End::Receiver), true),
+        (Written::DownReply(End::Receiver), true),
+        (Written::Get(b"three"), false),
+        (Written::Lose(1), false),
+        (Written::Lose(0), true),
+        (Written::Ack(false), true),
+        (Written::Recover(End::Receiver), true),
+        (Written::Get(b"three"), false),
+        (Written::Crash(End::Sender), true),
+        (Written::Put(b"four"), false),
+        (Written::Ack(false), false),
     ] {
-        let step = step_of(rt.alloc(), line)?;
+        let step = step_of(rt.alloc(), written)?;
         let want = if is_allowed {
             Ok(())
         } else {
@@ -69,6 +69,24 @@ fn takes_the_steps_that_it_allows(rt: HostRuntime) -> Result<(), Fail> {
         assert_eq!(rt; queue.allows(&step), is_allowed, "at {step:?}");
         assert_eq!(rt; queue.take(step), want);
     }
+    Ok(())
+}
+
+/// The room doubles when it is full: a thousand puts find it grown a few times, to no more than twice what is needed.
+#[test]
+fn doubles_its_room(rt: HostRuntime) -> Result<(), Fail> {
+    let mut queue = Queue::new(rt.alloc());
+    let mut growths: usize = 0;
+    for _put in 0..1000 {
+        let room = queue.messages.capacity();
+        let message = Bytes::from(b"m".to_vec(rt.alloc())?);
+        assert_eq!(rt; queue.take(Step::Put(message)), Ok(()));
+        if queue.messages.capacity() != room {
+            growths = growths.saturating_add(1);
+        }
+        assert!(rt; queue.messages.capacity().saturating_sub(8) / 2 <= queue.messages.len());
+    }
+    assert!(rt; growths <= 12, "{growths} growths");
     Ok(())
 }
 

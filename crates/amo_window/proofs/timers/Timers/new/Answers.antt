@@ -7,4 +7,4 @@ use Rattle.amo_window.proofs.timers.Timers.new.Goals as goal
 pub invariant_of-result : goal.invariant_of-result
 invariant_of-result c =
     let timed : CanBeTimed c.args.streams.now = record { few = omega arith; rising = c.is_rising.ensures.0 (search rules) } in
-    subst CanBeTimed (sym (ap streams_of c.in-Ok.ensures.each ∙ streams_of-unset c.args.streams.now)) timed
+    subst CanBeTimed (sym (ap streams_of c.in_ok-timers.ensures.each ∙ streams_of-unset c.args.streams.now)) timed
