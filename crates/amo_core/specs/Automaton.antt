@@ -4,6 +4,7 @@ use Rattle.amo_packet.specs.declared.packet.OwnedPacket.{OwnedPacket}
 use Rattle.amo_packet.specs.Grammar.{spelling, IsSpellable}
 use Rattle.amo_core.specs.declared.act.Act.{Act}
 use Rattle.amo_core.specs.declared.act.Act.TheVariants.{Put}
+use Rattle.amo_core.specs.declared.mode.Mode.{Mode}
 use Rattle.amo_core.specs.declared.reply.Reply.{Reply}
 use Rattle.amo_core.specs.declared.reply.Reply.TheVariants.{Ok}
 use Rattle.amo_core.specs.declared.automaton.Automaton.{Automaton}
@@ -21,6 +22,11 @@ abbrev pub row : Automaton → Act → Row Automaton
 row (Sender s) act = row_of Sender (sender.row s act)
 row (Receiver s) act = row_of Receiver (receiver.row s act)
 
+-- the kind of the mode
+abbrev pub mode_of : Automaton → Mode
+mode_of (Sender s) = sender.kind s.mode
+mode_of (Receiver s) = receiver.kind s.mode
+
 -- the word that an act uses up
 abbrev pub used_word : Automaton → Act → Option ℕ
 used_word (Sender s) act = sender.used_word s act
@@ -31,12 +37,14 @@ abbrev pub put_back : List ℕ → Option Reply → Option (List ℕ)
 put_back m (Some Ok) = None
 put_back m _ = Some m
 
+-- what an act with this reply hands back
 abbrev pub handed_back : Act → Option Reply → Option (List ℕ)
-handed_back (Put m) told = put_back m told
-handed_back _ told = None
+handed_back (Put m) reply = put_back m reply
+handed_back _ reply = None
 
--- the packet stands at the front of the buffer, if there is one, in a spelling that no other packet has, and the rest of
--- the buffer is as it was
+-- the packet stands at the front of the buffer, if there is one, in a spelling that no other packet has, and the rest
+-- of the buffer is as it was
 abbrev pub Writes : Option OwnedPacket → List ℕ → List ℕ → Option ℕ → Type 0
 Writes None old new written = (new ≡ old) × (written ≡ None)
-Writes (Some p) old new written = IsSpellable p × (new ≡ spelling p ++ drop (length (spelling p)) old) × (written ≡ Some (length (spelling p)))
+Writes (Some p) old new written =
+    IsSpellable p × (new ≡ spelling p ++ drop (length (spelling p)) old) × (written ≡ Some (length (spelling p)))

@@ -1,5 +1,5 @@
 -- The table of a receiver.
-use Rattle.std.specs.Prelude.{ℕ, ◌==◌, Bool, true, false, if◌then◌else◌, List, Option, Some, None}
+use Rattle.std.specs.Prelude.{ℕ, ◌==◌, Bool, true, false, if◌then◌else◌, List, [], ◌∷◌, Option, Some, None}
 use Rattle.amo_packet.specs.declared.packet.OwnedPacket.{OwnedPacket}
 use Rattle.amo_packet.specs.declared.packet.OwnedBody.{OwnedBody}
 use Rattle.amo_packet.specs.declared.packet.OwnedBody.TheVariants as packet
@@ -14,12 +14,12 @@ use Rattle.amo_core.specs.Row.{Row, silent, done, unknown}
 pub mod Replies
 
 -- the stream, which its packets bear, and the mode
-pub record State : Type 0 where
+pub record ReceiverState : Type 0 where
   pub stream : ℕ
   pub mode : ReceiverMode
 
 -- at rest
-abbrev pub initial : ℕ → State
+abbrev pub initial : ℕ → ReceiverState
 initial stream = record { stream = stream; mode = Idle }
 
 -- the kind of a mode
@@ -31,59 +31,59 @@ kind (Ack id) = kind_of.Ack
 kind Down = kind_of.Down
 
 -- nothing is emitted
-abbrev pub quietly : State → Row State
+abbrev pub quietly : ReceiverState → Row ReceiverState
 quietly s = done s None
 
 -- a packet of the receiver's stream is emitted
-abbrev pub emitting : State → OwnedBody → Row State
+abbrev pub emitting : ReceiverState → OwnedBody → Row ReceiverState
 emitting s body = done s (Some (record { stream = s.stream; body = body }))
 
--- a sender asks for an identifier: a word becomes one, or the offer is said again
-abbrev pub needuid : State → ReceiverMode → ℕ → ℕ → Row State
+-- a needuid: at rest it is accepted under the word, and where it was accepted already the accept is emitted again
+abbrev pub needuid : ReceiverState → ReceiverMode → ℕ → ℕ → Row ReceiverState
 needuid s Idle jd word = emitting (record s { mode = Accept jd word }) (packet.Accept jd word)
 needuid s (Accept asked id) jd word = if asked == jd then emitting s (packet.Accept jd id) else quietly s
 needuid s _ jd word = quietly s
 
--- a message comes: it is taken under the identifier offered last, and otherwise answered for
-abbrev pub send : State → ReceiverMode → ℕ → List ℕ → Row State
+-- a send: its message is held under the identifier accepted last; under another one it emits an ack
+abbrev pub send : ReceiverState → ReceiverMode → ℕ → List ℕ → Row ReceiverState
 send s Idle id m = emitting s (packet.Ack id false)
-send s (Accept jd offered) id m = if offered == id then quietly (record s { mode = Rcvd id m }) else emitting s (packet.Ack id false)
+send s (Accept jd accepted) id m = if accepted == id then quietly (record s { mode = Rcvd id m }) else emitting s (packet.Ack id false)
 send s (Rcvd under held) id m = if under == id then quietly s else emitting s (packet.Ack id false)
 send s (Ack under) id m = emitting s (packet.Ack id (under == id))
 send s Down id m = quietly s
 
--- the sender is done with an identifier; a message that was not got yet is kept
-abbrev pub cleanup : State → ReceiverMode → ℕ → Row State
-cleanup s (Accept jd offered) id = quietly (if offered == id then record s { mode = Idle } else s)
+-- a cleanup: the sender is done with an identifier; a message that was not got yet is kept
+abbrev pub cleanup : ReceiverState → ReceiverMode → ℕ → Row ReceiverState
+cleanup s (Accept jd accepted) id = quietly (if accepted == id then record s { mode = Idle } else s)
 cleanup s (Ack under) id = quietly (if under == id then record s { mode = Idle } else s)
 cleanup s _ id = quietly s
 
--- a packet comes, with the word for an offer; one that belongs to a sender changes nothing
-abbrev pub deliver : State → OwnedBody → ℕ → Row State
+-- a delivery, with the word for an accept; one that belongs to a sender changes nothing
+abbrev pub deliver : ReceiverState → OwnedBody → ℕ → Row ReceiverState
 deliver s (packet.NeedUid jd) word = needuid s s.mode jd word
 deliver s (packet.Send id m) word = send s s.mode id m
 deliver s (packet.Cleanup id) word = cleanup s s.mode id
 deliver s _ word = quietly s
 
--- the client takes the message
-abbrev pub get : State → ReceiverMode → Row State
+-- the client gets the message
+abbrev pub get : ReceiverState → ReceiverMode → Row ReceiverState
 get s (Rcvd id m) = silent (record s { mode = Ack id }) (reply.Got m)
 get s Down = silent s reply.Down
 get s _ = silent s reply.Nothing
 
--- the packet of the mode is said again
-abbrev pub resend : State → ReceiverMode → Row State
+-- the packet of the mode is emitted
+abbrev pub resend : ReceiverState → ReceiverMode → Row ReceiverState
 resend s (Accept jd id) = emitting s (packet.Accept jd id)
 resend s (Ack id) = emitting s (packet.Ack id true)
 resend s _ = quietly s
 
 -- all was forgotten
-abbrev pub recover : State → ReceiverMode → Row State
+abbrev pub recover : ReceiverState → ReceiverMode → Row ReceiverState
 recover s Down = quietly (record s { mode = Idle })
 recover s _ = quietly s
 
 -- the table
-abbrev pub row : State → Act → Row State
+abbrev pub row : ReceiverState → Act → Row ReceiverState
 row s (act.Put m) = unknown s
 row s act.Get = get s s.mode
 row s act.Ack = unknown s
@@ -93,17 +93,32 @@ row s (act.Deliver p word) = deliver s p.body word
 row s act.Crash = quietly (record s { mode = Down })
 row s act.Recover = recover s s.mode
 
--- the word that an offer under it uses up: a receiver at rest makes one where it is asked to
-abbrev pub offered_word : ReceiverMode → OwnedBody → ℕ → Option ℕ
-offered_word Idle (packet.NeedUid jd) word = Some word
-offered_word _ _ word = None
+-- the word that a delivery uses up: a needuid that finds the receiver at rest is accepted under it
+abbrev pub accepted_word : ReceiverMode → OwnedBody → ℕ → Option ℕ
+accepted_word Idle (packet.NeedUid jd) word = Some word
+accepted_word _ _ word = None
 
 -- the word that an act uses up: of a needuid that finds the receiver at rest
-abbrev pub used_word : State → Act → Option ℕ
-used_word s (act.Deliver p word) = offered_word s.mode p.body word
+abbrev pub used_word : ReceiverState → Act → Option ℕ
+used_word s (act.Deliver p word) = accepted_word s.mode p.body word
 used_word s _ = None
 
--- the receiver offers this identifier
-abbrev pub offers : ReceiverMode → ℕ → Bool
-offers (Accept jd offered) id = offered == id
-offers _ id = false
+-- the receiver accepts sends under this identifier
+abbrev pub is_accepting : ReceiverMode → ℕ → Bool
+is_accepting (Accept jd accepted) id = accepted == id
+is_accepting _ id = false
+
+-- the receiver holds a message that was sent under this identifier
+abbrev pub is_holding : ReceiverMode → ℕ → Bool
+is_holding (Rcvd under m) id = under == id
+is_holding _ id = false
+
+-- the receiver's client got the message that was sent under this identifier
+abbrev pub is_acking : ReceiverMode → ℕ → Bool
+is_acking (Ack under) id = under == id
+is_acking _ id = false
+
+-- the messages that the receiver holds for its client
+abbrev pub held_by : ReceiverMode → List (List ℕ)
+held_by (Rcvd id m) = m ∷ []
+held_by _ = []

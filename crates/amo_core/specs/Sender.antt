@@ -15,13 +15,13 @@ use Rattle.amo_core.specs.Row.{Row, silent, done, unknown}
 pub mod Replies
 
 -- the stream, which its packets bear; the mode; the messages that wait, the next one first
-pub record State : Type 0 where
+pub record SenderState : Type 0 where
   pub stream : ℕ
   pub mode : SenderMode
   pub waiting : List (List ℕ)
 
 -- at rest, and nothing was put yet
-abbrev pub initial : ℕ → State
+abbrev pub initial : ℕ → SenderState
 initial stream = record { stream = stream; mode = Quiet true; waiting = [] }
 
 -- the kind of a mode
@@ -32,67 +32,70 @@ kind (Send id m) = kind_of.Send
 kind Down = kind_of.Down
 
 -- nothing is emitted
-abbrev pub quietly : State → Row State
+abbrev pub quietly : SenderState → Row SenderState
 quietly s = done s None
 
 -- a packet of the sender's stream is emitted
-abbrev pub emitting : State → OwnedBody → Row State
+abbrev pub emitting : SenderState → OwnedBody → Row SenderState
 emitting s body = done s (Some (record { stream = s.stream; body = body }))
 
 -- the message goes last on the waiting list, unless sixteen wait
-abbrev pub put : State → SenderMode → List ℕ → Row State
+abbrev pub put : SenderState → SenderMode → List ℕ → Row SenderState
 put s Down m = silent s reply.Down
-put s _ m = if length s.waiting == 16 then silent s reply.Full else silent (record s { waiting = s.waiting ++ m ∷ [] }) reply.Ok
+put s _ m =
+    if length s.waiting == 16 then silent s reply.Full else silent (record s { waiting = s.waiting ++ m ∷ [] }) reply.Ok
 
 -- what is known of the last message put
-abbrev pub get_ack : State → SenderMode → List (List ℕ) → Row State
+abbrev pub get_ack : SenderState → SenderMode → List (List ℕ) → Row SenderState
 get_ack s Down waiting = silent s reply.Down
 get_ack s (Quiet true) [] = silent s reply.Yes
 get_ack s (Quiet false) [] = silent s reply.No
 get_ack s _ waiting = silent s reply.NotYet
 
--- a handshake begins for the first message that waits
-abbrev pub start : State → SenderMode → List (List ℕ) → ℕ → Row State
+-- a handshake begins for the first message that waits: the sender asks for an identifier under the word
+abbrev pub start : SenderState → SenderMode → List (List ℕ) → ℕ → Row SenderState
 start s (Quiet got) (m ∷ rest) word = emitting (record s { mode = NeedId word m; waiting = rest }) (packet.NeedUid word)
 start s _ waiting word = quietly s
 
--- the packet of the mode is said again
-abbrev pub resend : State → SenderMode → Row State
+-- the packet of the mode is emitted
+abbrev pub resend : SenderState → SenderMode → Row SenderState
 resend s (NeedId jd m) = emitting s (packet.NeedUid jd)
 resend s (Send id m) = emitting s (packet.Send id m)
 resend s _ = quietly s
 
--- an identifier is offered: the message goes out under it, or it is given back
-abbrev pub accept : State → SenderMode → ℕ → ℕ → Row State
-accept s (NeedId asked m) jd id = if asked == jd then emitting (record s { mode = Send id m }) (packet.Send id m) else emitting s (packet.Cleanup id)
+-- an accept: the message is sent under the receiver's identifier, or that is cleaned up
+abbrev pub accept : SenderState → SenderMode → ℕ → ℕ → Row SenderState
+accept s (NeedId asked m) jd id =
+    if asked == jd then emitting (record s { mode = Send id m }) (packet.Send id m) else emitting s (packet.Cleanup id)
 accept s (Send under m) jd id = if under == id then quietly s else emitting s (packet.Cleanup id)
 accept s (Quiet got) jd id = emitting s (packet.Cleanup id)
 accept s Down jd id = quietly s
 
--- an answer that says "got" lets the receiver forget
-abbrev pub answered : State → ℕ → Bool → Row State
-answered s id true = emitting s (packet.Cleanup id)
-answered s id false = quietly s
+-- an ack that says "got" is followed by a cleanup
+abbrev pub cleaning_up : SenderState → ℕ → Bool → Row SenderState
+cleaning_up s id true = emitting s (packet.Cleanup id)
+cleaning_up s id false = quietly s
 
--- the receiver answers for an identifier
-abbrev pub ack : State → SenderMode → ℕ → Bool → Row State
-ack s (Send under m) id got = if under == id then answered (record s { mode = Quiet got }) id got else answered s id got
+-- an ack: the message was got under an identifier, or that is not known to the receiver
+abbrev pub ack : SenderState → SenderMode → ℕ → Bool → Row SenderState
+ack s (Send under m) id got =
+    if under == id then cleaning_up (record s { mode = Quiet got }) id got else cleaning_up s id got
 ack s Down id got = quietly s
-ack s _ id got = answered s id got
+ack s _ id got = cleaning_up s id got
 
--- a packet comes; one that belongs to a receiver changes nothing
-abbrev pub deliver : State → OwnedBody → Row State
+-- a delivery; one that belongs to a receiver changes nothing
+abbrev pub deliver : SenderState → OwnedBody → Row SenderState
 deliver s (packet.Accept jd id) = accept s s.mode jd id
 deliver s (packet.Ack id got) = ack s s.mode id got
 deliver s _ = quietly s
 
 -- up again, with what was put last, if anything, forgotten: it may or may not have been got
-abbrev pub recover : State → SenderMode → Row State
+abbrev pub recover : SenderState → SenderMode → Row SenderState
 recover s Down = quietly (record s { mode = Quiet false; waiting = [] })
 recover s _ = quietly s
 
 -- the table
-abbrev pub row : State → Act → Row State
+abbrev pub row : SenderState → Act → Row SenderState
 row s (act.Put m) = put s s.mode m
 row s act.Get = unknown s
 row s act.Ack = get_ack s s.mode s.waiting
@@ -102,20 +105,26 @@ row s (act.Deliver p word) = deliver s p.body
 row s act.Crash = quietly (record s { mode = Down; waiting = [] })
 row s act.Recover = recover s s.mode
 
--- the word that an act uses up: of a start that asks for an identifier under it
-abbrev pub used_word : State → Act → Option ℕ
+-- the word that an act uses up: of a start that emits a needuid
+abbrev pub used_word : SenderState → Act → Option ℕ
 used_word s (act.Start word) = option_map (λ p. word) (row s (act.Start word)).emitted
 used_word s _ = None
 
--- the sender asks under this word
-abbrev pub awaits : SenderMode → ℕ → Bool
-awaits (NeedId asked m) jd = asked == jd
-awaits _ jd = false
+-- the sender asks for an identifier under this one of its own
+abbrev pub is_asking : SenderMode → ℕ → Bool
+is_asking (NeedId asked m) jd = asked == jd
+is_asking _ jd = false
 
 -- the sender sends under this identifier
 abbrev pub is_sending : SenderMode → ℕ → Bool
 is_sending (Send under m) id = under == id
 is_sending _ id = false
+
+-- the messages of the handshake that the sender is in
+abbrev pub held_by : SenderMode → List (List ℕ)
+held_by (NeedId jd m) = m ∷ []
+held_by (Send id m) = m ∷ []
+held_by _ = []
 
 -- the sender is down
 abbrev pub is_down : SenderMode → Bool

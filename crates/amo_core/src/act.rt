@@ -10,11 +10,11 @@ pub enum Act {
     Get,
     /// The client asks what became of the last put. A sender's.
     Ack,
-    /// The host begins a handshake for the first message that waits, under this word. A sender's.
+    /// The host begins a handshake for the first message that waits. The word is the identifier to ask under. A sender's.
     Start(u64),
-    /// The host says the packet of the mode, if it has one, since nothing came back.
+    /// The host emits the packet of the mode, if it has one, since nothing came back.
     Resend,
-    /// A packet comes, with the word that an offer would be made under. Whoever hands it in has looked at its stream.
+    /// A packet comes, with the word that an accept would be made under. Whoever hands it in has looked at its stream.
     Deliver(OwnedPacket, u64),
     /// The host goes down, and forgets everything.
     Crash,

@@ -6,22 +6,25 @@
 //!
 //! ```text
 //!   put, get, get_ack        the client's calls
-//!   start, resend, deliver   what the host makes happen: a handshake begins, a packet is said again or comes
+//!   start, resend, deliver   what the host makes happen: a handshake begins, the mode's packet is emitted, one comes
 //!   crash, recover           all is forgotten; the side comes back
 //! ```
 //!
 //! A [`Sender`] and a [`Receiver`] can be driven by hand, call by call. Whoever keeps sides of both kinds keeps an
-//! [`Automaton`], either of the two, with one step that takes any act and writes what it emits into a buffer.
+//! [`Automaton`], either of the two. It steps by any act: it writes what it emits into a buffer, and becomes what the row
+//! says. The two halves, emission and advance, can be had apart.
 //!
-//! The method is Belsnes's (1976) as told by Lynch, *Distributed Algorithms*, chapter 22. A message travels under an
+//! The method is Belsnes's (1976) as presented by Lynch, *Distributed Algorithms*, chapter 22. A message travels under an
 //! identifier that the receiver made for this one handshake; the receiver takes a message only under the identifier
-//! that it offered last, and says "got" only once its client has the message. So a repeated packet finds its
+//! that it accepted last, and says "got" only once its client has the message. So a repeated packet finds its
 //! identifier used up, and no message is got twice.
 #![tactic(auto)]
 
 mod act;
 mod automaton;
+mod laws;
 mod mode;
+mod outcome;
 mod receiver;
 mod reply;
 mod sender;
@@ -29,8 +32,13 @@ mod sender;
 mod tests;
 
 pub use act::Act;
-pub use automaton::{Automaton, Outcome};
+pub use automaton::Automaton;
+pub use laws::{
+    acks_end_sending, cleanups_end_handshakes, copies_without_bytes_take_no_memory,
+    sends_are_held_only_where_accepted,
+};
 pub use mode::Mode;
+pub use outcome::{Advanced, Outcome};
 pub use receiver::{GetRefusal, Receiver, ReceiverMode};
 pub use reply::Reply;
 pub use sender::{AckReply, MAX_WAITING, PutRefusal, Sender, SenderMode};

@@ -11,7 +11,7 @@ pub enum Mode {
     Send,
     /// A receiver at rest.
     Idle,
-    /// A receiver that has offered an identifier.
+    /// A receiver that has accepted a needuid, under an identifier.
     Accept,
     /// A receiver that holds a message for its client.
     Rcvd,

@@ -3,10 +3,10 @@ ghost use Rattle.std.specs.Prelude.{◌≡◌};
 ghost use Rattle.amo_core.specs.Receiver as table;
 ghost use Rattle.amo_core.specs.declared.act.Act.TheVariants as act;
 
+mod advance;
 mod emission;
 mod handshake;
-mod judge;
-mod step;
+mod lookup;
 
 use crate::Mode;
 use amo_packet::Message;
@@ -19,11 +19,11 @@ use thiserror::Error;
 pub enum ReceiverMode {
     /// At rest.
     Idle,
-    /// Offering an identifier, second, to the sender's word, first.
+    /// Accepting sends under an identifier, second, for the sender's own, first.
     Accept(u64, u64),
     /// Holding the message of an identifier for the client.
     Rcvd(u64, Message),
-    /// Saying that the message of an identifier was got.
+    /// Acknowledging that the message of an identifier was got.
     Ack(u64),
     /// The host is down.
     Down,
@@ -57,7 +57,7 @@ impl GetRefusal {
 /// The receiver of one stream. Contracts see its state.
 ///
 /// ```text
-///              needuid(jd), with a word / accept(jd, word)
+///              needuid(jd), with word id / accept(jd, id)
 ///        Idle ---------------------------------------------> Accept(jd, id)
 ///        ^ ^ ^                                                 |     |
 ///        | | +------------------- cleanup(id) -----------------+     | send(id, m)
@@ -68,9 +68,10 @@ impl GetRefusal {
 ///       Down <---- crash, from every mode
 /// ```
 ///
-/// The needuid of an offer is answered by its accept again. A send under any other identifier is answered by an ack that
-/// says "not known here", and the send of `Ack(id)` by one that says "got". A resend says that accept or that ack. While
-/// the host is down nothing is answered.
+/// In `Accept(jd, id)` a needuid under `jd` emits the accept again. In `Rcvd(id, m)` the send that comes again emits
+/// nothing, and a cleanup takes nothing away. The send of `Ack(id)` emits an ack that says "got", and a send under any
+/// other identifier one that says "not known here". A resend emits the accept or the ack of the mode. While the host is
+/// down nothing is emitted.
 #[derive(Drop)]
 pub struct Receiver {
     stream: u32,
@@ -78,9 +79,9 @@ pub struct Receiver {
 }
 
 impl Model for Receiver {
-    ghost use Rattle.amo_core.specs.Receiver.{State};
+    ghost use Rattle.amo_core.specs.Receiver.{ReceiverState};
 
-    ghost Value = { State };
+    ghost Value = { ReceiverState };
 
     ghost view = { λ s. record { stream = s.stream; mode = s.mode } };
 }

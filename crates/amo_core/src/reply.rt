@@ -1,7 +1,10 @@
-//! What an act is told.
+//! What an act replies.
+ghost use Rattle.std.specs.Prelude.{◌≡◌};
+
+use crate::{AckReply, GetRefusal};
 use amo_packet::Message;
 
-/// What a client's call is told, or `Done` for an act of the host.
+/// What a client's call replies, or `Done` for an act of the host.
 #[derive(Clone, Debug, PartialEq, Eq, Drop)]
 pub enum Reply {
     /// The message waits to be sent.
@@ -22,4 +25,33 @@ pub enum Reply {
     NotYet,
     /// The act was done.
     Done,
+}
+
+impl From<AckReply> for Reply {
+    ghost use Rattle.amo_core.specs.Sender.Replies.{ack_reply};
+
+    ghost from_gives = { λ known reply. reply ≡ ack_reply known };
+
+    fn from(known: AckReply) -> Reply {
+        match known {
+            AckReply::Yes => Reply::Yes,
+            AckReply::No => Reply::No,
+            AckReply::NotYet => Reply::NotYet,
+            AckReply::Down => Reply::Down,
+        }
+    }
+}
+
+impl From<Result<Message, GetRefusal>> for Reply {
+    ghost use Rattle.amo_core.specs.Receiver.Replies.{get_reply};
+
+    ghost from_gives = { λ got reply. reply ≡ get_reply got };
+
+    fn from(got: Result<Message, GetRefusal>) -> Reply {
+        match got {
+            Ok(message) => Reply::Got(message),
+            Err(GetRefusal::Nothing) => Reply::Nothing,
+            Err(GetRefusal::Down) => Reply::Down,
+        }
+    }
 }

@@ -3,10 +3,10 @@ ghost use Rattle.std.specs.Prelude.{◌≡◌, IfErr};
 ghost use Rattle.amo_core.specs.Sender as table;
 ghost use Rattle.amo_core.specs.declared.act.Act.TheVariants as act;
 
+mod advance;
 mod emission;
 mod handshake;
-mod judge;
-mod step;
+mod lookup;
 
 use crate::Mode;
 use amo_packet::Message;
@@ -22,9 +22,9 @@ pub const MAX_WAITING: usize = 16;
 pub enum SenderMode {
     /// At rest, with what is known of the last message sent: whether it was got.
     Quiet(bool),
-    /// Asking for an identifier, under a word of its own, for a message.
+    /// Asking for an identifier, under one of its own, for a message.
     NeedId(u64, Message),
-    /// Sending a message under the identifier that the receiver offered.
+    /// Sending a message under the identifier that the receiver accepted.
     Send(u64, Message),
     /// The host is down.
     Down,
@@ -81,10 +81,10 @@ pub enum AckReply {
 /// The sender of one stream, with the messages that wait. Contracts see its state.
 ///
 /// ```text
-///                      start(word) / needuid(word)
-///        Quiet(got) -----------------------------> NeedId(word, m)
+///                      start(jd) / needuid(jd)
+///        Quiet(got) -----------------------------> NeedId(jd, m)
 ///         ^      ^                                       |
-///         |      |                                       | accept(word, id) / send(id, m)
+///         |      |                                       | accept(jd, id) / send(id, m)
 ///         |      |  ack(id, got) / cleanup(id) if got    v
 ///         |      +---------------------------------- Send(id, m)
 ///         |
@@ -92,8 +92,8 @@ pub enum AckReply {
 ///        Down <---- crash, from every mode; the waiting list is forgotten too
 /// ```
 ///
-/// An accept that comes again in `Send(id, m)` is not answered. Any other accept is answered by a cleanup, and so is any
-/// ack that says "got". A resend says needuid or send again. While the host is down nothing is answered.
+/// An accept that comes again in `Send(id, m)` emits nothing. Any other accept emits a cleanup, and so does any ack that
+/// says "got". A resend emits the needuid or the send of the mode. While the host is down nothing is emitted.
 #[derive(Drop)]
 pub struct Sender {
     stream: u32,
@@ -102,9 +102,9 @@ pub struct Sender {
 }
 
 impl Model for Sender {
-    ghost use Rattle.amo_core.specs.Sender.{State};
+    ghost use Rattle.amo_core.specs.Sender.{SenderState};
 
-    ghost Value = { State };
+    ghost Value = { SenderState };
 
     ghost view = { λ s. record { stream = s.stream; mode = s.mode; waiting = s.waiting.items } };
 }

@@ -1,6 +1,6 @@
-//! A handshake driven by hand, packets as bytes in between, and the corners of both automata.
+//! Both automata against rows that were typed by hand from the tables, with packets as bytes in between.
 use crate::{AckReply, Act, Automaton, GetRefusal, Mode, PutRefusal, Receiver, Reply, Sender};
-use amo_packet::{MAX_MESSAGE, MAX_PACKET, Message, OwnedBody, OwnedPacket, read};
+use amo_packet::{Body, MAX_MESSAGE, MAX_PACKET, Message, Packet, read};
 use std::alloc::Global;
 use std::test::Fail;
 
@@ -16,93 +16,147 @@ const ACK_9_NO: &[u8] = b"\x41\x4d\x01\x04\0\0\0\x01\0\0\0\0\0\0\0\x09\0";
 
 const CLEANUP_9: &[u8] = b"\x41\x4d\x01\x05\0\0\0\x01\0\0\0\0\0\0\0\x09";
 
-/// A datagram with room for any packet.
-#[derive(Drop)]
-struct Datagram {
-    bytes: [u8; MAX_PACKET],
-    length: usize,
+/// What happens at a side. A delivery gives the bytes of its packet.
+#[derive(Clone, Copy, Debug)]
+enum Line {
+    Put(&'static [u8]),
+    Get,
+    Ack,
+    Start,
+    Resend,
+    Deliver(&'static [u8]),
+    Crash,
+    Recover,
 }
 
-impl Datagram {
-    fn bytes(&self) -> &[u8] {
-        match self.bytes.get(..self.length) {
-            Some(bytes) => bytes,
-            None => &[],
-        }
+/// The act of a line. A start has word 7, a delivery word 9.
+fn act_of(alloc: Global, line: Line) -> Result<Act, Fail> {
+    Ok(match line {
+        Line::Put(bytes) => Act::Put(Message::copy(alloc, bytes)?),
+        Line::Get => Act::Get,
+        Line::Ack => Act::Ack,
+        Line::Start => Act::Start(7),
+        Line::Resend => Act::Resend,
+        Line::Deliver(datagram) => Act::Deliver(read(datagram)?.to_owned(alloc)?, 9),
+        Line::Crash => Act::Crash,
+        Line::Recover => Act::Recover,
+    })
+}
+
+/// The text of a reply, or the bytes of the message that was got.
+fn text_of(reply: &Option<Reply>) -> &[u8] {
+    match reply {
+        None => b"none",
+        Some(Reply::Ok) => b"ok",
+        Some(Reply::Full) => b"full",
+        Some(Reply::Down) => b"down",
+        Some(Reply::Got(message)) => message.bytes(),
+        Some(Reply::Nothing) => b"nothing",
+        Some(Reply::Yes) => b"yes",
+        Some(Reply::No) => b"no",
+        Some(Reply::NotYet) => b"notyet",
+        Some(Reply::Done) => b"done",
     }
 }
 
-/// What an act of the sender emits; no bytes where it emits nothing.
-fn sender_emits(sender: &mut Sender, act: Act) -> Datagram {
-    let mut bytes = [0; MAX_PACKET];
-    let length = sender.step(act, &mut bytes).length.unwrap_or(0);
-    Datagram { bytes, length }
+/// Whether an act emits these bytes, or else nothing with a reply of this text, and leaves this mode.
+fn is_row(side: &mut Automaton, act: Act, expected: &[u8], mode: Mode) -> bool {
+    let mut buffer = [0; MAX_PACKET];
+    let outcome = side.step(act, &mut buffer);
+    let is_expected = match outcome.length {
+        Some(length) => buffer.get(..length) == Some(expected),
+        None => text_of(&outcome.reply) == expected,
+    };
+    is_expected && side.mode() == mode
 }
 
-/// What an act of the receiver emits; no bytes where it emits nothing.
-fn receiver_emits(receiver: &mut Receiver, act: Act) -> Datagram {
-    let mut bytes = [0; MAX_PACKET];
-    let length = receiver.step(act, &mut bytes).length.unwrap_or(0);
-    Datagram { bytes, length }
-}
-
-/// The delivery of a datagram, with word 9 for an offer.
-fn delivery(alloc: Global, datagram: &[u8]) -> Result<Act, Fail> {
-    let packet = read(datagram)?.to_owned(alloc)?;
-    Ok(Act::Deliver(packet, 9))
-}
-
-/// The sender of stream 1 with this message waiting.
-fn sender_with(alloc: Global, bytes: &[u8]) -> Result<Sender, Fail> {
-    let mut sender = Sender::new(1);
-    sender.put(Message::copy(alloc, bytes)?)?;
-    Ok(sender)
-}
-
-/// Hands a datagram to a sender, and answers the one that it emits.
-fn to_sender(alloc: Global, sender: &mut Sender, datagram: &[u8]) -> Result<Datagram, Fail> {
-    Ok(sender_emits(sender, delivery(alloc, datagram)?))
-}
-
-/// Hands a datagram to a receiver, and answers the one that it emits.
-fn to_receiver(alloc: Global, receiver: &mut Receiver, datagram: &[u8]) -> Result<Datagram, Fail> {
-    Ok(receiver_emits(receiver, delivery(alloc, datagram)?))
-}
-
-/// Each packet of a handshake is the other side's next input.
+/// Each packet of a handshake is the other side's next input, and some come twice.
 #[test]
 fn handshake(rt: HostRuntime) -> Result<(), Fail> {
-    let mut sender = sender_with(rt.alloc(), b"a")?;
-    let mut receiver = Receiver::new(1);
-    let asked = sender_emits(&mut sender, Act::Start(7));
-    assert_eq!(rt; asked.bytes(), NEEDUID_7);
-    let offered = to_receiver(rt.alloc(), &mut receiver, asked.bytes())?;
-    assert_eq!(rt; offered.bytes(), ACCEPT_7_9);
-    let sent = to_sender(rt.alloc(), &mut sender, offered.bytes())?;
-    assert_eq!(rt; sent.bytes(), SEND_9_A);
-    let silent = to_receiver(rt.alloc(), &mut receiver, sent.bytes())?;
-    assert_eq!(rt; silent.length, 0);
-    assert_eq!(rt; receiver.get()?.bytes(), b"a".as_slice());
-    let got = receiver_emits(&mut receiver, Act::Resend);
-    assert_eq!(rt; got.bytes(), ACK_9_YES);
-    let done = to_sender(rt.alloc(), &mut sender, got.bytes())?;
-    assert_eq!(rt; done.bytes(), CLEANUP_9);
-    let silent = to_receiver(rt.alloc(), &mut receiver, done.bytes())?;
-    assert_eq!(rt; silent.length, 0);
-    assert_eq!(rt; receiver.mode(), Mode::Idle);
-    assert_eq!(rt; sender.get_ack(), AckReply::Yes);
+    let mut sender = Automaton::Sender(Sender::new(1));
+    let mut receiver = Automaton::Receiver(Receiver::new(1));
+    let rows: [(bool, Line, &[u8], Mode); 21] = [
+        (true, Line::Put(b"a"), b"ok", Mode::Quiet),
+        (true, Line::Resend, b"done", Mode::Quiet),
+        (true, Line::Start, NEEDUID_7, Mode::NeedId),
+        (true, Line::Resend, NEEDUID_7, Mode::NeedId),
+        (false, Line::Get, b"nothing", Mode::Idle),
+        (false, Line::Deliver(NEEDUID_7), ACCEPT_7_9, Mode::Accept),
+        (false, Line::Deliver(NEEDUID_7), ACCEPT_7_9, Mode::Accept),
+        (true, Line::Deliver(ACCEPT_7_9), SEND_9_A, Mode::Send),
+        (true, Line::Deliver(ACCEPT_7_9), b"done", Mode::Send),
+        (true, Line::Resend, SEND_9_A, Mode::Send),
+        (false, Line::Deliver(SEND_9_A), b"done", Mode::Rcvd),
+        (false, Line::Deliver(CLEANUP_9), b"done", Mode::Rcvd),
+        (false, Line::Deliver(SEND_9_A), b"done", Mode::Rcvd),
+        (true, Line::Ack, b"notyet", Mode::Send),
+        (false, Line::Get, b"a", Mode::Ack),
+        (false, Line::Resend, ACK_9_YES, Mode::Ack),
+        (false, Line::Deliver(SEND_9_A), ACK_9_YES, Mode::Ack),
+        (true, Line::Deliver(ACK_9_YES), CLEANUP_9, Mode::Quiet),
+        (true, Line::Ack, b"yes", Mode::Quiet),
+        (false, Line::Deliver(CLEANUP_9), b"done", Mode::Idle),
+        (false, Line::Deliver(SEND_9_A), ACK_9_NO, Mode::Idle),
+    ];
+    for (is_senders, line, expected, mode) in rows {
+        let act = act_of(rt.alloc(), line)?;
+        let side = if is_senders {
+            &mut sender
+        } else {
+            &mut receiver
+        };
+        assert!(rt; is_row(side, act, expected, mode), "at {line:?}");
+    }
     Ok(())
 }
 
-/// A sender says the packet of its mode again, and nothing at rest.
+/// A side that is down emits nothing, and one that comes back knows nothing.
 #[test]
-fn sender_says_its_packet_again(rt: HostRuntime) -> Result<(), Fail> {
-    let mut sender = sender_with(rt.alloc(), b"a")?;
-    assert_eq!(rt; sender_emits(&mut sender, Act::Resend).length, 0);
-    assert_eq!(rt; sender_emits(&mut sender, Act::Start(7)).bytes(), NEEDUID_7);
-    assert_eq!(rt; sender_emits(&mut sender, Act::Resend).bytes(), NEEDUID_7);
-    to_sender(rt.alloc(), &mut sender, ACCEPT_7_9)?;
-    assert_eq!(rt; sender_emits(&mut sender, Act::Resend).bytes(), SEND_9_A);
+fn crashes(rt: HostRuntime) -> Result<(), Fail> {
+    let mut sender = Automaton::Sender(Sender::new(1));
+    let mut receiver = Automaton::Receiver(Receiver::new(1));
+    let rows: [(bool, Line, &[u8], Mode); 15] = [
+        (true, Line::Crash, b"done", Mode::Down),
+        (true, Line::Put(b"a"), b"down", Mode::Down),
+        (true, Line::Ack, b"down", Mode::Down),
+        (true, Line::Deliver(ACK_9_YES), b"done", Mode::Down),
+        (true, Line::Recover, b"done", Mode::Quiet),
+        (true, Line::Ack, b"no", Mode::Quiet),
+        (true, Line::Deliver(ACK_9_YES), CLEANUP_9, Mode::Quiet),
+        (true, Line::Deliver(ACCEPT_7_9), CLEANUP_9, Mode::Quiet),
+        (true, Line::Get, b"none", Mode::Quiet),
+        (false, Line::Crash, b"done", Mode::Down),
+        (false, Line::Get, b"down", Mode::Down),
+        (false, Line::Deliver(NEEDUID_7), b"done", Mode::Down),
+        (false, Line::Recover, b"done", Mode::Idle),
+        (false, Line::Deliver(NEEDUID_7), ACCEPT_7_9, Mode::Accept),
+        (false, Line::Ack, b"none", Mode::Accept),
+    ];
+    for (is_senders, line, expected, mode) in rows {
+        let act = act_of(rt.alloc(), line)?;
+        let side = if is_senders {
+            &mut sender
+        } else {
+            &mut receiver
+        };
+        assert!(rt; is_row(side, act, expected, mode), "at {line:?}");
+    }
+    Ok(())
+}
+
+/// A word is used up by a start that begins a handshake, and by a needuid that is accepted under it.
+#[test]
+fn words_are_used_up(rt: HostRuntime) -> Result<(), Fail> {
+    let mut sender = Automaton::Sender(Sender::new(1));
+    let mut receiver = Automaton::Receiver(Receiver::new(1));
+    let needuid = act_of(rt.alloc(), Line::Deliver(NEEDUID_7))?;
+    assert_eq!(rt; sender.used_word(&Act::Start(7)), None);
+    assert_eq!(rt; sender.used_word(&needuid), None);
+    assert_eq!(rt; receiver.used_word(&needuid), Some(9));
+    sender.advance(act_of(rt.alloc(), Line::Put(b"a"))?);
+    assert_eq!(rt; sender.used_word(&Act::Start(7)), Some(7));
+    receiver.advance(needuid);
+    assert_eq!(rt; receiver.used_word(&Act::Start(7)), None);
     Ok(())
 }
 
@@ -110,150 +164,105 @@ fn sender_says_its_packet_again(rt: HostRuntime) -> Result<(), Fail> {
 #[test]
 fn longest_message(rt: HostRuntime) -> Result<(), Fail> {
     let bytes = vec![in rt.alloc(); 0x61; MAX_MESSAGE]?;
-    let mut sender = sender_with(rt.alloc(), bytes.as_slice())?;
-    assert_eq!(rt; sender_emits(&mut sender, Act::Start(7)).bytes(), NEEDUID_7);
-    assert_eq!(rt;
-        to_sender(rt.alloc(), &mut sender, ACCEPT_7_9)?.length,
-        1042
-    );
+    let mut sender = Automaton::Sender(Sender::new(1));
+    let mut buffer = [0; MAX_PACKET];
+    sender.advance(Act::Put(Message::copy(rt.alloc(), bytes.as_slice())?));
+    sender.advance(Act::Start(7));
+    let accept = act_of(rt.alloc(), Line::Deliver(ACCEPT_7_9))?;
+    assert_eq!(rt; sender.step(accept, &mut buffer).length, Some(1042));
+    assert_eq!(rt; &buffer[18..], bytes.as_slice());
     Ok(())
 }
 
-/// A message that has come stays until its client gets it, whatever the sender says.
-#[test]
-fn cleanup_keeps_a_message(rt: HostRuntime) -> Result<(), Fail> {
-    let mut receiver = Receiver::new(1);
-    let rows: [(&[u8], Mode, &[u8]); 5] = [
-        (NEEDUID_7, Mode::Accept, ACCEPT_7_9),
-        (NEEDUID_7, Mode::Accept, ACCEPT_7_9),
-        (SEND_9_A, Mode::Rcvd, b""),
-        (CLEANUP_9, Mode::Rcvd, b""),
-        (SEND_9_A, Mode::Rcvd, b""),
-    ];
-    for (datagram, mode, emitted) in rows {
-        let answer = to_receiver(rt.alloc(), &mut receiver, datagram)?;
-        assert_eq!(rt; answer.bytes(), emitted);
-        assert_eq!(rt; receiver.mode(), mode);
-    }
-    assert_eq!(rt; receiver.get()?.bytes(), b"a".as_slice());
-    Ok(())
-}
-
-/// A message that was got is answered for; one that is not known is too.
-#[test]
-fn answers_for_messages(rt: HostRuntime) -> Result<(), Fail> {
-    let mut receiver = Receiver::new(1);
-    assert_eq!(rt; receiver.get().err(), Some(GetRefusal::Nothing));
-    to_receiver(rt.alloc(), &mut receiver, NEEDUID_7)?;
-    to_receiver(rt.alloc(), &mut receiver, SEND_9_A)?;
-    receiver.get()?;
-    for (datagram, emitted) in [
-        (SEND_9_A, ACK_9_YES),
-        (CLEANUP_9, b"".as_slice()),
-        (SEND_9_A, ACK_9_NO),
-    ] {
-        let answer = to_receiver(rt.alloc(), &mut receiver, datagram)?;
-        assert_eq!(rt; answer.bytes(), emitted);
-    }
-    Ok(())
-}
-
-#[test]
-fn sender_crashes_and_recovers(rt: HostRuntime) -> Result<(), Fail> {
-    let mut sender = sender_with(rt.alloc(), b"a")?;
-    assert_eq!(rt; sender.get_ack(), AckReply::NotYet);
-    sender.crash();
-    assert_eq!(rt; sender.mode(), Mode::Down);
-    assert_eq!(rt; sender.get_ack(), AckReply::Down);
-    assert_eq!(rt; to_sender(rt.alloc(), &mut sender, ACK_9_YES)?.length, 0);
-    sender.recover();
-    assert_eq!(rt; sender.get_ack(), AckReply::No);
-    assert_eq!(rt;
-        to_sender(rt.alloc(), &mut sender, ACK_9_YES)?.bytes(),
-        CLEANUP_9
-    );
-    assert_eq!(rt;
-        to_sender(rt.alloc(), &mut sender, ACCEPT_7_9)?.bytes(),
-        CLEANUP_9
-    );
-    Ok(())
-}
-
-#[test]
-fn receiver_crashes_and_recovers(rt: HostRuntime) -> Result<(), Fail> {
-    let mut receiver = Receiver::new(1);
-    receiver.crash();
-    assert_eq!(rt; receiver.get().err(), Some(GetRefusal::Down));
-    assert_eq!(rt;
-        to_receiver(rt.alloc(), &mut receiver, NEEDUID_7)?.length,
-        0
-    );
-    receiver.recover();
-    assert_eq!(rt;
-        to_receiver(rt.alloc(), &mut receiver, NEEDUID_7)?.bytes(),
-        ACCEPT_7_9
-    );
-    Ok(())
-}
-
-/// As many messages wait as may; the next one comes back.
+/// As many messages wait as may; the next one comes back. So does one that a side does not have.
 #[test]
 fn waiting_list_full(rt: HostRuntime) -> Result<(), Fail> {
     let mut sender = Sender::new(1);
     for _ in 0..16 {
         sender.put(Message::default())?;
     }
-    let refusal = sender
-        .put(Message::copy(rt.alloc(), b"x")?)
-        .err()
-        .ok_or("a refusal")?;
-    assert_eq!(rt; refusal.code(), 41);
+    let message = Message::copy(rt.alloc(), b"x")?;
+    let refusal = sender.put(message).err().ok_or("a refusal")?;
     assert_eq!(rt; refusal.into_message().bytes(), b"x".as_slice());
+    assert_eq!(rt; sender.get_ack(), AckReply::NotYet);
+    let advanced = Receiver::new(1).advance(act_of(rt.alloc(), Line::Put(b"x"))?);
+    assert!(rt; advanced.reply.is_none());
+    let message = advanced.handed_back.ok_or("the message")?;
+    assert_eq!(rt; message.bytes(), b"x".as_slice());
     Ok(())
 }
 
-/// One step of either automaton: judged first, then made.
+/// Each reply is judged without a step.
 #[test]
-fn steps(rt: HostRuntime) -> Result<(), Fail> {
-    let mut side = Automaton::Receiver(Receiver::new(1));
-    let mut buffer = [0; MAX_PACKET];
-    let body = OwnedBody::NeedUid(7);
-    let act = Act::Deliver(OwnedPacket { stream: 1, body }, 9);
-    assert!(rt; side.replies(&act, &Reply::Done));
-    assert!(rt; !side.replies(&act, &Reply::Ok));
-    assert_eq!(rt; side.used_word(&act), Some(9));
-    let outcome = side.step(act, &mut buffer);
-    assert!(rt; matches!(outcome.reply, Some(Reply::Done)));
-    assert_eq!(rt; outcome.length, Some(24));
-    assert_eq!(rt; &buffer[..24], ACCEPT_7_9);
+fn judges_replies(rt: HostRuntime) -> Result<(), Fail> {
+    let sender = Automaton::Sender(Sender::new(1));
+    assert!(rt; sender.replies(&Act::Ack, &Reply::Yes));
+    assert!(rt; !sender.replies(&Act::Ack, &Reply::NotYet));
+    assert!(rt; !sender.replies(&Act::Get, &Reply::Nothing));
+    let receiver = Automaton::Receiver(Receiver::new(1));
+    assert!(rt; receiver.replies(&Act::Get, &Reply::Nothing));
+    assert!(rt; !receiver.replies(&Act::Get, &Reply::Done));
+    assert!(rt; receiver.replies(&act_of(rt.alloc(), Line::Deliver(NEEDUID_7))?, &Reply::Done));
     Ok(())
 }
 
-/// The same of a sender.
 #[test]
-fn steps_of_a_sender(rt: HostRuntime) -> Result<(), Fail> {
-    let mut side = Automaton::Sender(sender_with(rt.alloc(), b"a")?);
-    let mut buffer = [0; MAX_PACKET];
-    assert!(rt; side.replies(&Act::Ack, &Reply::NotYet));
-    assert!(rt; !side.replies(&Act::Ack, &Reply::Yes));
-    let act = Act::Start(7);
-    assert_eq!(rt; side.used_word(&act), Some(7));
-    let outcome = side.step(act, &mut buffer);
-    assert!(rt; matches!(outcome.reply, Some(Reply::Done)));
-    assert_eq!(rt; outcome.length, Some(16));
-    assert_eq!(rt; &buffer[..16], NEEDUID_7);
+fn refusals_tell_their_number_and_cause(rt: HostRuntime) -> Result<(), Fail> {
+    for (refusal, code, text) in [
+        (
+            PutRefusal::Full(Message::default()),
+            41,
+            "the waiting list is full",
+        ),
+        (
+            PutRefusal::Down(Message::default()),
+            42,
+            "the sender is down",
+        ),
+    ] {
+        assert_eq!(rt; refusal.code(), code);
+        assert_eq!(rt; format!(in rt.alloc(); "{refusal}")?.as_str(), text);
+    }
+    for (refusal, code, text) in [
+        (GetRefusal::Nothing, 45, "no message has come"),
+        (GetRefusal::Down, 42, "the receiver is down"),
+    ] {
+        assert_eq!(rt; refusal.code(), code);
+        assert_eq!(rt; format!(in rt.alloc(); "{refusal}")?.as_str(), text);
+    }
     Ok(())
 }
 
-/// A put that a side does not have hands its message back.
+/// The kind and the identifiers of a packet that a call lends; 0 for an identifier that it does not have.
+fn lent(packet: Option<Packet<'_>>) -> Option<(u8, u64, u64)> {
+    Some(match packet?.body {
+        Body::NeedUid(jd) => (1, jd, 0),
+        Body::Accept(jd, id) => (2, jd, id),
+        Body::Send(id, _) => (3, id, 0),
+        Body::Ack(id, _) => (4, id, 0),
+        Body::Cleanup(id) => (5, id, 0),
+    })
+}
+
+/// A sender that is driven call by call.
 #[test]
-fn hands_back_what_is_not_taken(rt: HostRuntime) -> Result<(), Fail> {
-    let mut side = Automaton::Receiver(Receiver::new(1));
-    let act = Act::Put(Message::copy(rt.alloc(), b"a")?);
-    assert!(rt; !side.replies(&act, &Reply::Ok));
-    let outcome = side.step(act, &mut [0; MAX_PACKET]);
-    assert!(rt; outcome.reply.is_none());
-    let message = outcome.handed_back.ok_or("the message")?;
-    assert_eq!(rt; message.bytes(), b"a".as_slice());
+fn calls_of_a_sender(rt: HostRuntime) -> Result<(), Fail> {
+    let mut sender = Sender::new(1);
+    sender.put(Message::copy(rt.alloc(), b"a")?)?;
+    assert!(rt; lent(sender.start(7)) == Some((1, 7, 0)));
+    assert!(rt; lent(sender.accept(7, 9)) == Some((3, 9, 0)));
+    assert!(rt; lent(sender.ack(9, true)) == Some((5, 9, 0)));
+    Ok(())
+}
+
+/// A receiver that is driven call by call.
+#[test]
+fn calls_of_a_receiver(rt: HostRuntime) -> Result<(), Fail> {
+    let mut receiver = Receiver::new(1);
+    assert!(rt; lent(receiver.needuid(7, 9)) == Some((2, 7, 9)));
+    assert!(rt; lent(receiver.send(9, Message::default())).is_none());
+    assert!(rt; receiver.get()?.bytes().is_empty());
+    assert!(rt; lent(receiver.cleanup(9)).is_none());
+    assert_eq!(rt; receiver.mode(), Mode::Idle);
     Ok(())
 }

@@ -8,72 +8,91 @@ use Rattle.amo_packet.specs.declared.fault.ReadFault.{ReadFault}
 use Rattle.amo_packet.specs.declared.fault.ReadFault.TheVariants.{Short, Long}
 use Rattle.amo_packet.specs.declared.packet.OwnedPacket.{OwnedPacket}
 use Rattle.amo_packet.specs.Grammar.{header, flag, Spells}
+use Rattle.amo_packet.specs.Message.{max_message}
 use Rattle.amo_packet.specs.Fault.{first_fault}
 use Rattle.amo_packet.proofs.Numbers.{AreBytes, AreBytes-drop}
 use Rattle.amo_packet.proofs.Faults.{MissesLength, needuid_misses, accept_misses, send_misses, cleanup_misses}
 use Rattle.amo_packet.proofs.Fields.{header_said, needuid_said, accept_said, send_said, ack_said, cleanup_said}
 
-abbrev SpellsSome : List ℕ → Type 0
-SpellsSome bytes = (p : OwnedPacket) × Spells bytes p
+abbrev SpellsSome : ℕ → List ℕ → Type 0
+SpellsSome newest bytes = (p : OwnedPacket) × Spells newest bytes p
 
 word_below : (xs : List ℕ) → AreBytes xs → big_number 8 xs < 2 ^ 64
 word_below xs fits = big_from-lt 0 8 xs fits
 
 -- where each wrong length is a fault, no fault means the right length
-right_length : (bytes xs : List ℕ) (n : ℕ) → ((f : ReadFault) → MissesLength xs n f → first_fault bytes ≡ Some f) → first_fault bytes ≡ None → length xs ≡ n
-right_length bytes xs n misses none = elim (cases_order (length xs) n) [
+right_length : (newest : ℕ) (bytes xs : List ℕ) (n : ℕ) → ((f : ReadFault) → MissesLength xs n f → first_fault newest bytes ≡ Some f)
+    → first_fault newest bytes ≡ None → length xs ≡ n
+right_length newest bytes xs n misses none = elim (cases_order (length xs) n) [
   | inl e ↦ e
   | inr (inl lt) ↦ let some = misses Short (inl (refl, lt)) in absurd cc
   | inr (inr gt) ↦ let some = misses Long (inr (refl, gt)) in absurd cc
 ]
 
-kind_known : (kind stream : ℕ) (fields : List ℕ) → first_fault (header kind stream ++ fields) ≡ None → (kind ≡ 0) ⊎ (5 < kind) → ⊥
+kind_known : (newest kind stream : ℕ) (fields : List ℕ) → first_fault newest (header 1 kind stream ++ fields) ≡ None → (kind ≡ 0) ⊎ (5 < kind) → ⊥
 unfolding first_fault
-kind_known kind stream fields none (inl h) = grind (arith, nat_tests)
-kind_known kind stream fields none (inr h) = grind (arith, nat_tests)
+kind_known newest kind stream fields none (inl h) = grind (arith, nat_tests)
+kind_known newest kind stream fields none (inr h) = grind (arith, nat_tests)
 
-send_whole : (stream : ℕ) (fields : List ℕ) → first_fault (header 3 stream ++ fields) ≡ None → (10 ≤ length fields) × (big_number 2 (drop 8 fields) ≤ 1024)
+send_whole : (newest stream : ℕ) (fields : List ℕ) → first_fault newest (header 1 3 stream ++ fields) ≡ None
+    → (10 ≤ length fields) × (big_number 2 (drop 8 fields) ≤ max_message)
 unfolding first_fault
-send_whole stream fields none = grind (arith, nat_tests)
+send_whole newest stream fields none = grind (arith, nat_tests)
 
-ack_whole : (stream : ℕ) (fields : List ℕ) → first_fault (header 4 stream ++ fields) ≡ None → (length fields ≡ 9) × (slice_index fields 8 ≤ 1)
+ack_whole : (newest stream : ℕ) (fields : List ℕ) → first_fault newest (header 1 4 stream ++ fields) ≡ None → (length fields ≡ 9) × (slice_index fields 8 ≤ 1)
 unfolding first_fault
-ack_whole stream fields none = grind (arith, nat_tests)
+ack_whole newest stream fields none = grind (arith, nat_tests)
 
 flag_of : (n : ℕ) → n ≤ 1 → (got : Bool) × (n ≡ flag got)
 flag_of zero h = (false, refl)
 flag_of (suc zero) h = (true, refl)
 flag_of (suc (suc n)) h = absurd (omega arith)
 
-fields_spelt : (kind stream : ℕ) (fields : List ℕ) → stream < 2 ^ 32 → AreBytes fields → first_fault (header kind stream ++ fields) ≡ None → SpellsSome (header kind stream ++ fields)
-fields_spelt (suc zero) stream fields s fits none =
-    let len = right_length _ fields 8 (needuid_misses stream fields) none in
-    (_, needuid_said stream (big_number 8 fields) fields s (word_below fields fits) fits len refl)
-fields_spelt (suc (suc zero)) stream fields s fits none =
-    let len = right_length _ fields 16 (accept_misses stream fields) none in
-    (_, accept_said stream (big_number 8 fields) (big_number 8 (drop 8 fields)) fields s (word_below fields fits) (word_below (drop 8 fields) (AreBytes-drop 8 fields fits)) fits len refl refl)
-fields_spelt (suc (suc (suc zero))) stream fields s fits none =
-    let h = send_whole stream fields none in
-    let len = right_length _ (drop 10 fields) (big_number 2 (drop 8 fields)) (λ f. send_misses stream _ (drop 10 fields) fields f h.0 refl h.1 refl) none in
-    (_, send_said stream (big_number 8 fields) (drop 10 fields) fields s (word_below fields fits) (rw len h.1) fits h.0 refl len refl)
-fields_spelt (suc (suc (suc (suc zero)))) stream fields s fits none =
-    let h = ack_whole stream fields none in
+fields_spelt : (newest kind stream : ℕ) (fields : List ℕ) → 1 ≤ newest → stream < 2 ^ 32 → AreBytes fields
+    → first_fault newest (header 1 kind stream ++ fields) ≡ None → SpellsSome newest (header 1 kind stream ++ fields)
+fields_spelt newest (suc zero) stream fields v s fits none =
+    let len = right_length newest _ fields 8 (λ f. needuid_misses newest stream fields f v) none in
+    (_, needuid_said newest stream (big_number 8 fields) fields v s (word_below fields fits) fits len refl)
+fields_spelt newest (suc (suc zero)) stream fields v s fits none =
+    let len = right_length newest _ fields 16 (λ f. accept_misses newest stream fields f v) none in
+    (_, accept_said newest stream (big_number 8 fields) (big_number 8 (drop 8 fields)) fields v s (word_below fields fits) (word_below (drop 8 fields) (AreBytes-drop 8 fields fits)) fits len refl refl)
+fields_spelt newest (suc (suc (suc zero))) stream fields v s fits none =
+    let h = send_whole newest stream fields none in
+    let len = right_length newest _ (drop 10 fields) (big_number 2 (drop 8 fields)) (λ f. send_misses newest stream _ (drop 10 fields) fields f v h.0 refl h.1 refl) none in
+    (_, send_said newest stream (big_number 8 fields) (drop 10 fields) fields v s (word_below fields fits) (rw len h.1) fits h.0 refl len refl)
+fields_spelt newest (suc (suc (suc (suc zero)))) stream fields v s fits none =
+    let h = ack_whole newest stream fields none in
     let got = flag_of (slice_index fields 8) h.1 in
-    (_, ack_said stream (big_number 8 fields) got.0 fields s (word_below fields fits) fits h.0 refl got.1)
-fields_spelt (suc (suc (suc (suc (suc zero))))) stream fields s fits none =
-    let len = right_length _ fields 8 (cleanup_misses stream fields) none in
-    (_, cleanup_said stream (big_number 8 fields) fields s (word_below fields fits) fits len refl)
-fields_spelt zero stream fields s fits none = absurd (kind_known 0 stream fields none (inl refl))
-fields_spelt (suc (suc (suc (suc (suc (suc k)))))) stream fields s fits none = absurd (kind_known (suc (suc (suc (suc (suc (suc k)))))) stream fields none (inr (omega arith)))
+    (_, ack_said newest stream (big_number 8 fields) got.0 fields v s (word_below fields fits) fits h.0 refl got.1)
+fields_spelt newest (suc (suc (suc (suc (suc zero))))) stream fields v s fits none =
+    let len = right_length newest _ fields 8 (λ f. cleanup_misses newest stream fields f v) none in
+    (_, cleanup_said newest stream (big_number 8 fields) fields v s (word_below fields fits) fits len refl)
+fields_spelt newest zero stream fields v s fits none = absurd (kind_known newest 0 stream fields none (inl refl))
+fields_spelt newest (suc (suc (suc (suc (suc (suc k)))))) stream fields v s fits none = absurd (kind_known newest (suc (suc (suc (suc (suc (suc k)))))) stream fields none (inr (omega arith)))
 
-header_whole : (bytes : List ℕ) → first_fault bytes ≡ None → (8 ≤ length bytes) × (get_or bytes 0 0 ≡ 0x41) × (get_or bytes 1 0 ≡ 0x4D) × (get_or bytes 2 0 ≡ 1)
+-- no fault: the bytes begin as a packet of version 1, which is known
+record IsHeaded (newest : ℕ) (bytes : List ℕ) : Type 0 where
+  long : 8 ≤ length bytes
+  first : get_or bytes 0 0 ≡ 0x41
+  second : get_or bytes 1 0 ≡ 0x4D
+  version : get_or bytes 2 0 ≡ 1
+  known : get_or bytes 2 0 ≤ newest
+
+header_whole : (newest : ℕ) (bytes : List ℕ) → first_fault newest bytes ≡ None → IsHeaded newest bytes
 unfolding first_fault
-header_whole bytes none = (grind (arith, nat_tests), grind (arith, nat_tests), grind (arith, nat_tests), grind (arith, nat_tests))
+header_whole newest bytes none = record {
+  long = grind (arith, nat_tests);
+  first = grind (arith, nat_tests);
+  second = grind (arith, nat_tests);
+  version = grind (arith, nat_tests);
+  known = grind (arith, nat_tests);
+}
 
-pub Spells-no_fault : (bytes : List ℕ) → AreBytes bytes → first_fault bytes ≡ None → SpellsSome bytes
-Spells-no_fault bytes fits none =
-    let h = header_whole bytes none in
+pub Spells-no_fault : (newest : ℕ) (bytes : List ℕ) → AreBytes bytes → first_fault newest bytes ≡ None → SpellsSome newest bytes
+Spells-no_fault newest bytes fits none =
+    let h = header_whole newest bytes none in
     let stream = big_number 4 (drop 4 bytes) in
-    let said = header_said bytes stream h.0 fits h.1 h.2 h.3 refl in
-    let spelt = fields_spelt (get_or bytes 3 0) stream (drop 8 bytes) (big_from-lt 0 4 (drop 4 bytes) (AreBytes-drop 4 bytes fits)) (AreBytes-drop 8 bytes fits) (ap first_fault (sym said) ∙ none) in
-    (spelt.0, subst (λ (xs : List ℕ). Spells xs spelt.0) (sym said) spelt.1)
+    let said = header_said bytes stream h.long fits h.first h.second h.version refl in
+    let v : 1 ≤ newest = omega (arith, h.version, h.known) in
+    let spelt = fields_spelt newest (get_or bytes 3 0) stream (drop 8 bytes) v (big_from-lt 0 4 (drop 4 bytes) (AreBytes-drop 4 bytes fits)) (AreBytes-drop 8 bytes fits) (ap (first_fault newest) (sym said) ∙ none) in
+    (spelt.0, subst (λ (xs : List ℕ). Spells newest xs spelt.0) (sym said) spelt.1)

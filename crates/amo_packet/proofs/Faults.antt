@@ -1,5 +1,5 @@
 -- Faults: a spelling has none, and fields of a wrong length have one.
-use Rattle.std.proofs.Common.{◌≡◌, ◌<◌, ◌≤◌, ◌⊎◌, ℕ, true, false, List, ◌++◌, length, drop, Some, None, arith, refl, ap, ◌∙◌, inl, inr}
+use Rattle.std.proofs.Common.{◌≡◌, ◌<◌, ◌≤◌, ◌⊎◌, ℕ, true, false, List, ◌++◌, length, drop, Some, None, arith, ap, ◌∙◌, inl, inr}
 use Rattle.std.proofs.lemmas.Bool.Decides.{nat_tests}
 use Rattle.std.proofs.lemmas.List.{length-drop}
 use Rattle.byteorder.specs.Endian.{big_number}
@@ -8,27 +8,33 @@ use Rattle.amo_packet.specs.declared.fault.ReadFault.TheVariants.{Short, Long}
 use Rattle.amo_packet.specs.declared.packet.OwnedPacket.{OwnedPacket}
 use Rattle.amo_packet.specs.declared.packet.OwnedBody.{OwnedBody}
 use Rattle.amo_packet.specs.declared.packet.OwnedBody.TheVariants.{NeedUid, Accept, Send, Ack, Cleanup}
-use Rattle.amo_packet.specs.Grammar.{header, kind_of, fields_of, spelling, FitsFields, IsSpellable, Spells}
+use Rattle.amo_packet.specs.Grammar.{header, version_of, kind_of, fields_of, spelling, CanBeWritten, IsSpellable, Spells}
 use Rattle.amo_packet.specs.Fault.{first_fault}
+use Rattle.amo_packet.specs.Message.{max_message}
 
 -- ---- a spelling has no fault
 
-no_fault_in : (stream : ℕ) (b : OwnedBody) → FitsFields b → first_fault (header (kind_of b) stream ++ fields_of b) ≡ None
+no_fault_in : (newest stream : ℕ) (b : OwnedBody) → version_of b ≤ newest → CanBeWritten b
+    → first_fault newest (header (version_of b) (kind_of b) stream ++ fields_of b) ≡ None
 unfolding first_fault
-no_fault_in stream (NeedUid jd) f = refl
-no_fault_in stream (Accept jd id) f = refl
-no_fault_in stream (Send id m) f = grind (arith, nat_tests)
-no_fault_in stream (Ack id false) f = refl
-no_fault_in stream (Ack id true) f = refl
-no_fault_in stream (Cleanup id) f = refl
+no_fault_in newest stream (NeedUid jd) v f = grind (arith, nat_tests)
+no_fault_in newest stream (Accept jd id) v f = grind (arith, nat_tests)
+no_fault_in newest stream (Send id m) v f = grind (arith, nat_tests)
+no_fault_in newest stream (Ack id false) v f = grind (arith, nat_tests)
+no_fault_in newest stream (Ack id true) v f = grind (arith, nat_tests)
+no_fault_in newest stream (Cleanup id) v f = grind (arith, nat_tests)
 
-pub first_fault-spelling : (p : OwnedPacket) → IsSpellable p → first_fault (spelling p) ≡ None
+pub first_fault-spelling : (newest : ℕ) (p : OwnedPacket) → version_of p.body ≤ newest → IsSpellable p → first_fault newest (spelling p) ≡ None
 unfolding spelling
-first_fault-spelling p f = no_fault_in p.stream p.body f.body
+first_fault-spelling newest p v f = no_fault_in newest p.stream p.body v f.messages
+
+pub first_fault-spelt : (newest : ℕ) (bytes : List ℕ) (p : OwnedPacket) → Spells newest bytes p → first_fault newest bytes ≡ None
+first_fault-spelt newest bytes p s = ap (first_fault newest) s.exact ∙ first_fault-spelling newest p s.version s.fits
 
 -- so bytes with a fault spell nothing
-pub spelt_bytes_have_no_fault : (bytes : List ℕ) (f : ReadFault) (p : OwnedPacket) → first_fault bytes ≡ Some f → Spells bytes p → ⊥
-spelt_bytes_have_no_fault bytes f p e s = let none = ap first_fault s.exact ∙ first_fault-spelling p s.fits in absurd cc
+pub spelt_bytes_have_no_fault : (newest : ℕ) (bytes : List ℕ) (f : ReadFault) (p : OwnedPacket)
+    → first_fault newest bytes ≡ Some f → Spells newest bytes p → ⊥
+spelt_bytes_have_no_fault newest bytes f p e s = let none = first_fault-spelt newest bytes p s in absurd cc
 
 -- ---- fields of a wrong length
 
@@ -36,22 +42,29 @@ spelt_bytes_have_no_fault bytes f p e s = let none = ap first_fault s.exact ∙ 
 abbrev pub MissesLength : List ℕ → ℕ → ReadFault → Type 0
 MissesLength bytes wanted f = ((f ≡ Short) × (length bytes < wanted)) ⊎ ((f ≡ Long) × (wanted < length bytes))
 
-pub needuid_misses : (stream : ℕ) (fields : List ℕ) (f : ReadFault) → MissesLength fields 8 f → first_fault (header 1 stream ++ fields) ≡ Some f
+pub needuid_misses : (newest stream : ℕ) (fields : List ℕ) (f : ReadFault) → 1 ≤ newest → MissesLength fields 8 f
+    → first_fault newest (header 1 1 stream ++ fields) ≡ Some f
 unfolding first_fault
-needuid_misses stream fields f (inl h) = rw h.0 (grind (arith, nat_tests))
-needuid_misses stream fields f (inr h) = rw h.0 (grind (arith, nat_tests))
+needuid_misses newest stream fields f v (inl h) = rw h.0 (grind (arith, nat_tests))
+needuid_misses newest stream fields f v (inr h) = rw h.0 (grind (arith, nat_tests))
 
-pub accept_misses : (stream : ℕ) (fields : List ℕ) (f : ReadFault) → MissesLength fields 16 f → first_fault (header 2 stream ++ fields) ≡ Some f
+pub accept_misses : (newest stream : ℕ) (fields : List ℕ) (f : ReadFault) → 1 ≤ newest → MissesLength fields 16 f
+    → first_fault newest (header 1 2 stream ++ fields) ≡ Some f
 unfolding first_fault
-accept_misses stream fields f (inl h) = rw h.0 (grind (arith, nat_tests))
-accept_misses stream fields f (inr h) = rw h.0 (grind (arith, nat_tests))
+accept_misses newest stream fields f v (inl h) = rw h.0 (grind (arith, nat_tests))
+accept_misses newest stream fields f v (inr h) = rw h.0 (grind (arith, nat_tests))
 
-pub send_misses : (stream given : ℕ) (message fields : List ℕ) (f : ReadFault) → 10 ≤ length fields → given ≡ big_number 2 (drop 8 fields) → given ≤ 1024 → message ≡ drop 10 fields → MissesLength message given f → first_fault (header 3 stream ++ fields) ≡ Some f
+pub send_misses : (newest stream given : ℕ) (message fields : List ℕ) (f : ReadFault) → 1 ≤ newest → 10 ≤ length fields
+    → given ≡ big_number 2 (drop 8 fields) → given ≤ max_message → message ≡ drop 10 fields → MissesLength message given f
+    → first_fault newest (header 1 3 stream ++ fields) ≡ Some f
 unfolding first_fault
-send_misses stream given message fields f long is short rest (inl h) = let len = ap length rest ∙ length-drop 10 fields in rw h.0 (grind (arith, nat_tests))
-send_misses stream given message fields f long is short rest (inr h) = let len = ap length rest ∙ length-drop 10 fields in rw h.0 (grind (arith, nat_tests))
+send_misses newest stream given message fields f v long is short rest (inl h) =
+    let len = ap length rest ∙ length-drop 10 fields in rw h.0 (grind (arith, nat_tests))
+send_misses newest stream given message fields f v long is short rest (inr h) =
+    let len = ap length rest ∙ length-drop 10 fields in rw h.0 (grind (arith, nat_tests))
 
-pub cleanup_misses : (stream : ℕ) (fields : List ℕ) (f : ReadFault) → MissesLength fields 8 f → first_fault (header 5 stream ++ fields) ≡ Some f
+pub cleanup_misses : (newest stream : ℕ) (fields : List ℕ) (f : ReadFault) → 1 ≤ newest → MissesLength fields 8 f
+    → first_fault newest (header 1 5 stream ++ fields) ≡ Some f
 unfolding first_fault
-cleanup_misses stream fields f (inl h) = rw h.0 (grind (arith, nat_tests))
-cleanup_misses stream fields f (inr h) = rw h.0 (grind (arith, nat_tests))
+cleanup_misses newest stream fields f v (inl h) = rw h.0 (grind (arith, nat_tests))
+cleanup_misses newest stream fields f v (inr h) = rw h.0 (grind (arith, nat_tests))

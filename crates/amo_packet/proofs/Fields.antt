@@ -4,48 +4,54 @@ use Rattle.std.proofs.lemmas.List.{drop-drop, length-drop, drop_all, drop_more}
 use Rattle.byteorder.specs.Endian.{big_bytes, big_number}
 use Rattle.amo_packet.specs.declared.packet.OwnedBody.{OwnedBody}
 use Rattle.amo_packet.specs.declared.packet.OwnedBody.TheVariants.{NeedUid, Accept, Send, Ack, Cleanup}
-use Rattle.amo_packet.specs.Grammar.{header, flag, kind_of, fields_of, spelling, FitsFields, Spells}
+use Rattle.amo_packet.specs.Grammar.{header, flag, version_of, kind_of, fields_of, spelling, CanBeWritten, FitsFields, Spells}
+use Rattle.amo_packet.specs.Message.{IsShort}
 use Rattle.amo_packet.proofs.Numbers.{AreBytes, AreBytes-drop, big_bytes-of_8, big_bytes-of_4, big_bytes-of_2, big_bytes-all_8}
 
 -- a header and the fields of a packet spell it
-Spells-fields : (stream : ℕ) (b : OwnedBody) (fields : List ℕ) → stream < 2 ^ 32 → FitsFields b → fields ≡ fields_of b → Spells (header (kind_of b) stream ++ fields) (record { stream = stream; body = b })
+Spells-fields : (newest stream : ℕ) (b : OwnedBody) (fields : List ℕ) → version_of b ≤ newest → stream < 2 ^ 32 → FitsFields b → CanBeWritten b → fields ≡ fields_of b
+    → Spells newest (header (version_of b) (kind_of b) stream ++ fields) (record { stream = stream; body = b })
 unfolding spelling
-Spells-fields stream b fields s f e = record { fits = record { stream = s; body = f }; exact = ap (λ (xs : List ℕ). header (kind_of b) stream ++ xs) e }
+Spells-fields newest stream b fields v s f short e = record {
+  version = v;
+  fits = record { stream = s; identifiers = f; messages = short };
+  exact = ap (λ (xs : List ℕ). header (version_of b) (kind_of b) stream ++ xs) e;
+}
 
 -- what begins as a packet is a header and fields
 pub header_said : (bytes : List ℕ) (stream : ℕ) → 8 ≤ length bytes → AreBytes bytes → get_or bytes 0 0 ≡ 0x41 → get_or bytes 1 0 ≡ 0x4D → get_or bytes 2 0 ≡ 1 → stream ≡ big_number 4 (drop 4 bytes)
-    → bytes ≡ header (get_or bytes 3 0) stream ++ drop 8 bytes
+    → bytes ≡ header 1 (get_or bytes 3 0) stream ++ drop 8 bytes
 header_said (a ∷ b ∷ c ∷ d ∷ rest) stream long fits first second third is =
     let back = big_bytes-of_4 rest stream (omega arith) (λ i. fits (suc (suc (suc (suc i))))) is in
     cc
 header_said bytes stream long fits first second third is = absurd (omega arith)
 
-pub needuid_said : (stream jd : ℕ) (fields : List ℕ) → stream < 2 ^ 32 → jd < 2 ^ 64 → AreBytes fields → length fields ≡ 8 → jd ≡ big_number 8 fields
-    → Spells (header 1 stream ++ fields) (record { stream = stream; body = NeedUid jd })
-needuid_said stream jd fields s f bytes len is = Spells-fields stream (NeedUid jd) fields s f (big_bytes-all_8 fields jd len bytes is)
+pub needuid_said : (newest stream jd : ℕ) (fields : List ℕ) → 1 ≤ newest → stream < 2 ^ 32 → jd < 2 ^ 64 → AreBytes fields → length fields ≡ 8 → jd ≡ big_number 8 fields
+    → Spells newest (header 1 1 stream ++ fields) (record { stream = stream; body = NeedUid jd })
+needuid_said newest stream jd fields v s f bytes len is = Spells-fields newest stream (NeedUid jd) fields v s f tt (big_bytes-all_8 fields jd len bytes is)
 
-pub accept_said : (stream jd id : ℕ) (fields : List ℕ) → stream < 2 ^ 32 → jd < 2 ^ 64 → id < 2 ^ 64 → AreBytes fields → length fields ≡ 16 → jd ≡ big_number 8 fields → id ≡ big_number 8 (drop 8 fields)
-    → Spells (header 2 stream ++ fields) (record { stream = stream; body = Accept jd id })
-accept_said stream jd id fields s f f' bytes len is is' =
+pub accept_said : (newest stream jd id : ℕ) (fields : List ℕ) → 1 ≤ newest → stream < 2 ^ 32 → jd < 2 ^ 64 → id < 2 ^ 64 → AreBytes fields → length fields ≡ 16 → jd ≡ big_number 8 fields → id ≡ big_number 8 (drop 8 fields)
+    → Spells newest (header 1 2 stream ++ fields) (record { stream = stream; body = Accept jd id })
+accept_said newest stream jd id fields v s f f' bytes len is is' =
     let front = big_bytes-of_8 fields jd (omega arith) bytes is in
     let back = big_bytes-all_8 (drop 8 fields) id (omega (arith, length-drop 8 fields)) (AreBytes-drop 8 fields bytes) is' in
-    Spells-fields stream (Accept jd id) fields s (f, f') (front ∙ ap (λ (xs : List ℕ). big_bytes 8 jd ++ xs) back)
+    Spells-fields newest stream (Accept jd id) fields v s (f, f') tt (front ∙ ap (λ (xs : List ℕ). big_bytes 8 jd ++ xs) back)
 
-pub send_said : (stream id : ℕ) (message fields : List ℕ) → stream < 2 ^ 32 → id < 2 ^ 64 → length message ≤ 1024 → AreBytes fields → 10 ≤ length fields → id ≡ big_number 8 fields → length message ≡ big_number 2 (drop 8 fields) → message ≡ drop 10 fields
-    → Spells (header 3 stream ++ fields) (record { stream = stream; body = Send id message })
-send_said stream id message fields s f short bytes len is is' rest =
+pub send_said : (newest stream id : ℕ) (message fields : List ℕ) → 1 ≤ newest → stream < 2 ^ 32 → id < 2 ^ 64 → IsShort message → AreBytes fields → 10 ≤ length fields → id ≡ big_number 8 fields → length message ≡ big_number 2 (drop 8 fields) → message ≡ drop 10 fields
+    → Spells newest (header 1 3 stream ++ fields) (record { stream = stream; body = Send id message })
+send_said newest stream id message fields v s f short bytes len is is' rest =
     let front = big_bytes-of_8 fields id (omega arith) bytes is in
     let middle = big_bytes-of_2 (drop 8 fields) (length message) (omega (arith, length-drop 8 fields)) (AreBytes-drop 8 fields bytes) is' in
     let back : drop 2 (drop 8 fields) ≡ message = drop-drop 2 8 fields ∙ sym rest in
-    Spells-fields stream (Send id message) fields s (f, short) (front ∙ ap (λ (xs : List ℕ). big_bytes 8 id ++ xs) (middle ∙ ap (λ (xs : List ℕ). big_bytes 2 (length message) ++ xs) back))
+    Spells-fields newest stream (Send id message) fields v s f (short, tt) (front ∙ ap (λ (xs : List ℕ). big_bytes 8 id ++ xs) (middle ∙ ap (λ (xs : List ℕ). big_bytes 2 (length message) ++ xs) back))
 
-pub ack_said : (stream id : ℕ) (got : Bool) (fields : List ℕ) → stream < 2 ^ 32 → id < 2 ^ 64 → AreBytes fields → length fields ≡ 9 → id ≡ big_number 8 fields → get_or fields 8 0 ≡ flag got
-    → Spells (header 4 stream ++ fields) (record { stream = stream; body = Ack id got })
-ack_said stream id got fields s f bytes len is is' =
+pub ack_said : (newest stream id : ℕ) (got : Bool) (fields : List ℕ) → 1 ≤ newest → stream < 2 ^ 32 → id < 2 ^ 64 → AreBytes fields → length fields ≡ 9 → id ≡ big_number 8 fields → get_or fields 8 0 ≡ flag got
+    → Spells newest (header 1 4 stream ++ fields) (record { stream = stream; body = Ack id got })
+ack_said newest stream id got fields v s f bytes len is is' =
     let front = big_bytes-of_8 fields id (omega arith) bytes is in
     let back : drop 8 fields ≡ flag got ∷ [] = drop_more fields 8 0 (omega arith) ∙ cc (is', drop_all 9 fields (omega arith)) in
-    Spells-fields stream (Ack id got) fields s f (front ∙ ap (λ (xs : List ℕ). big_bytes 8 id ++ xs) back)
+    Spells-fields newest stream (Ack id got) fields v s f tt (front ∙ ap (λ (xs : List ℕ). big_bytes 8 id ++ xs) back)
 
-pub cleanup_said : (stream id : ℕ) (fields : List ℕ) → stream < 2 ^ 32 → id < 2 ^ 64 → AreBytes fields → length fields ≡ 8 → id ≡ big_number 8 fields
-    → Spells (header 5 stream ++ fields) (record { stream = stream; body = Cleanup id })
-cleanup_said stream id fields s f bytes len is = Spells-fields stream (Cleanup id) fields s f (big_bytes-all_8 fields id len bytes is)
+pub cleanup_said : (newest stream id : ℕ) (fields : List ℕ) → 1 ≤ newest → stream < 2 ^ 32 → id < 2 ^ 64 → AreBytes fields → length fields ≡ 8 → id ≡ big_number 8 fields
+    → Spells newest (header 1 5 stream ++ fields) (record { stream = stream; body = Cleanup id })
+cleanup_said newest stream id fields v s f bytes len is = Spells-fields newest stream (Cleanup id) fields v s f tt (big_bytes-all_8 fields id len bytes is)

@@ -1,30 +1,31 @@
 -- Spellings: how long they are, and that none begins another.
 use Rattle.std.proofs.Common.{◌≡◌, ◌<◌, ◌≤◌, ◌+◌, ℕ, Bool, true, false, List, [], ◌∷◌, ◌++◌, length, take, drop, slice_index, All, refl, sym, ap, ◌∙◌, arith}
+use Rattle.std.specs.List.{AllByRecursion, sum_by}
 use Rattle.std.proofs.lemmas.List.{take_at, drop_at}
 use Rattle.std.proofs.lemmas.List.Elements.{All-nil, All-cons, All-append}
 use Rattle.byteorder.specs.Endian.{big_bytes}
 use Rattle.amo_packet.specs.declared.packet.OwnedPacket.{OwnedPacket}
 use Rattle.amo_packet.specs.declared.packet.OwnedBody.{OwnedBody}
 use Rattle.amo_packet.specs.declared.packet.OwnedBody.TheVariants.{NeedUid, Accept, Send, Ack, Cleanup}
-use Rattle.amo_packet.specs.Grammar.{header, flag, kind_of, fields_of, message_of, spelling, FitsFields, IsSpellable, Spells}
+use Rattle.amo_packet.specs.Grammar.{header, flag, version_of, kind_of, fields_of, messages_of, spelling, CanBeWritten, FitsFields, IsSpellable, Spells}
 use Rattle.amo_packet.specs.Fault.{fixed_length}
 use Rattle.amo_packet.proofs.Numbers.{All-big_bytes, big_bytes-cancel}
 
 -- ---- lengths
 
--- a spelling is as long as its kind's fixed part and its message
-length-fields : (b : OwnedBody) → 8 + length (fields_of b) ≡ fixed_length (kind_of b) + length (message_of b)
+-- a spelling is as long as its kind's fixed part and its messages
+length-fields : (b : OwnedBody) → 8 + length (fields_of b) ≡ fixed_length (kind_of b) + sum_by length (messages_of b)
 length-fields (NeedUid jd) = refl
 length-fields (Accept jd id) = refl
 length-fields (Send id message) = omega arith
 length-fields (Ack id got) = refl
 length-fields (Cleanup id) = refl
 
-pub length-spelling : (p : OwnedPacket) → length (spelling p) ≡ fixed_length (kind_of p.body) + length (message_of p.body)
+pub length-spelling : (p : OwnedPacket) → length (spelling p) ≡ fixed_length (kind_of p.body) + sum_by length (messages_of p.body)
 unfolding spelling
 length-spelling p = omega (arith, length-fields p.body)
 
-length-fixed : (b : OwnedBody) → FitsFields b → fixed_length (kind_of b) + length (message_of b) ≤ 1042
+length-fixed : (b : OwnedBody) → CanBeWritten b → fixed_length (kind_of b) + sum_by length (messages_of b) ≤ 1042
 length-fixed (NeedUid jd) f = omega arith
 length-fixed (Accept jd id) f = omega arith
 length-fixed (Send id message) f = omega arith
@@ -33,18 +34,7 @@ length-fixed (Cleanup id) f = omega arith
 
 -- the longest spelling is that of the longest message
 pub spelling_short : (p : OwnedPacket) → IsSpellable p → length (spelling p) ≤ 1042
-spelling_short p f = omega (arith, length-spelling p, length-fixed p.body f.body)
-
--- a spellable packet keeps to the limit of messages
-message_within : (b : OwnedBody) → FitsFields b → length (message_of b) ≤ 1024
-message_within (NeedUid jd) f = omega arith
-message_within (Accept jd id) f = omega arith
-message_within (Send id message) f = f.1
-message_within (Ack id got) f = omega arith
-message_within (Cleanup id) f = omega arith
-
-pub message_short : (p : OwnedPacket) → IsSpellable p → length (message_of p.body) ≤ 1024
-message_short p f = message_within p.body f.body
+spelling_short p f = omega (arith, length-spelling p, length-fixed p.body f.messages)
 
 -- ---- no spelling begins another
 
@@ -63,29 +53,30 @@ message-cancel m m' x y len e = (
   sym (drop_at m x (length m') len) ∙ ap (drop (length m')) e ∙ drop_at m' y (length m') refl,
 )
 
-same_fields : (a b : OwnedBody) (x y : List ℕ) → FitsFields a → FitsFields b → kind_of a ≡ kind_of b → fields_of a ++ x ≡ fields_of b ++ y → Same a b x y
-same_fields (NeedUid jd) (NeedUid jd') x y f f' k e =
+same_fields : (a b : OwnedBody) (x y : List ℕ) → FitsFields a → FitsFields b → CanBeWritten a → CanBeWritten b → kind_of a ≡ kind_of b
+    → fields_of a ++ x ≡ fields_of b ++ y → Same a b x y
+same_fields (NeedUid jd) (NeedUid jd') x y f f' short short' k e =
     let w = big_bytes-cancel 8 jd jd' x y f f' e in (ap NeedUid w.0, w.1)
-same_fields (NeedUid jd) b x y f f' k e = absurd (omega arith)
-same_fields (Accept jd id) (Accept jd' id') x y f f' k e =
+same_fields (NeedUid jd) b x y f f' short short' k e = absurd (omega arith)
+same_fields (Accept jd id) (Accept jd' id') x y f f' short short' k e =
     let v = big_bytes-cancel 8 jd jd' _ _ f.0 f'.0 e in
     let w = big_bytes-cancel 8 id id' x y f.1 f'.1 v.1 in
     (cc, w.1)
-same_fields (Accept jd id) b x y f f' k e = absurd (omega arith)
-same_fields (Send id m) (Send id' m') x y f f' k e =
-    let v = big_bytes-cancel 8 id id' _ _ f.0 f'.0 e in
-    let w = big_bytes-cancel 2 (length m) (length m') (m ++ x) (m' ++ y) (omega arith) (omega arith) v.1 in
+same_fields (Accept jd id) b x y f f' short short' k e = absurd (omega arith)
+same_fields (Send id m) (Send id' m') x y f f' short short' k e =
+    let v = big_bytes-cancel 8 id id' _ _ f f' e in
+    let w = big_bytes-cancel 2 (length m) (length m') (m ++ x) (m' ++ y) (omega (arith, short.0)) (omega (arith, short'.0)) v.1 in
     let u = message-cancel m m' x y w.0 w.1 in
     (cc, u.1)
-same_fields (Send id m) b x y f f' k e = absurd (omega arith)
-same_fields (Ack id got) (Ack id' got') x y f f' k e =
+same_fields (Send id m) b x y f f' short short' k e = absurd (omega arith)
+same_fields (Ack id got) (Ack id' got') x y f f' short short' k e =
     let v = big_bytes-cancel 8 id id' _ _ f f' e in
     let g = flag-cancel got got' (ap (λ (xs : List ℕ). slice_index xs 0) v.1) in
     (cc, ap (drop 1) v.1)
-same_fields (Ack id got) b x y f f' k e = absurd (omega arith)
-same_fields (Cleanup id) (Cleanup id') x y f f' k e =
+same_fields (Ack id got) b x y f f' short short' k e = absurd (omega arith)
+same_fields (Cleanup id) (Cleanup id') x y f f' short short' k e =
     let w = big_bytes-cancel 8 id id' x y f f' e in (ap Cleanup w.0, w.1)
-same_fields (Cleanup id) b x y f f' k e = absurd (omega arith)
+same_fields (Cleanup id) b x y f f' short short' k e = absurd (omega arith)
 
 same_packet : (s t : ℕ) (a b : OwnedBody) (p q : OwnedPacket) → p ≡ record { stream = s; body = a } → q ≡ record { stream = t; body = b } → s ≡ t → a ≡ b → p ≡ q
 same_packet s t a b p q is is' e f = cc
@@ -96,12 +87,12 @@ unfolding spelling
 spelling-cancel p q x y f f' e =
     let k : kind_of p.body ≡ kind_of q.body = ap (λ (xs : List ℕ). slice_index xs 3) e in
     let s = big_bytes-cancel 4 p.stream q.stream (fields_of p.body ++ x) (fields_of q.body ++ y) f.stream f'.stream (ap (drop 4) e) in
-    let b = same_fields p.body q.body x y f.body f'.body k s.1 in
+    let b = same_fields p.body q.body x y f.identifiers f'.identifiers f.messages f'.messages k s.1 in
     (same_packet p.stream q.stream p.body q.body p q refl refl s.0 b.0, b.1)
 
 -- the bytes spell one packet
-pub Spells-unique : (bytes : List ℕ) (p q : OwnedPacket) → Spells bytes p → Spells bytes q → p ≡ q
-Spells-unique bytes p q sp sq =
+pub Spells-unique : (v w : ℕ) (bytes : List ℕ) (p q : OwnedPacket) → Spells v bytes p → Spells w bytes q → p ≡ q
+Spells-unique v w bytes p q sp sq =
     (spelling-cancel p q [] [] sp.fits sq.fits (ap (λ (xs : List ℕ). xs ++ []) (sym sp.exact ∙ sq.exact))).0
 
 -- ---- a spelling consists of bytes
@@ -113,11 +104,11 @@ flag-below : (got : Bool) → flag got < 256
 flag-below false = omega arith
 flag-below true = omega arith
 
-All-fields_of : (b : OwnedBody) → All IsByte (message_of b) → All IsByte (fields_of b)
+All-fields_of : (b : OwnedBody) → AllByRecursion (All IsByte) (messages_of b) → All IsByte (fields_of b)
 All-fields_of (NeedUid jd) h = All-big_bytes 8 jd
 All-fields_of (Accept jd id) h = All-append IsByte (big_bytes 8 jd) (big_bytes 8 id) (All-big_bytes 8 jd) (All-big_bytes 8 id)
 All-fields_of (Send id m) h =
-    All-append IsByte (big_bytes 8 id ++ big_bytes 2 (length m)) m (All-append IsByte (big_bytes 8 id) (big_bytes 2 (length m)) (All-big_bytes 8 id) (All-big_bytes 2 (length m))) h
+    All-append IsByte (big_bytes 8 id ++ big_bytes 2 (length m)) m (All-append IsByte (big_bytes 8 id) (big_bytes 2 (length m)) (All-big_bytes 8 id) (All-big_bytes 2 (length m))) h.0
 All-fields_of (Ack id got) h =
     All-append IsByte (big_bytes 8 id) (flag got ∷ []) (All-big_bytes 8 id) (All-cons IsByte (flag got) [] (flag-below got) (All-nil IsByte))
 All-fields_of (Cleanup id) h = All-big_bytes 8 id
@@ -129,12 +120,12 @@ kind_of-below (Send id m) = omega arith
 kind_of-below (Ack id got) = omega arith
 kind_of-below (Cleanup id) = omega arith
 
-pub All-spelling : (p : OwnedPacket) → All IsByte (message_of p.body) → All IsByte (spelling p)
+pub All-spelling : (p : OwnedPacket) → AllByRecursion (All IsByte) (messages_of p.body) → All IsByte (spelling p)
 unfolding spelling
 All-spelling p h =
     let stream = big_bytes 4 p.stream in
     let from_kind = All-cons IsByte (kind_of p.body) stream (kind_of-below p.body) (All-big_bytes 4 p.stream) in
-    let from_version = All-cons IsByte 1 (kind_of p.body ∷ stream) (omega arith) from_kind in
-    let from_second = All-cons IsByte 0x4D (1 ∷ kind_of p.body ∷ stream) (omega arith) from_version in
-    let whole = All-cons IsByte 0x41 (0x4D ∷ 1 ∷ kind_of p.body ∷ stream) (omega arith) from_second in
-    All-append IsByte (header (kind_of p.body) p.stream) (fields_of p.body) whole (All-fields_of p.body h)
+    let from_version = All-cons IsByte (version_of p.body) (kind_of p.body ∷ stream) (omega arith) from_kind in
+    let from_second = All-cons IsByte 0x4D (version_of p.body ∷ kind_of p.body ∷ stream) (omega arith) from_version in
+    let whole = All-cons IsByte 0x41 (0x4D ∷ version_of p.body ∷ kind_of p.body ∷ stream) (omega arith) from_second in
+    All-append IsByte (header (version_of p.body) (kind_of p.body) p.stream) (fields_of p.body) whole (All-fields_of p.body h)

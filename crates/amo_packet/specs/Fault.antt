@@ -3,6 +3,7 @@ use Rattle.std.specs.Prelude.{ℕ, ◌+◌, ◌==◌, nat_lt, nat_le, Bool, not,
 use Rattle.byteorder.specs.Endian.{big_number}
 use Rattle.amo_packet.specs.declared.fault.ReadFault.{ReadFault}
 use Rattle.amo_packet.specs.declared.fault.ReadFault.TheVariants.{Short, Magic, Version, Kind, Flag, Length, Long}
+use Rattle.amo_packet.specs.Message.{max_message}
 
 -- the number of a fault
 abbrev pub fault_code : ReadFault → ℕ
@@ -18,9 +19,21 @@ fault_code Long = 17
 abbrev pub no_room_code : ℕ
 no_room_code = 18
 
+-- the version that the third byte names
+abbrev pub version_byte : List ℕ → ℕ
+version_byte bytes = slice_index bytes 2
+
 -- the kind that the fourth byte names
 abbrev pub kind_byte : List ℕ → ℕ
 kind_byte bytes = slice_index bytes 3
+
+-- whether a reader of the versions up to the newest knows one
+abbrev pub is_known : ℕ → ℕ → Bool
+is_known newest version = nat_le 1 version && nat_le version newest
+
+-- whether a version has a kind: version 1 has kinds 1 to 5
+abbrev pub has_kind : ℕ → ℕ → Bool
+has_kind version kind = version == 1 && (nat_le 1 kind && nat_le kind 5)
 
 -- how many bytes a packet of a kind has, without a message: 16, 24, 18, 17 and 16
 abbrev pub fixed_length : ℕ → ℕ
@@ -34,16 +47,16 @@ given_length bytes = big_number 2 (drop 16 bytes)
 abbrev pub whole_length : List ℕ → ℕ
 whole_length bytes = fixed_length (kind_byte bytes) + (if kind_byte bytes == 3 then given_length bytes else 0)
 
--- each fault and the test for it, in the order in which they are told
-abbrev pub fault_table : List ℕ → List (ReadFault × Bool)
-fault_table bytes =
+-- each fault and the test for it, in the order of faults, for a reader of the versions up to the newest
+abbrev pub fault_table : ℕ → List ℕ → List (ReadFault × Bool)
+fault_table newest bytes =
     (Short, nat_lt (length bytes) 8)
     ∷ (Magic, not (slice_index bytes 0 == 0x41 && slice_index bytes 1 == 0x4D))
-    ∷ (Version, not (slice_index bytes 2 == 1))
-    ∷ (Kind, not (nat_le 1 (kind_byte bytes) && nat_le (kind_byte bytes) 5))
+    ∷ (Version, not (is_known newest (version_byte bytes)))
+    ∷ (Kind, not (has_kind (version_byte bytes) (kind_byte bytes)))
     ∷ (Short, nat_lt (length bytes) (fixed_length (kind_byte bytes)))
     ∷ (Flag, kind_byte bytes == 4 && nat_lt 1 (slice_index bytes 16))
-    ∷ (Length, kind_byte bytes == 3 && nat_lt 1024 (given_length bytes))
+    ∷ (Length, kind_byte bytes == 3 && nat_lt max_message (given_length bytes))
     ∷ (Short, nat_lt (length bytes) (whole_length bytes))
     ∷ (Long, nat_lt (whole_length bytes) (length bytes))
     ∷ []
@@ -53,6 +66,6 @@ abbrev pub first_of : List (ReadFault × Bool) → Option ReadFault
 first_of [] = None
 first_of (row ∷ rows) = if row.1 then Some row.0 else first_of rows
 
--- what is wrong with the bytes, or nothing
-unfoldable pub first_fault : List ℕ → Option ReadFault
-first_fault bytes = first_of (fault_table bytes)
+-- what is wrong with the bytes for a reader of the versions up to the newest, or nothing
+unfoldable pub first_fault : ℕ → List ℕ → Option ReadFault
+first_fault newest bytes = first_of (fault_table newest bytes)

@@ -1,18 +1,15 @@
 -- The packet grammar: the bytes that spell each packet. Numbers stand with the highest byte first.
 use Rattle.std.specs.Prelude.{◌≡◌, ◌≤◌, ◌<◌, ◌^◌, ℕ, Bool, true, false, List, [], ◌∷◌, ◌++◌, length}
+use Rattle.std.specs.List.{AllByRecursion}
 use Rattle.byteorder.specs.Endian.{big_bytes}
 use Rattle.amo_packet.specs.declared.packet.OwnedPacket.{OwnedPacket}
 use Rattle.amo_packet.specs.declared.packet.OwnedBody.{OwnedBody}
 use Rattle.amo_packet.specs.declared.packet.OwnedBody.TheVariants.{NeedUid, Accept, Send, Ack, Cleanup}
+use Rattle.amo_packet.specs.Message.{IsShort}
 
--- 41 4D, the version, the kind, and the stream
-abbrev pub header : ℕ → ℕ → List ℕ
-header kind stream = 0x41 ∷ 0x4D ∷ 1 ∷ kind ∷ big_bytes 4 stream
-
--- the byte of a flag
-abbrev pub flag : Bool → ℕ
-flag false = 0
-flag true = 1
+-- the version under which a body is spelt
+abbrev pub version_of : OwnedBody → ℕ
+version_of body = 1
 
 -- the number of a kind
 abbrev pub kind_of : OwnedBody → ℕ
@@ -22,7 +19,16 @@ kind_of (Send id message) = 3
 kind_of (Ack id got) = 4
 kind_of (Cleanup id) = 5
 
--- the fields that follow the header: words of eight bytes, a message behind its length in two, a flag
+-- 41 4D, the version, the kind, and the stream
+abbrev pub header : ℕ → ℕ → ℕ → List ℕ
+header version kind stream = 0x41 ∷ 0x4D ∷ version ∷ kind ∷ big_bytes 4 stream
+
+-- the byte of a flag
+abbrev pub flag : Bool → ℕ
+flag false = 0
+flag true = 1
+
+-- the fields that follow the header: identifiers of eight bytes, a message behind its length in two, a flag
 abbrev pub fields_of : OwnedBody → List ℕ
 fields_of (NeedUid jd) = big_bytes 8 jd
 fields_of (Accept jd id) = big_bytes 8 jd ++ big_bytes 8 id
@@ -32,30 +38,40 @@ fields_of (Cleanup id) = big_bytes 8 id
 
 -- the bytes of a packet, and no others: nothing follows the fields
 unfoldable pub spelling : OwnedPacket → List ℕ
-spelling p = header (kind_of p.body) p.stream ++ fields_of p.body
+spelling p = header (version_of p.body) (kind_of p.body) p.stream ++ fields_of p.body
 
--- the message that is sent; no bytes where none is
-abbrev pub message_of : OwnedBody → List ℕ
-message_of (NeedUid jd) = []
-message_of (Accept jd id) = []
-message_of (Send id message) = message
-message_of (Ack id got) = []
-message_of (Cleanup id) = []
+-- the messages that a packet carries
+abbrev pub messages_of : OwnedBody → List (List ℕ)
+messages_of (NeedUid jd) = []
+messages_of (Accept jd id) = []
+messages_of (Send id message) = message ∷ []
+messages_of (Ack id got) = []
+messages_of (Cleanup id) = []
 
--- each number fits its field, and the message its limit
+-- each message keeps to its limit
+abbrev pub CanBeWritten : OwnedBody → Type 0
+CanBeWritten body = AllByRecursion IsShort (messages_of body)
+
+-- no message has a byte, so that a copy takes no memory
+abbrev pub CarriesNoBytes : OwnedBody → Type 0
+CarriesNoBytes body = AllByRecursion (λ m. m ≡ []) (messages_of body)
+
+-- each identifier fits its field
 abbrev pub FitsFields : OwnedBody → Type 0
 FitsFields (NeedUid jd) = jd < 2 ^ 64
 FitsFields (Accept jd id) = (jd < 2 ^ 64) × (id < 2 ^ 64)
-FitsFields (Send id message) = (id < 2 ^ 64) × (length message ≤ 1024)
+FitsFields (Send id message) = id < 2 ^ 64
 FitsFields (Ack id got) = id < 2 ^ 64
 FitsFields (Cleanup id) = id < 2 ^ 64
 
 -- the packet has a spelling that tells it from all others
 pub record IsSpellable (p : OwnedPacket) : Type 0 where
   pub stream : p.stream < 2 ^ 32
-  pub body : FitsFields p.body
+  pub identifiers : FitsFields p.body
+  pub messages : CanBeWritten p.body
 
--- all of the bytes spell the packet
-pub record Spells (bytes : List ℕ) (p : OwnedPacket) : Type 0 where
+-- all of the bytes spell the packet, in a version that is at most the newest one
+pub record Spells (newest : ℕ) (bytes : List ℕ) (p : OwnedPacket) : Type 0 where
+  pub version : version_of p.body ≤ newest
   pub fits : IsSpellable p
   pub exact : bytes ≡ spelling p

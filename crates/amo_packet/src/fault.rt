@@ -5,7 +5,7 @@ use thiserror::Error;
 
 /// What is wrong with bytes that spell no packet. Whoever sent them is at fault; nothing was taken or changed.
 ///
-/// Where several faults hold, the first in this order is told: fewer than 8 bytes, magic, version, kind, fields that
+/// Where several faults hold, the first in this order counts: fewer than 8 bytes, magic, version, kind, fields that
 /// are not all there, flag, length, message bytes that are missing, bytes that follow.
 #[derive(Clone, Copy, Debug, PartialEq, Eq, Error)]
 pub enum ReadFault {

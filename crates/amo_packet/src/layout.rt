@@ -3,8 +3,11 @@
 /// The bytes that every packet begins with.
 pub const MAGIC: [u8; 2] = [0x41, 0x4D];
 
-/// The version of the packets that are read and written.
+/// The version under which each of the five kinds is spelt.
 pub const VERSION: u8 = 1;
+
+/// The newest version of packets that [`read`](crate::read) reads. It reads those before it too.
+pub const NEWEST_VERSION: u8 = VERSION;
 
 /// The magic, the version, the kind and the stream.
 pub const HEADER_LENGTH: usize = 8;
@@ -19,17 +22,17 @@ pub const ACK: u8 = 4;
 
 pub const CLEANUP: u8 = 5;
 
-/// The fields of a needuid: a word.
+/// The fields of a needuid: an identifier.
 pub const NEEDUID_LENGTH: usize = 8;
 
-/// The fields of an accept: two words.
+/// The fields of an accept: two identifiers.
 pub const ACCEPT_LENGTH: usize = 16;
 
-/// The fields of a send before its message: a word, and the message's length in two bytes.
+/// The fields of a send before its message: an identifier, and the message's length in two bytes.
 pub const SEND_LENGTH: usize = 10;
 
-/// The fields of an ack: a word and a flag.
+/// The fields of an ack: an identifier and a flag.
 pub const ACK_LENGTH: usize = 9;
 
-/// The fields of a cleanup: a word.
+/// The fields of a cleanup: an identifier.
 pub const CLEANUP_LENGTH: usize = 8;

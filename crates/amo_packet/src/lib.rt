@@ -6,8 +6,8 @@
 //!
 //! ```text
 //!   sender                         receiver
-//!     | -------- needuid(jd) --------> |    a fresh word of the sender's own
-//!     | <------ accept(jd, id) ------- |    a fresh word of the receiver's own
+//!     | -------- needuid(jd) --------> |    a fresh identifier of the sender's own
+//!     | <------ accept(jd, id) ------- |    a fresh identifier of the receiver's own
 //!     | ------- send(id, bytes) -----> |    the message travels under it
 //!     | <------- ack(id, got) -------- |    got, or not known here
 //!     | -------- cleanup(id) --------> |    the receiver may forget
@@ -30,7 +30,10 @@
 //!   5 cleanup    id 8                                    16
 //! ```
 //!
-//! What is no packet is refused by its first fault, in the order that [`ReadFault`] tells.
+//! What is no packet is refused by its first fault, in the order that [`ReadFault`] gives.
+//!
+//! A later version may spell more kinds. So the grammar takes the newest version that a reader knows, and each kind has
+//! the version that it is spelt under; [`NEWEST_VERSION`] is the one of [`read`].
 #![tactic(auto)]
 
 mod fault;
@@ -39,16 +42,21 @@ mod layout;
 mod message;
 mod packet;
 mod reader;
+mod stream;
 mod writer;
 
 pub use fault::{NoRoom, ReadFault};
 pub use laws::{
-    bytes_without_a_fault_spell_a_packet, no_spelling_begins_another, packets_that_tie_are_one,
-    spellings_are_bounded, spellings_are_bytes, spellings_are_unique, what_is_written_is_read,
+    bytes_without_a_fault_spell_a_packet, copies_without_bytes_take_no_memory,
+    no_spelling_begins_another, packets_that_tie_are_one, spellings_are_bounded,
+    spellings_are_bytes, spellings_are_unique, streams_are_numbered_from_one,
+    what_is_written_is_read,
 };
+pub use layout::NEWEST_VERSION;
 pub use message::{MAX_MESSAGE, Message, MessageFault};
 pub use packet::{Body, OwnedBody, OwnedPacket, Packet};
 pub use reader::read;
+pub use stream::STREAMS;
 pub use writer::{MAX_PACKET, write};
 
 #[cfg(test)]

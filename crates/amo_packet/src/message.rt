@@ -34,6 +34,16 @@ impl MessageFault {
     }
 }
 
+impl From<AllocError> for MessageFault {
+    ghost use Rattle.amo_packet.specs.declared.message.MessageFault.TheVariants.{NoMemory};
+
+    ghost from_gives = { λ error fault. fault ≡ NoMemory };
+
+    fn from(_error: AllocError) -> MessageFault {
+        MessageFault::NoMemory
+    }
+}
+
 /// A message of 0 to [`MAX_MESSAGE`] bytes. Contracts see the list of its bytes.
 ///
 /// The message of no bytes holds no memory, so it can always be made.
@@ -43,14 +53,14 @@ pub struct Message {
 }
 
 impl Model for Message {
-    ghost use Rattle.std.specs.Prelude.{List, ℕ, ◌≤◌, length};
-    ghost use Rattle.amo_packet.specs.Message.{bytes_of};
+    ghost use Rattle.std.specs.Prelude.{List, ℕ};
+    ghost use Rattle.amo_packet.specs.Message.{bytes_of, IsShort};
 
     ghost Value = { List ℕ };
 
     ghost view = { λ m. bytes_of m.bytes };
 
-    ghost invariant = { λ m. length (bytes_of m.bytes) ≤ 1024 };
+    ghost invariant = { λ m. IsShort (bytes_of m.bytes) };
 }
 
 impl Message {
@@ -66,10 +76,8 @@ impl Message {
         if bytes.is_empty() {
             return Ok(Message::default());
         }
-        match Vec::from_slice(alloc, bytes) {
-            Ok(copy) => Ok(Message { bytes: Some(copy) }),
-            Err(_) => Err(MessageFault::NoMemory),
-        }
+        let copy = Vec::from_slice(alloc, bytes)?;
+        Ok(Message { bytes: Some(copy) })
     }
 
     /// The bytes, in order.
@@ -84,15 +92,18 @@ impl Message {
     }
 }
 
+/// A copy takes memory only where there is a byte to copy.
 impl Clone for Message {
     ghost is_clone = { λ message copy. copy ≡ message };
 
+    ghost is_infallible = { λ message. message ≡ [] };
+
     fn clone(&self) -> Result<Message, AllocError> {
         match &self.bytes {
-            None => Ok(Message::default()),
-            Some(bytes) => Ok(Message {
+            Some(bytes) if !bytes.is_empty() => Ok(Message {
                 bytes: Some(bytes.clone()?),
             }),
+            _ => Ok(Message::default()),
         }
     }
 }

@@ -1,17 +1,17 @@
 //! Packets, with the message owned or borrowed.
-ghost use Rattle.std.specs.Prelude.{◌≡◌, ◌≢◌, ◌<◌, ◌≤◌, ◌↔◌, [], length, IfOk, IsErrOf};
-ghost use Rattle.amo_packet.specs.Grammar.{message_of};
+ghost use Rattle.std.specs.Prelude.{◌≡◌, ◌↔◌, IfOk, OnErr, IsErrOf};
+ghost use Rattle.amo_packet.specs.Grammar.{CanBeWritten, CarriesNoBytes};
 ghost use Rattle.amo_packet.specs.Packet.{packet_of, body_of};
 
-use crate::{MAX_MESSAGE, Message, MessageFault};
-use std::alloc::Global;
+use crate::{Message, MessageFault};
+use std::alloc::{AllocError, Global};
 
 /// What a packet says, with a message of its own.
 #[derive(Clone, Debug, PartialEq, Eq, PartialOrd, Ord, Drop)]
 pub enum OwnedBody {
-    /// The sender asks for an identifier, under a word of its own.
+    /// The sender needs an identifier, and names one of its own by which to know the accept.
     NeedUid(u64),
-    /// The receiver answers the word, first, with an identifier.
+    /// The receiver accepts the sender's identifier, first, and gives one of its own for the message.
     Accept(u64, u64),
     /// The sender sends its message under the identifier.
     Send(u64, Message),
@@ -33,9 +33,9 @@ pub struct OwnedPacket {
 /// What a packet says, with the message where it lies. The variants are those of [`OwnedBody`].
 #[derive(Clone, Copy, Debug)]
 pub enum Body<'a> {
-    /// The sender asks for an identifier, under a word of its own.
+    /// The sender needs an identifier, and names one of its own by which to know the accept.
     NeedUid(u64),
-    /// The receiver answers the word, first, with an identifier.
+    /// The receiver accepts the sender's identifier, first, and gives one of its own for the message.
     Accept(u64, u64),
     /// The sender sends its message under the identifier.
     Send(u64, &'a [u8]),
@@ -58,7 +58,7 @@ impl OwnedBody {
     /// What is said, with the message borrowed.
     pub fn as_body(&self) -> Body<'_>
         ensures value { body_of result ≡ self.now }
-        ensures bounded { length (message_of self.now) ≤ MAX_MESSAGE }
+        ensures fits { CanBeWritten self.now }
     {
         match self {
             OwnedBody::NeedUid(jd) => Body::NeedUid(*jd),
@@ -74,7 +74,7 @@ impl OwnedPacket {
     /// The packet, with its message borrowed.
     pub fn as_packet(&self) -> Packet<'_>
         ensures value { packet_of result ≡ self.now }
-        ensures bounded { length (message_of self.now.body) ≤ MAX_MESSAGE }
+        ensures fits { CanBeWritten self.now.body }
     {
         Packet {
             stream: self.stream,
@@ -87,8 +87,8 @@ impl Body<'_> {
     /// What is said, with the message copied. It takes memory only for a message with a byte to copy.
     pub fn to_owned(&self, alloc: Global) -> Result<OwnedBody, MessageFault>
         ensures ok { IfOk result (λ body. body ≡ body_of self.now) }
-        ensures too_long { IsErrOf result MessageFault.TooLong ↔ (MAX_MESSAGE < length (message_of (body_of self.now))) }
-        ensures memory { IsErrOf result MessageFault.NoMemory → message_of (body_of self.now) ≢ [] }
+        ensures too_long { IsErrOf result MessageFault.TooLong ↔ (¬ (CanBeWritten (body_of self.now))) }
+        ensures memory { IsErrOf result MessageFault.NoMemory → ¬ (CarriesNoBytes (body_of self.now)) }
     {
         Ok(match self {
             Body::NeedUid(jd) => OwnedBody::NeedUid(*jd),
@@ -104,13 +104,26 @@ impl Packet<'_> {
     /// The packet, with its message copied. It takes memory only for a message with a byte to copy.
     pub fn to_owned(&self, alloc: Global) -> Result<OwnedPacket, MessageFault>
         ensures ok { IfOk result (λ packet. packet ≡ packet_of self.now) }
-        ensures too_long { IsErrOf result MessageFault.TooLong ↔ (MAX_MESSAGE < length (message_of (body_of self.now.body))) }
-        ensures memory { IsErrOf result MessageFault.NoMemory → message_of (body_of self.now.body) ≢ [] }
+        ensures too_long { IsErrOf result MessageFault.TooLong ↔ (¬ (CanBeWritten (body_of self.now.body))) }
+        ensures memory { IsErrOf result MessageFault.NoMemory → ¬ (CarriesNoBytes (body_of self.now.body)) }
     {
         let body = self.body.to_owned(alloc)?;
         Ok(OwnedPacket {
             stream: self.stream,
             body,
         })
+    }
+
+    /// The same of a packet that was read or emitted, whose message keeps to its limit: only memory can be refused.
+    pub fn copied(&self, alloc: Global) -> Result<OwnedPacket, AllocError>
+        requires { CanBeWritten (body_of self.now.body) }
+        ensures ok { IfOk result (λ packet. packet ≡ packet_of self.now) }
+        ensures memory { OnErr result (¬ (CarriesNoBytes (body_of self.now.body))) }
+    {
+        match self.to_owned(alloc) {
+            Ok(packet) => Ok(packet),
+            Err(MessageFault::NoMemory) => Err(AllocError),
+            Err(MessageFault::TooLong) => unreachable!(),
+        }
     }
 }

@@ -5,28 +5,28 @@ ghost use Rattle.std.specs.Prelude.{◌≡◌, ◌<◌, ◌≤◌, ◌^◌, ◌+
 ghost use Rattle.amo_packet.specs.declared.fault.ReadFault.{ReadFault};
 ghost use Rattle.amo_packet.specs.declared.packet.OwnedPacket.{OwnedPacket};
 ghost use Rattle.amo_packet.specs.Packet.{packet_of, body_of};
-ghost use Rattle.amo_packet.specs.Grammar.{header, message_of, Spells};
+ghost use Rattle.amo_packet.specs.Grammar.{header, CanBeWritten, Spells};
 ghost use Rattle.amo_packet.specs.Fault.{first_fault};
 ghost use Rattle.amo_packet.specs.Reading.{IsReading};
 
 use crate::layout::{
     ACCEPT, ACCEPT_LENGTH, ACK, ACK_LENGTH, CLEANUP, CLEANUP_LENGTH, HEADER_LENGTH, MAGIC, NEEDUID,
-    NEEDUID_LENGTH, SEND, SEND_LENGTH, VERSION,
+    NEEDUID_LENGTH, NEWEST_VERSION, SEND, SEND_LENGTH, VERSION,
 };
 use crate::{Body, MAX_MESSAGE, Packet, ReadFault};
 use byteorder::{BigEndian, ByteOrder};
 use std::cmp::Ordering;
 
-/// The packet that all of the bytes spell, or their first fault in the order that [`ReadFault`] tells. A message is
+/// The packet that all of the bytes spell, or their first fault in the order that [`ReadFault`] gives. A message is
 /// borrowed from where it lies in them.
 pub fn read(bytes: &[u8]) -> Result<Packet<'_>, ReadFault>
     // What is read is what the bytes spell, and what they spell is read.
-    ensures found { IfOk result (λ p. Spells bytes.now (packet_of p)) }
-    ensures complete { (p : OwnedPacket) → Spells bytes.now p → IsOkAnd result (λ found. packet_of found ≡ p) }
-    ensures message { IfOk result (λ p. length (message_of (body_of p.body)) ≤ MAX_MESSAGE) }
+    ensures found { IfOk result (λ p. Spells NEWEST_VERSION bytes.now (packet_of p)) }
+    ensures complete { (p : OwnedPacket) → Spells NEWEST_VERSION bytes.now p → IsOkAnd result (λ found. packet_of found ≡ p) }
+    ensures fits { IfOk result (λ p. CanBeWritten (body_of p.body)) }
 
     // A fault is the first in the order of faults.
-    ensures fault { (f : ReadFault) → IsErrOf result f ↔ (first_fault bytes.now ≡ Some f) }
+    ensures fault { (f : ReadFault) → IsErrOf result f ↔ (first_fault NEWEST_VERSION bytes.now ≡ Some f) }
 {
     let (kind, stream, fields) = read_header(bytes)?;
     let body = read_body(kind, fields)?;
@@ -35,8 +35,8 @@ pub fn read(bytes: &[u8]) -> Result<Packet<'_>, ReadFault>
 
 /// The kind, the stream and the fields of what begins as a packet.
 fn read_header(bytes: &[u8]) -> Result<(u8, u32, &[u8]), ReadFault>
-    ensures found { IfOk result (λ h. (h.1 < 2 ^ 32) × (bytes.now ≡ header h.0 h.1 ++ h.2.now)) }
-    ensures fault { IfErr result (λ f. first_fault bytes.now ≡ Some f) }
+    ensures found { IfOk result (λ h. (h.1 < 2 ^ 32) × (bytes.now ≡ header VERSION h.0 h.1 ++ h.2.now)) }
+    ensures fault { IfErr result (λ f. first_fault NEWEST_VERSION bytes.now ≡ Some f) }
 {
     if bytes.len() < HEADER_LENGTH {
         return Err(ReadFault::Short);

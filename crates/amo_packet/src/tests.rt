@@ -1,10 +1,10 @@
 //! Packets against bytes that were typed by hand from the format.
-ghost use Rattle.std.specs.Prelude.{◌≤◌, length};
 ghost use Rattle.amo_packet.specs.Packet.{body_of};
-ghost use Rattle.amo_packet.specs.Grammar.{message_of};
+ghost use Rattle.amo_packet.specs.Grammar.{CanBeWritten};
 
 use super::*;
 use std::process::Abort;
+use std::test::Fail;
 
 /// needuid(7) on stream 1
 const NEEDUID_7: &[u8] = b"\x41\x4d\x01\x01\x00\x00\x00\x01\x00\x00\x00\x00\x00\x00\x00\x07";
@@ -34,7 +34,7 @@ fn is_same(a: &Packet<'_>, b: &Packet<'_>) -> bool {
 
 /// What is said on stream 1 is written as these bytes, and they are read as it.
 fn both_ways(rt: &impl Abort, body: Body<'_>, bytes: &[u8])
-    requires { length (message_of (body_of body)) ≤ MAX_MESSAGE }
+    requires { CanBeWritten (body_of body) }
 {
     let packet = Packet { stream: 1, body };
     let mut buffer = [0; MAX_PACKET];
@@ -79,7 +79,7 @@ fn vectors_of_the_receiver(rt: HostRuntime) {
     both_ways(&rt, Body::Ack(10, true), ack_10_true);
 }
 
-/// Every byte of a word, of a stream and of a length has its place.
+/// Every byte of an identifier and of a stream has its place.
 #[test]
 fn numbers_stand_with_the_highest_byte_first(rt: HostRuntime) {
     let bytes =
@@ -96,7 +96,7 @@ fn numbers_stand_with_the_highest_byte_first(rt: HostRuntime) {
 
 #[test]
 fn unreadable_datagrams(rt: HostRuntime) {
-    let datagrams: [(&[u8], ReadFault); 10] = [
+    let datagrams: [(&[u8], ReadFault); 12] = [
         (b"", ReadFault::Short),
         (b"\x41\x4d\x01\x01\x00\x00\x00", ReadFault::Short),
         (
@@ -107,6 +107,10 @@ fn unreadable_datagrams(rt: HostRuntime) {
             b"\x41\x4d\x02\x01\x00\x00\x00\x01\x00\x00\x00\x00\x00\x00\x00\x07",
             ReadFault::Version,
         ),
+        // The magic, the version and the kind are all wrong.
+        (b"\x42\x4d\x02\x00\x00\x00\x00\x01", ReadFault::Magic),
+        // The version and the kind are wrong.
+        (b"\x41\x4d\x02\x00\x00\x00\x00\x01", ReadFault::Version),
         (b"\x41\x4d\x01\x00\x00\x00\x00\x01", ReadFault::Kind),
         (
             b"\x41\x4d\x01\x01\x00\x00\x00\x01\x00\x00\x00\x00\x00\x00\x00",
@@ -134,7 +138,7 @@ fn unreadable_datagrams(rt: HostRuntime) {
     for (datagram, fault) in datagrams {
         assert!(rt; read(datagram).err() == Some(fault));
     }
-    // The eleventh differs from the seventh in its flag, and has no byte too many.
+    // With a lawful flag, and nothing behind it, an ack is read.
     assert!(rt;
         matches!(
             read(ACK_9_TRUE),
@@ -167,7 +171,7 @@ fn changed_headers(rt: HostRuntime) {
             }
             datagram[place] = value;
             let outcome = read(&datagram);
-            let is_told = match (place, value) {
+            let is_right = match (place, value) {
                 (0 | 1, _) => outcome.err() == Some(ReadFault::Magic),
                 (2, _) => outcome.err() == Some(ReadFault::Version),
                 (3, 2..=4) => outcome.err() == Some(ReadFault::Short),
@@ -182,7 +186,7 @@ fn changed_headers(rt: HostRuntime) {
                 _ =>
                     matches!(outcome, Ok(Packet { stream, body: Body::NeedUid(7) }) if stream != 1),
             };
-            assert!(rt; is_told, "byte {place} set to {value}");
+            assert!(rt; is_right, "byte {place} set to {value}");
         }
     }
 }
@@ -215,4 +219,45 @@ fn longest_message(rt: HostRuntime) {
     let mut buffer = [0; 1043];
     assert!(rt; write(&packet, &mut buffer) == Ok(1042));
     assert!(rt; read(&buffer).err() == Some(ReadFault::Long));
+}
+
+#[test]
+fn faults_tell_their_number_and_cause(rt: HostRuntime) -> Result<(), Fail> {
+    for (fault, code, text) in [
+        (ReadFault::Short, 11, "the packet is cut short"),
+        (ReadFault::Magic, 12, "the bytes do not begin as a packet"),
+        (
+            ReadFault::Version,
+            13,
+            "the version of the packet is not known",
+        ),
+        (ReadFault::Kind, 14, "the kind of the packet is not known"),
+        (
+            ReadFault::Flag,
+            15,
+            "the flag of the ack is neither 0 nor 1",
+        ),
+        (
+            ReadFault::Length,
+            16,
+            "the message of the packet is too long",
+        ),
+        (ReadFault::Long, 17, "bytes follow the packet"),
+    ] {
+        assert_eq!(rt; fault.code(), code);
+        assert_eq!(rt; format!(in rt.alloc(); "{fault}")?.as_str(), text);
+    }
+    for (fault, code, text) in [
+        (MessageFault::NoMemory, 9, "out of memory"),
+        (MessageFault::TooLong, 19, "the message is too long"),
+    ] {
+        assert_eq!(rt; fault.code(), code);
+        assert_eq!(rt; format!(in rt.alloc(); "{fault}")?.as_str(), text);
+    }
+    assert_eq!(rt; NoRoom.code(), 18);
+    assert_eq!(rt;
+        format!(in rt.alloc(); "{NoRoom}")?.as_str(),
+        "the buffer is too short for the packet"
+    );
+    Ok(())
 }

@@ -1,7 +1,7 @@
 //! Packets into bytes.
 ghost use Rattle.std.specs.Prelude.{◌≡◌, ◌<◌, ◌≤◌, ◌+◌, ◌++◌, ◌↔◌, length, drop, OnOk, OnErr, IfOk, IsErr};
 ghost use Rattle.amo_packet.specs.Packet.{packet_of, body_of};
-ghost use Rattle.amo_packet.specs.Grammar.{header, kind_of, fields_of, message_of, spelling, FitsFields, IsSpellable};
+ghost use Rattle.amo_packet.specs.Grammar.{header, kind_of, fields_of, spelling, CanBeWritten, FitsFields, IsSpellable};
 
 use crate::layout::{
     ACCEPT, ACCEPT_LENGTH, ACK, ACK_LENGTH, CLEANUP, CLEANUP_LENGTH, HEADER_LENGTH, MAGIC, NEEDUID,
@@ -13,13 +13,13 @@ use byteorder::{BigEndian, ByteOrder};
 /// The greatest length of a packet's spelling, in bytes.
 pub const MAX_PACKET: usize = HEADER_LENGTH + SEND_LENGTH + MAX_MESSAGE;
 
-/// Writes the packet's spelling at the front of the buffer, and answers its length in bytes. What is behind it stays.
+/// Writes the packet's spelling at the front of the buffer, and returns its length in bytes. What is behind it stays.
 ///
 /// A message is at most [`MAX_MESSAGE`] bytes. [`NoRoom`] comes where the buffer is shorter than the spelling. A buffer of
 /// [`MAX_PACKET`] bytes always has room.
 #[tactic(auto, unfolding(crate::specs::Grammar::spelling))]
 pub fn write(packet: &Packet<'_>, buffer: &mut [u8]) -> Result<usize, NoRoom>
-    requires { length (message_of (body_of packet.now.body)) ≤ MAX_MESSAGE }
+    requires { CanBeWritten (body_of packet.now.body) }
 
     ensures answer { IfOk result (λ n. n ≡ length (spelling (packet_of packet.now))) }
     ensures written { IfOk result (λ n. buffer.new ≡ spelling (packet_of packet.now) ++ drop n buffer.old) }
@@ -56,7 +56,7 @@ fn kind(body: &Body<'_>) -> u8
 
 /// How many bytes the fields take.
 fn fields_length(body: &Body<'_>) -> usize
-    requires { length (message_of (body_of body.now)) ≤ MAX_MESSAGE }
+    requires { CanBeWritten (body_of body.now) }
     ensures { result ≡ length (fields_of (body_of body.now)) }
 {
     match body {
@@ -71,7 +71,7 @@ fn fields_length(body: &Body<'_>) -> usize
 /// Writes the header at the front.
 fn write_header(kind: u8, stream: u32, buffer: &mut [u8])
     requires { HEADER_LENGTH ≤ length buffer.old }
-    ensures { buffer.new ≡ header kind stream ++ drop HEADER_LENGTH buffer.old }
+    ensures { buffer.new ≡ header VERSION kind stream ++ drop HEADER_LENGTH buffer.old }
 {
     buffer[0] = MAGIC[0];
     buffer[1] = MAGIC[1];
@@ -82,10 +82,10 @@ fn write_header(kind: u8, stream: u32, buffer: &mut [u8])
 
 /// Writes the fields at the front.
 fn write_fields(body: &Body<'_>, buffer: &mut [u8])
-    requires message { length (message_of (body_of body.now)) ≤ MAX_MESSAGE }
+    requires fits { CanBeWritten (body_of body.now) }
     requires room { length (fields_of (body_of body.now)) ≤ length buffer.old }
     ensures written { buffer.new ≡ fields_of (body_of body.now) ++ drop (length (fields_of (body_of body.now))) buffer.old }
-    ensures fits { FitsFields (body_of body.now) }
+    ensures identifiers { FitsFields (body_of body.now) }
 {
     match body {
         Body::NeedUid(jd) => BigEndian::write_u64(buffer, *jd),

@@ -4,6 +4,7 @@ use Rattle.amo_core.specs.declared.reply.Reply.{Reply}
 use Rattle.amo_core.specs.declared.reply.Reply.TheVariants as reply
 use Rattle.amo_core.specs.declared.receiver.GetRefusal.{GetRefusal}
 use Rattle.amo_core.specs.declared.receiver.GetRefusal.TheVariants.{Nothing, Down}
+use Rattle.amo_core.specs.Codes.{nothing_code, down_code}
 
 -- the reply to a get
 abbrev pub get_reply : Result (List ℕ) GetRefusal → Reply
@@ -13,5 +14,5 @@ get_reply (Err Down) = reply.Down
 
 -- the number of a refusal
 abbrev pub refusal_code : GetRefusal → ℕ
-refusal_code Nothing = 45
-refusal_code Down = 42
+refusal_code Nothing = nothing_code
+refusal_code Down = down_code

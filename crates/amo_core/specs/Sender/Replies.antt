@@ -5,7 +5,8 @@ use Rattle.amo_core.specs.declared.reply.Reply.TheVariants as reply
 use Rattle.amo_core.specs.declared.sender.PutRefusal.{PutRefusal}
 use Rattle.amo_core.specs.declared.sender.PutRefusal.TheVariants.{Full, Down}
 use Rattle.amo_core.specs.declared.sender.AckReply.{AckReply}
-use Rattle.amo_core.specs.declared.sender.AckReply.TheVariants as answer
+use Rattle.amo_core.specs.declared.sender.AckReply.TheVariants as known
+use Rattle.amo_core.specs.Codes.{full_code, down_code}
 
 -- the reply to a put
 abbrev pub put_reply : Result Unit PutRefusal → Reply
@@ -20,12 +21,12 @@ refused_message (Down m) = m
 
 -- the number of a refusal
 abbrev pub refusal_code : PutRefusal → ℕ
-refusal_code (Full m) = 41
-refusal_code (Down m) = 42
+refusal_code (Full m) = full_code
+refusal_code (Down m) = down_code
 
 -- the reply to a call for what is known of the last put
 abbrev pub ack_reply : AckReply → Reply
-ack_reply answer.Yes = reply.Yes
-ack_reply answer.No = reply.No
-ack_reply answer.NotYet = reply.NotYet
-ack_reply answer.Down = reply.Down
+ack_reply known.Yes = reply.Yes
+ack_reply known.No = reply.No
+ack_reply known.NotYet = reply.NotYet
+ack_reply known.Down = reply.Down

@@ -1,9 +1,12 @@
 //! What a receiver would emit: looked up, with nothing changed.
-ghost use Rattle.std.specs.Prelude.{◌≡◌, ℕ, List, [], IfSome};
+ghost use Rattle.std.specs.Prelude.{◌≡◌, ℕ, List, false, IfSome};
 ghost use Rattle.std.specs.Option.{option_map};
 ghost use Rattle.amo_packet.specs.Packet.{body_of, packet_of};
-ghost use Rattle.amo_packet.specs.Grammar.{message_of};
+ghost use Rattle.amo_packet.specs.Grammar.{CanBeWritten};
+ghost use Rattle.amo_core.specs.Row.{done};
+ghost use Rattle.amo_core.specs.Receiver.{is_accepting};
 ghost use Rattle.amo_core.specs.Receiver as table;
+ghost use Rattle.amo_core.specs.declared.act.Act.TheVariants as act;
 
 use crate::Act;
 use crate::receiver::{Receiver, ReceiverMode};
@@ -13,7 +16,7 @@ impl Receiver {
     /// The packet that the act would emit, if any.
     pub fn emission(&self, act: &Act) -> Option<Packet<'_>>
         ensures value { option_map packet_of result ≡ (table.row self.now act.now).emitted }
-        ensures fits { IfSome result (λ p. message_of (body_of p.body) ≡ []) }
+        ensures fits { IfSome result (λ p. CanBeWritten (body_of p.body)) }
     {
         match act {
             Act::Resend => self.resend(),
@@ -22,22 +25,34 @@ impl Receiver {
         }
     }
 
-    /// What hearing a packet would emit, with the word for an offer.
+    /// Emits the packet of the mode: accept while the receiver accepts, and ack once the message was got.
+    pub fn resend(&self) -> Option<Packet<'_>>
+        ensures row { table.row self.now act.Resend ≡ done self.now (option_map packet_of result) }
+        ensures fits { IfSome result (λ p. CanBeWritten (body_of p.body)) }
+    {
+        match &self.mode {
+            ReceiverMode::Accept(jd, id) => Some(self.packet(Body::Accept(*jd, *id))),
+            ReceiverMode::Ack(id) => Some(self.packet(Body::Ack(*id, true))),
+            ReceiverMode::Idle | ReceiverMode::Rcvd(_, _) | ReceiverMode::Down => None,
+        }
+    }
+
+    /// What a delivery would emit, with the word for an accept.
     fn emission_on(&self, body: &OwnedBody, word: u64) -> Option<Packet<'_>>
         ensures value { option_map packet_of result ≡ (table.deliver self.now body.now word).emitted }
-        ensures fits { IfSome result (λ p. message_of (body_of p.body) ≡ []) }
+        ensures fits { IfSome result (λ p. CanBeWritten (body_of p.body)) }
     {
         match body {
-            OwnedBody::NeedUid(jd) => self.emission_on_request(*jd, word),
-            OwnedBody::Send(id, _) => self.emission_on_message(*id),
+            OwnedBody::NeedUid(jd) => self.emission_on_needuid(*jd, word),
+            OwnedBody::Send(id, _) => self.emission_on_send(*id),
             OwnedBody::Accept(_, _) | OwnedBody::Ack(_, _) | OwnedBody::Cleanup(_) => None,
         }
     }
 
-    /// What a request for an identifier would emit: an offer under the word, or the offer that stands for it already.
-    fn emission_on_request(&self, jd: u64, word: u64) -> Option<Packet<'_>>
+    /// What a needuid would emit: an accept under the word, or the accept that stands for it already.
+    fn emission_on_needuid(&self, jd: u64, word: u64) -> Option<Packet<'_>>
         ensures value { option_map packet_of result ≡ (table.needuid self.now self.now.mode jd word).emitted }
-        ensures fits { IfSome result (λ p. message_of (body_of p.body) ≡ []) }
+        ensures fits { IfSome result (λ p. CanBeWritten (body_of p.body)) }
     {
         match &self.mode {
             ReceiverMode::Idle => Some(self.packet(Body::Accept(jd, word))),
@@ -48,14 +63,38 @@ impl Receiver {
         }
     }
 
-    /// What a message under this identifier would emit: nothing if it is taken, or the answer to it.
-    fn emission_on_message(&self, id: u64) -> Option<Packet<'_>>
+    /// What a send under this identifier would emit: nothing if it is accepted, or an ack.
+    fn emission_on_send(&self, id: u64) -> Option<Packet<'_>>
         ensures value { (m : List ℕ) → option_map packet_of result ≡ (table.send self.now self.now.mode id m).emitted }
-        ensures fits { IfSome result (λ p. message_of (body_of p.body) ≡ []) }
+        ensures fits { IfSome result (λ p. CanBeWritten (body_of p.body)) }
     {
         match &self.mode {
-            ReceiverMode::Accept(_, offered) if *offered == id => None,
-            _ => self.answer(id),
+            ReceiverMode::Accept(_, accepted) if *accepted == id => None,
+            _ => self.ack_on_send(id),
+        }
+    }
+
+    /// The ack for a send under an identifier that is not accepted, unless its message is held or the receiver is down.
+    pub(crate) fn ack_on_send(&self, id: u64) -> Option<Packet<'_>>
+        requires { is_accepting self.now.mode id ≡ false }
+        ensures fits { IfSome result (λ p. CanBeWritten (body_of p.body)) }
+        ensures row { (m : List ℕ) → table.send self.now self.now.mode id m ≡ done self.now (option_map packet_of result) }
+    {
+        match &self.mode {
+            ReceiverMode::Down => None,
+            ReceiverMode::Rcvd(under, _) if *under == id => None,
+            ReceiverMode::Ack(under) => Some(self.packet(Body::Ack(id, *under == id))),
+            _ => Some(self.packet(Body::Ack(id, false))),
+        }
+    }
+
+    /// A packet of this stream.
+    fn packet<'a>(&self, body: Body<'a>) -> Packet<'a>
+        ensures { packet_of result ≡ record { stream = self.now.stream; body = body_of body.entry } }
+    {
+        Packet {
+            stream: self.stream,
+            body,
         }
     }
 }

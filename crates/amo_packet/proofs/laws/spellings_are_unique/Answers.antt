@@ -6,4 +6,4 @@ pub returns-clause-packet : goal.returns-clause-packet
 returns-clause-packet c = Spells-unique
 
 pub returns-clause-spelling : goal.returns-clause-spelling
-returns-clause-spelling c = λ a b p s t. s.exact ∙ sym t.exact
+returns-clause-spelling c = λ v w a b p s t. s.exact ∙ sym t.exact

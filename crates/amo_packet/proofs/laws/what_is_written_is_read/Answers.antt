@@ -1,4 +1,4 @@
-use Rattle.std.proofs.Common.{refl}
+use Rattle.std.proofs.Common.{refl, arith}
 use Rattle.amo_packet.specs.Grammar.{spelling}
 use Rattle.amo_packet.proofs.Spellings.{Spells-unique}
 use Rattle.amo_packet.proofs.Faults.{first_fault-spelling}
@@ -8,4 +8,4 @@ pub returns-clause-no_fault : goal.returns-clause-no_fault
 returns-clause-no_fault c = first_fault-spelling
 
 pub returns-clause-same : goal.returns-clause-same
-returns-clause-same c = λ p q f s. Spells-unique (spelling p) q p s (record { fits = f; exact = refl })
+returns-clause-same c = λ newest p q f s. Spells-unique newest 1 (spelling p) q p s (record { version = omega arith; fits = f; exact = refl })
