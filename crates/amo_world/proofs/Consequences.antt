@@ -18,9 +18,11 @@ crashes-without_losses (Crash side ∷ run) = refl
 crashes-without_losses (step ∷ run) = crashes-without_losses run
 
 -- what is got was put: in that order, and each message at most once
-pub IsSubsequence-served : (number : ℕ) (events : List Event) → IsServed number events → IsSubsequence (messages_got (calls number events)) (messages_put (calls number events))
+pub IsSubsequence-served : (number : ℕ) (events : List Event) → IsServed number events
+    → IsSubsequence (messages_got (calls number events)) (messages_put (calls number events))
 IsSubsequence-served number events served =
-    rw (← served.2, messages_got-without_losses served.0, messages_put-without_losses served.0) (IsSubsequence-messages_got start served.0 served.1)
+    rw (← served.2, messages_got-without_losses served.0, messages_put-without_losses served.0)
+    (IsSubsequence-messages_got start served.0 served.1)
 
 -- while no host crashes, what is put is got or still waits
 pub messages_put-served : (number : ℕ) (events : List Event) → IsServed number events → IsCrashFree (calls number events)

@@ -27,28 +27,28 @@ use Rattle.amo_world.specs.History.{stream_after, stream_before, after_if, emiss
 use Rattle.amo_world.proofs.Lists.{some_injective, push_cases, contains_first}
 
 -- a row keeps the number of the stream, and what it emits bears it
-abbrev SenderBears : ℕ → Row sender.State → Type 0
+abbrev SenderBears : ℕ → Row sender.SenderState → Type 0
 SenderBears n r = (r.state.stream ≡ n) × IfSome r.emitted (λ p. p.stream ≡ n)
 
-sender_either : (n : ℕ) (b : Bool) (r q : Row sender.State) → SenderBears n r → SenderBears n q → SenderBears n (if b then r else q)
+sender_either : (n : ℕ) (b : Bool) (r q : Row sender.SenderState) → SenderBears n r → SenderBears n q → SenderBears n (if b then r else q)
 sender_either n true r q x y = x
 sender_either n false r q x y = y
 
--- an act of the host is told that it was done
-abbrev SenderActs : ℕ → Row sender.State → Type 0
+-- an act of the host has the reply Done
+abbrev SenderActs : ℕ → Row sender.SenderState → Type 0
 SenderActs n r = (r.state.stream ≡ n) × IfSome r.emitted (λ p. p.stream ≡ n) × (r.reply ≡ Some Done)
 
-sender_acts_either : (n : ℕ) (b : Bool) (r q : Row sender.State) → SenderActs n r → SenderActs n q → SenderActs n (if b then r else q)
+sender_acts_either : (n : ℕ) (b : Bool) (r q : Row sender.SenderState) → SenderActs n r → SenderActs n q → SenderActs n (if b then r else q)
 sender_acts_either n true r q x y = x
 sender_acts_either n false r q x y = y
 
-sender_put : (s : sender.State) (mode : SenderMode) (m : List ℕ) → SenderBears s.stream (sender.put s mode m)
+sender_put : (s : sender.SenderState) (mode : SenderMode) (m : List ℕ) → SenderBears s.stream (sender.put s mode m)
 sender_put s sending.Down m = (refl, tt)
 sender_put s (sending.Quiet got) m = sender_either s.stream _ _ _ (refl, tt) (refl, tt)
 sender_put s (sending.NeedId jd c) m = sender_either s.stream _ _ _ (refl, tt) (refl, tt)
 sender_put s (sending.Send id c) m = sender_either s.stream _ _ _ (refl, tt) (refl, tt)
 
-sender_ack : (s : sender.State) (mode : SenderMode) (w : List (List ℕ)) → SenderBears s.stream (sender.get_ack s mode w)
+sender_ack : (s : sender.SenderState) (mode : SenderMode) (w : List (List ℕ)) → SenderBears s.stream (sender.get_ack s mode w)
 sender_ack s sending.Down w = (refl, tt)
 sender_ack s (sending.Quiet true) [] = (refl, tt)
 sender_ack s (sending.Quiet false) [] = (refl, tt)
@@ -57,49 +57,49 @@ sender_ack s (sending.Quiet false) (m ∷ w) = (refl, tt)
 sender_ack s (sending.NeedId jd c) w = (refl, tt)
 sender_ack s (sending.Send id c) w = (refl, tt)
 
-sender_start : (s : sender.State) (mode : SenderMode) (w : List (List ℕ)) (word : ℕ) → SenderActs s.stream (sender.start s mode w word)
+sender_start : (s : sender.SenderState) (mode : SenderMode) (w : List (List ℕ)) (word : ℕ) → SenderActs s.stream (sender.start s mode w word)
 sender_start s sending.Down w word = (refl, tt, refl)
 sender_start s (sending.Quiet got) [] word = (refl, tt, refl)
 sender_start s (sending.Quiet got) (m ∷ w) word = (refl, refl, refl)
 sender_start s (sending.NeedId jd c) w word = (refl, tt, refl)
 sender_start s (sending.Send id c) w word = (refl, tt, refl)
 
-sender_resend : (s : sender.State) (mode : SenderMode) → SenderActs s.stream (sender.resend s mode)
+sender_resend : (s : sender.SenderState) (mode : SenderMode) → SenderActs s.stream (sender.resend s mode)
 sender_resend s sending.Down = (refl, tt, refl)
 sender_resend s (sending.Quiet got) = (refl, tt, refl)
 sender_resend s (sending.NeedId jd c) = (refl, refl, refl)
 sender_resend s (sending.Send id c) = (refl, refl, refl)
 
-sender_accept : (s : sender.State) (mode : SenderMode) (jd id : ℕ) → SenderActs s.stream (sender.accept s mode jd id)
+sender_accept : (s : sender.SenderState) (mode : SenderMode) (jd id : ℕ) → SenderActs s.stream (sender.accept s mode jd id)
 sender_accept s sending.Down jd id = (refl, tt, refl)
 sender_accept s (sending.Quiet got) jd id = (refl, refl, refl)
 sender_accept s (sending.NeedId asked c) jd id = sender_acts_either s.stream _ _ _ (refl, refl, refl) (refl, refl, refl)
 sender_accept s (sending.Send under c) jd id = sender_acts_either s.stream _ _ _ (refl, tt, refl) (refl, refl, refl)
 
-sender_answered : (n : ℕ) (s : sender.State) (id : ℕ) (got : Bool) → s.stream ≡ n → SenderActs n (sender.answered s id got)
-sender_answered n s id true e = (e, e, refl)
-sender_answered n s id false e = (e, tt, refl)
+sender_cleaning_up : (n : ℕ) (s : sender.SenderState) (id : ℕ) (got : Bool) → s.stream ≡ n → SenderActs n (sender.cleaning_up s id got)
+sender_cleaning_up n s id true e = (e, e, refl)
+sender_cleaning_up n s id false e = (e, tt, refl)
 
-sender_hears_ack : (s : sender.State) (mode : SenderMode) (id : ℕ) (got : Bool) → SenderActs s.stream (sender.ack s mode id got)
-sender_hears_ack s sending.Down id got = (refl, tt, refl)
-sender_hears_ack s (sending.Quiet b) id got = sender_answered s.stream s id got refl
-sender_hears_ack s (sending.NeedId asked c) id got = sender_answered s.stream s id got refl
-sender_hears_ack s (sending.Send under c) id got = sender_acts_either s.stream _ _ _ (sender_answered s.stream (record s { mode = sending.Quiet got }) id got refl) (sender_answered s.stream s id got refl)
+sender_acked : (s : sender.SenderState) (mode : SenderMode) (id : ℕ) (got : Bool) → SenderActs s.stream (sender.ack s mode id got)
+sender_acked s sending.Down id got = (refl, tt, refl)
+sender_acked s (sending.Quiet b) id got = sender_cleaning_up s.stream s id got refl
+sender_acked s (sending.NeedId asked c) id got = sender_cleaning_up s.stream s id got refl
+sender_acked s (sending.Send under c) id got = sender_acts_either s.stream _ _ _ (sender_cleaning_up s.stream (record s { mode = sending.Quiet got }) id got refl) (sender_cleaning_up s.stream s id got refl)
 
-sender_deliver : (s : sender.State) (body : OwnedBody) → SenderActs s.stream (sender.deliver s body)
+sender_deliver : (s : sender.SenderState) (body : OwnedBody) → SenderActs s.stream (sender.deliver s body)
 sender_deliver s (packet.NeedUid jd) = (refl, tt, refl)
 sender_deliver s (packet.Accept jd id) = sender_accept s s.mode jd id
 sender_deliver s (packet.Send id m) = (refl, tt, refl)
-sender_deliver s (packet.Ack id got) = sender_hears_ack s s.mode id got
+sender_deliver s (packet.Ack id got) = sender_acked s s.mode id got
 sender_deliver s (packet.Cleanup id) = (refl, tt, refl)
 
-sender_recover : (s : sender.State) (mode : SenderMode) → SenderActs s.stream (sender.recover s mode)
+sender_recover : (s : sender.SenderState) (mode : SenderMode) → SenderActs s.stream (sender.recover s mode)
 sender_recover s sending.Down = (refl, tt, refl)
 sender_recover s (sending.Quiet got) = (refl, tt, refl)
 sender_recover s (sending.NeedId jd c) = (refl, tt, refl)
 sender_recover s (sending.Send id c) = (refl, tt, refl)
 
-sender_row : (s : sender.State) (a : Act) → SenderBears s.stream (sender.row s a)
+sender_row : (s : sender.SenderState) (a : Act) → SenderBears s.stream (sender.row s a)
 sender_row s (act.Put m) = sender_put s s.mode m
 sender_row s act.Get = (refl, tt)
 sender_row s act.Ack = sender_ack s s.mode s.waiting
@@ -109,70 +109,70 @@ sender_row s (act.Deliver p word) = let acts = sender_deliver s p.body in (acts.
 sender_row s act.Crash = (refl, tt)
 sender_row s act.Recover = let acts = sender_recover s s.mode in (acts.0, acts.1)
 
-abbrev ReceiverBears : ℕ → Row receiver.State → Type 0
+abbrev ReceiverBears : ℕ → Row receiver.ReceiverState → Type 0
 ReceiverBears n r = (r.state.stream ≡ n) × IfSome r.emitted (λ p. p.stream ≡ n)
 
-abbrev ReceiverActs : ℕ → Row receiver.State → Type 0
+abbrev ReceiverActs : ℕ → Row receiver.ReceiverState → Type 0
 ReceiverActs n r = (r.state.stream ≡ n) × IfSome r.emitted (λ p. p.stream ≡ n) × (r.reply ≡ Some Done)
 
-receiver_acts_either : (n : ℕ) (b : Bool) (r q : Row receiver.State) → ReceiverActs n r → ReceiverActs n q → ReceiverActs n (if b then r else q)
+receiver_acts_either : (n : ℕ) (b : Bool) (r q : Row receiver.ReceiverState) → ReceiverActs n r → ReceiverActs n q → ReceiverActs n (if b then r else q)
 receiver_acts_either n true r q x y = x
 receiver_acts_either n false r q x y = y
 
-receiver_needuid : (s : receiver.State) (mode : ReceiverMode) (jd word : ℕ) → ReceiverActs s.stream (receiver.needuid s mode jd word)
+receiver_needuid : (s : receiver.ReceiverState) (mode : ReceiverMode) (jd word : ℕ) → ReceiverActs s.stream (receiver.needuid s mode jd word)
 receiver_needuid s receiving.Idle jd word = (refl, refl, refl)
 receiver_needuid s (receiving.Accept asked id) jd word = receiver_acts_either s.stream _ _ _ (refl, refl, refl) (refl, tt, refl)
 receiver_needuid s (receiving.Rcvd id m) jd word = (refl, tt, refl)
 receiver_needuid s (receiving.Ack id) jd word = (refl, tt, refl)
 receiver_needuid s receiving.Down jd word = (refl, tt, refl)
 
-receiver_send : (s : receiver.State) (mode : ReceiverMode) (id : ℕ) (m : List ℕ) → ReceiverActs s.stream (receiver.send s mode id m)
+receiver_send : (s : receiver.ReceiverState) (mode : ReceiverMode) (id : ℕ) (m : List ℕ) → ReceiverActs s.stream (receiver.send s mode id m)
 receiver_send s receiving.Idle id m = (refl, refl, refl)
-receiver_send s (receiving.Accept jd offered) id m = receiver_acts_either s.stream _ _ _ (refl, tt, refl) (refl, refl, refl)
+receiver_send s (receiving.Accept jd accepted) id m = receiver_acts_either s.stream _ _ _ (refl, tt, refl) (refl, refl, refl)
 receiver_send s (receiving.Rcvd under held) id m = receiver_acts_either s.stream _ _ _ (refl, tt, refl) (refl, refl, refl)
 receiver_send s (receiving.Ack under) id m = (refl, refl, refl)
 receiver_send s receiving.Down id m = (refl, tt, refl)
 
-same_number : (n : ℕ) (b : Bool) (s t : receiver.State) → s.stream ≡ n → t.stream ≡ n → (if b then s else t).stream ≡ n
+same_number : (n : ℕ) (b : Bool) (s t : receiver.ReceiverState) → s.stream ≡ n → t.stream ≡ n → (if b then s else t).stream ≡ n
 same_number n true s t p q = p
 same_number n false s t p q = q
 
-receiver_cleanup : (s : receiver.State) (mode : ReceiverMode) (id : ℕ) → ReceiverActs s.stream (receiver.cleanup s mode id)
+receiver_cleanup : (s : receiver.ReceiverState) (mode : ReceiverMode) (id : ℕ) → ReceiverActs s.stream (receiver.cleanup s mode id)
 receiver_cleanup s receiving.Idle id = (refl, tt, refl)
-receiver_cleanup s (receiving.Accept jd offered) id = (same_number s.stream _ _ _ refl refl, tt, refl)
+receiver_cleanup s (receiving.Accept jd accepted) id = (same_number s.stream _ _ _ refl refl, tt, refl)
 receiver_cleanup s (receiving.Rcvd under m) id = (refl, tt, refl)
 receiver_cleanup s (receiving.Ack under) id = (same_number s.stream _ _ _ refl refl, tt, refl)
 receiver_cleanup s receiving.Down id = (refl, tt, refl)
 
-receiver_deliver : (s : receiver.State) (body : OwnedBody) (word : ℕ) → ReceiverActs s.stream (receiver.deliver s body word)
+receiver_deliver : (s : receiver.ReceiverState) (body : OwnedBody) (word : ℕ) → ReceiverActs s.stream (receiver.deliver s body word)
 receiver_deliver s (packet.NeedUid jd) word = receiver_needuid s s.mode jd word
 receiver_deliver s (packet.Accept jd id) word = (refl, tt, refl)
 receiver_deliver s (packet.Send id m) word = receiver_send s s.mode id m
 receiver_deliver s (packet.Ack id got) word = (refl, tt, refl)
 receiver_deliver s (packet.Cleanup id) word = receiver_cleanup s s.mode id
 
-receiver_get : (s : receiver.State) (mode : ReceiverMode) → ReceiverBears s.stream (receiver.get s mode)
+receiver_get : (s : receiver.ReceiverState) (mode : ReceiverMode) → ReceiverBears s.stream (receiver.get s mode)
 receiver_get s receiving.Idle = (refl, tt)
 receiver_get s (receiving.Accept jd id) = (refl, tt)
 receiver_get s (receiving.Rcvd id m) = (refl, tt)
 receiver_get s (receiving.Ack id) = (refl, tt)
 receiver_get s receiving.Down = (refl, tt)
 
-receiver_resend : (s : receiver.State) (mode : ReceiverMode) → ReceiverActs s.stream (receiver.resend s mode)
+receiver_resend : (s : receiver.ReceiverState) (mode : ReceiverMode) → ReceiverActs s.stream (receiver.resend s mode)
 receiver_resend s receiving.Idle = (refl, tt, refl)
 receiver_resend s (receiving.Accept jd id) = (refl, refl, refl)
 receiver_resend s (receiving.Rcvd id m) = (refl, tt, refl)
 receiver_resend s (receiving.Ack id) = (refl, refl, refl)
 receiver_resend s receiving.Down = (refl, tt, refl)
 
-receiver_recover : (s : receiver.State) (mode : ReceiverMode) → ReceiverActs s.stream (receiver.recover s mode)
+receiver_recover : (s : receiver.ReceiverState) (mode : ReceiverMode) → ReceiverActs s.stream (receiver.recover s mode)
 receiver_recover s receiving.Idle = (refl, tt, refl)
 receiver_recover s (receiving.Accept jd id) = (refl, tt, refl)
 receiver_recover s (receiving.Rcvd id m) = (refl, tt, refl)
 receiver_recover s (receiving.Ack id) = (refl, tt, refl)
 receiver_recover s receiving.Down = (refl, tt, refl)
 
-receiver_row : (s : receiver.State) (a : Act) → ReceiverBears s.stream (receiver.row s a)
+receiver_row : (s : receiver.ReceiverState) (a : Act) → ReceiverBears s.stream (receiver.row s a)
 receiver_row s (act.Put m) = (refl, tt)
 receiver_row s act.Get = receiver_get s s.mode
 receiver_row s act.Ack = (refl, tt)
@@ -182,7 +182,7 @@ receiver_row s (act.Deliver p word) = let acts = receiver_deliver s p.body word 
 receiver_row s act.Crash = (refl, tt)
 receiver_row s act.Recover = let acts = receiver_recover s s.mode in (acts.0, acts.1)
 
--- what the host does to a side, it is told that it was done
+-- each act of the host has the reply Done
 pub start_is_done : (s : Stream) (word : ℕ) → reply_of s Sender (act.Start word) ≡ Some Done
 start_is_done s word = (sender_start s.sender.state s.sender.state.mode s.sender.state.waiting word).2
 

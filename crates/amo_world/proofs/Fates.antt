@@ -1,4 +1,4 @@
--- Lists of fates: joined, cut at an entry, and what they keep.
+-- Backward simulation, lists of fates: joined, cut at an entry, and what they keep.
 use Rattle.std.proofs.Common.{◌≡◌, ℕ, Bool, true, false, ◌||◌, List, [], ◌∷◌, ◌++◌, length, refl, sym, ◌∙◌, ap, remove}
 use Rattle.amo_world.specs.Doubt.{Entry, entry}
 use Rattle.amo_world.specs.Resolution.{Fate, entries_of, messages_kept, KeepsUndoubted, keeps_last}
@@ -83,10 +83,13 @@ pub record Cut (fates : List Fate) (before : List Entry) (e : Entry) (later : Li
   pub of_rest : entries_of rest ≡ later
 
 -- fates can be cut at each of their entries
-pub cut_fates : (fates : List Fate) (before : List Entry) (e : Entry) (later : List Entry) → entries_of fates ≡ before ++ e ∷ later → Cut fates before e later
-cut_fates fates before e later of = let parts = joined_fates fates before (e ∷ later) of in by parts.first parts.then parts.all parts.of_first parts.of_then
+pub cut_fates : (fates : List Fate) (before : List Entry) (e : Entry) (later : List Entry) → entries_of fates ≡ before ++ e ∷ later
+    → Cut fates before e later
+cut_fates fates before e later of =
+    let parts = joined_fates fates before (e ∷ later) of in by parts.first parts.then parts.all parts.of_first parts.of_then
   where
-    by : (first more : List Fate) → fates ≡ first ++ more → entries_of first ≡ before → entries_of more ≡ e ∷ later → Cut fates before e later
+    by : (first more : List Fate) → fates ≡ first ++ more → entries_of first ≡ before → entries_of more ≡ e ∷ later
+        → Cut fates before e later
     by first [] all of_first of_more = absurd cc
     by first (f ∷ rest) all of_first of_more =
         let same : f.entry ≡ e = cc in
@@ -116,8 +119,10 @@ keeps_last-remarked first e doubted kept rest =
     by (f ∷ rest) = refl
 
 -- where one fate takes the place of another, what is in no doubt is kept as before
-pub KeepsUndoubted-replaced : (first : List Fate) (f g : Fate) (rest : List Fate) → g.kept || g.entry.doubted ≡ true → KeepsUndoubted (first ++ f ∷ rest) → KeepsUndoubted (first ++ g ∷ rest)
-KeepsUndoubted-replaced first f g rest fits all = let parts = KeepsUndoubted-split first (f ∷ rest) all in KeepsUndoubted-append first (g ∷ rest) parts.0 (fits, parts.1.1)
+pub KeepsUndoubted-replaced : (first : List Fate) (f g : Fate) (rest : List Fate) → g.kept || g.entry.doubted ≡ true
+    → KeepsUndoubted (first ++ f ∷ rest) → KeepsUndoubted (first ++ g ∷ rest)
+KeepsUndoubted-replaced first f g rest fits all =
+    let parts = KeepsUndoubted-split first (f ∷ rest) all in KeepsUndoubted-append first (g ∷ rest) parts.0 (fits, parts.1.1)
 
 -- a message taken out of where it stands leaves those before it and those after it
 pub remove-middle : {X : Type 0} (xs : List X) (x : X) (ys : List X) → remove (xs ++ x ∷ ys) (length xs) ≡ xs ++ ys

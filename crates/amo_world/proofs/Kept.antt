@@ -1,278 +1,212 @@
--- What a side keeps, after an act.
+-- What is kept of a stream's sides, after an act.
 use Rattle.std.proofs.Common.{◌≡◌, ℕ, Bool, true, false, cond, Option, None, Some, List, [], ◌∷◌, ◌++◌, length, slice_get, refl, sym, ◌∙◌, ap, subst, inl, inr, ◌⊎◌}
-use Rattle.std.specs.Prelude.{◌↔◌, is_some, IsTrue, IsSome, Result, Ok, Err, IfOk, OnErr}
+use Rattle.std.specs.Prelude.{◌↔◌, IsTrue}
 use Rattle.std.specs.List.{Contains}
-use Rattle.std.specs.Option.{option_to_list, option_map}
-use Rattle.std.specs.Ordering.{nat_cmp}
+use Rattle.std.specs.Option.{option_to_list, option_map, unwrap_or}
 use Rattle.std.specs.Cmp.{Equal-is}
-use Rattle.std.proofs.lemmas.Cmp.{tied_itself, nat_cmp_total}
+use Rattle.std.proofs.lemmas.Cmp.{tied_itself}
 use Rattle.std.proofs.lemmas.List.{append-nil}
-use Rattle.std.proofs.lemmas.Map.Lookups.{exact_unsigned}
 use Rattle.std.specs.BTreeMap.{get, is_at}
-use Rattle.std.specs.BTreeSet.{contains}
 use Rattle.amo_object.specs.declared.step.End.{End}
-use Rattle.amo_object.specs.declared.step.End.TheVariants.{Sender, Receiver}
 use Rattle.amo_packet.specs.declared.packet.OwnedPacket.{OwnedPacket}
-use Rattle.amo_packet.specs.contracts.packet.OwnedPacketOrd.TheImpl.Laws.{total-law}
+use Rattle.amo_packet.specs.contracts.packet.OwnedPacketOrd.TheImpl as packet_order
+use Rattle.amo_packet.specs.contracts.packet.OwnedPacketOrd.TheImpl.Laws as packet_laws
 use Rattle.amo_packet.proofs.Ties.{packets_tie}
 use Rattle.amo_core.specs.declared.act.Act.{Act}
 use Rattle.amo_core.specs.declared.automaton.Automaton.{Automaton}
-use Rattle.amo_core.specs.declared.automaton.Automaton.TheVariants as automaton
 use Rattle.amo_core.specs.Automaton.{row, used_word}
-use Rattle.amo_core.specs.Sender as sender
-use Rattle.amo_core.specs.Receiver as receiver
 use Rattle.amo_world.specs.declared.emission.Emission.{Emission}
 use Rattle.amo_world.specs.declared.emission.Emitted.{Emitted}
 use Rattle.amo_world.specs.declared.emission.Emitted.TheVariants.{Nothing, Again, First}
-use Rattle.amo_world.specs.declared.side.Side.{Side}
-use Rattle.amo_world.specs.declared.sides.Sides.{Sides}
-use Rattle.amo_world.specs.Stream.{Stream, initial, after, emission_of as emitted_at}
-use Rattle.amo_world.specs.Sides.{KeepsBoth}
-use Rattle.amo_world.specs.Emission.{first_of, first_packet, IsTold}
-use Rattle.amo_world.specs.Side.{order, Keeps, IsEmission, with_place, with_word}
-use Rattle.amo_world.proofs.Lists.{contains_cases, contains_first, contains_other, slice_get-longer, slice_get-end}
+use Rattle.amo_world.specs.declared.key.Key.{Key}
+use Rattle.amo_world.specs.declared.kept_side.KeptSide.{KeptSide}
+use Rattle.amo_world.specs.Key.{key_of, order}
+use Rattle.amo_world.specs.Log.{first_of}
+use Rattle.amo_world.specs.KeptSide.{Represents, place_at, with_place, IsIndexed, IsPlaced, IsSame, IsEmission, IsNoted}
+use Rattle.amo_world.proofs.Lists.{some_injective, contains_cases, contains_first, contains_other, slice_get-longer, slice_get-end}
+use Rattle.amo_world.proofs.Keys.{same_key, key_at_itself}
 
 abbrev pub emission_by : End → OwnedPacket → Emission
 emission_by side packet = record { side = side; packet = packet }
 
--- the same index, and the same words
-pub Keeps-same : (k n : Side) (side : End) (stored : List Emission) (automaton : Automaton) (emitted : List OwnedPacket) (words : List ℕ)
-    → n.automaton ≡ k.automaton → ((q : OwnedPacket) → get order n.places q ≡ get order k.places q) → ((w : ℕ) → contains nat_cmp n.words w ≡ contains nat_cmp k.words w)
-    → Keeps k side stored automaton emitted words → Keeps n side stored automaton emitted words
-Keeps-same k n side stored automaton emitted words state places used keeps = record {
-  state = state ∙ keeps.state;
-  indexed = λ p among. subst IsSome (sym (places p)) (keeps.indexed p among);
-  placed = λ p place found. keeps.placed p place (sym (places p) ∙ found);
-  used = λ w. ((λ is. (keeps.used w).0 (sym (used w) ∙ is)), λ among. used w ∙ (keeps.used w).1 among);
+-- a packet that is found was emitted, and one that was emitted is found
+
+pub same_packet : (p q : OwnedPacket) → is_at (packet_order.cmp-value.it p) q ≡ true → p ≡ q
+same_packet p q e = packets_tie p q ((Equal-is (packet_order.cmp-value.it p q)).0 e)
+
+packet_at_itself : (p : OwnedPacket) → is_at (packet_order.cmp-value.it p) p ≡ true
+packet_at_itself p = (Equal-is (packet_order.cmp-value.it p p)).1 (tied_itself packet_laws.total-law p)
+
+one_emission : (x y : Emission) → Some x ≡ Some y → x.packet ≡ y.packet
+one_emission x y e = ap (λ (z : Emission). z.packet) (some_injective x y e)
+
+module _ (k : KeptSide) (side : End) (stored : List Emission) (a : Automaton) (emitted : List OwnedPacket) (keeps : Represents k side stored a emitted) where
+  pub not_found : (p : OwnedPacket) → place_at k (key_of p.body) ≡ None → Contains emitted p → ⊥
+  not_found p absent c = stands (keeps.indexed p c)
+    where
+      stands : IsIndexed k side stored p → ⊥
+      stands (place, is, there) = some_is_none (sym is ∙ absent)
+        where
+          some_is_none : Some place ≡ None → ⊥
+          some_is_none e = cc
+
+  pub found : (p : OwnedPacket) (place : ℕ) (x : Emission) (r : Bool) → place_at k (key_of p.body) ≡ Some place → slice_get stored place ≡ Some x
+      → r ≡ is_at (packet_order.cmp-value.it x.packet) p → IsTrue r ↔ Contains emitted p
+  found p place x r at is e = (λ yes. forward (keeps.placed (key_of p.body) place at) (same_packet x.packet p (sym e ∙ yes)), λ c. e ∙ backward (keeps.indexed p c))
+    where
+      forward : IsPlaced side stored emitted (key_of p.body) place → x.packet ≡ p → Contains emitted p
+      forward (q, c, key, there) same = subst (Contains emitted) (one_emission (emission_by side q) x (sym there ∙ is) ∙ same) c
+
+      backward : IsIndexed k side stored p → is_at (packet_order.cmp-value.it x.packet) p ≡ true
+      backward (other_place, at_other, there) =
+          let one = some_injective other_place place (sym at_other ∙ at) in
+          let same = one_emission x (emission_by side p) (sym is ∙ ap (slice_get stored) (sym one) ∙ there) in
+          subst (λ (q : OwnedPacket). is_at (packet_order.cmp-value.it q) p ≡ true) (sym same) (packet_at_itself p)
+
+  -- what stands at a place under a key
+  pub nothing_stands : (p : OwnedPacket) (place : ℕ) → place_at k (key_of p.body) ≡ Some place → slice_get stored place ≡ None → ⊥
+  nothing_stands p place at none = stands (keeps.placed (key_of p.body) place at)
+    where
+      stands : IsPlaced side stored emitted (key_of p.body) place → ⊥
+      stands (q, c, key, there) = some_is_none (sym there ∙ none)
+        where
+          some_is_none : Some (emission_by side q) ≡ None → ⊥
+          some_is_none e = cc
+
+-- the same index
+pub same_side : (was now : KeptSide) (side : End) (stored : List Emission) (a : Automaton) (emitted : List OwnedPacket)
+    → IsSame was now → Represents was side stored a emitted → Represents now side stored a emitted
+same_side was now side stored a emitted same keeps = record {
+  state = same.state ∙ keeps.state;
+  indexed = λ p c. let (place, at, is) = keeps.indexed p c in (place, same.places (key_of p.body) ∙ at, is);
+  placed = λ key place at. keeps.placed key place (sym (same.places key) ∙ at);
 }
 
 -- a longer store
-pub Keeps-longer : (k : Side) (side : End) (stored more : List Emission) (automaton : Automaton) (emitted : List OwnedPacket) (words : List ℕ)
-    → Keeps k side stored automaton emitted words → Keeps k side (stored ++ more) automaton emitted words
-Keeps-longer k side stored more automaton emitted words keeps = record {
+pub longer_store : (k : KeptSide) (side : End) (stored more : List Emission) (a : Automaton) (emitted : List OwnedPacket)
+    → Represents k side stored a emitted → Represents k side (stored ++ more) a emitted
+longer_store k side stored more a emitted keeps = record {
   state = keeps.state;
-  indexed = keeps.indexed;
-  placed = λ p place found. let known = keeps.placed p place found in (known.0, slice_get-longer stored more place _ known.1);
-  used = keeps.used;
+  indexed = λ p c. let (place, at, is) = keeps.indexed p c in (place, at, slice_get-longer stored more place _ is);
+  placed = λ key place at. let (p, c, key_is, is) = keeps.placed key place at in (p, c, key_is, slice_get-longer stored more place _ is);
 }
 
-same_packet : (p q : OwnedPacket) → is_at (order p) q ≡ true → p ≡ q
-same_packet p q e = packets_tie p q ((Equal-is (order p q)).0 e)
-
-at_itself : (p : OwnedPacket) → is_at (order p) p ≡ true
-at_itself p = (Equal-is (order p p)).1 (tied_itself total-law p)
-
-same_word : (v w : ℕ) → is_at (nat_cmp v) w ≡ true → v ≡ w
-same_word v w e = exact_unsigned v w ((Equal-is (nat_cmp v w)).0 e)
-
-word_at_itself : (w : ℕ) → is_at (nat_cmp w) w ≡ true
-word_at_itself w = (Equal-is (nat_cmp w w)).1 (tied_itself nat_cmp_total w)
-
-either : (b u : Bool) → cond b true u ≡ true → (b ≡ true) ⊎ (u ≡ true)
-either true u e = inl refl
-either false u e = inr e
-
-left : (b u : Bool) → b ≡ true → cond b true u ≡ true
-left true u e = refl
-left false u e = cc
-
-right : (b u : Bool) → u ≡ true → cond b true u ≡ true
-right true u e = refl
-right false u e = e
-
--- one word more was used up
-used_more : (used : ℕ → Bool) (words : List ℕ) (word : Option ℕ) → ((w : ℕ) → IsTrue (used w) ↔ Contains words w)
-    → (w : ℕ) → IsTrue (with_word used word w) ↔ Contains (option_to_list word ++ words) w
-used_more used words None known w = known w
-used_more used words (Some v) known w = (forward, backward)
-  where
-    told : (is_at (nat_cmp v) w ≡ true) ⊎ (used w ≡ true) → Contains (v ∷ words) w
-    told (inl here) = subst (Contains (v ∷ words)) (same_word v w here) (contains_first v words)
-    told (inr there) = contains_other v words w ((known w).0 there)
-
-    forward : IsTrue (with_word used (Some v) w) → Contains (v ∷ words) w
-    forward is = told (either (is_at (nat_cmp v) w) (used w) is)
-
-    among : (v ≡ w) ⊎ Contains words w → IsTrue (with_word used (Some v) w)
-    among (inl here) = left (is_at (nat_cmp v) w) (used w) (subst (λ x. is_at (nat_cmp v) x ≡ true) here (word_at_itself v))
-    among (inr there) = right (is_at (nat_cmp v) w) (used w) ((known w).1 there)
-
-    backward : Contains (v ∷ words) w → IsTrue (with_word used (Some v) w)
-    backward c = among (contains_cases v words w c)
-
--- a packet more in the index
-found : (b : Bool) (place next : ℕ) (old : Option ℕ) → cond b (Some next) old ≡ Some place → ((b ≡ true) × (next ≡ place)) ⊎ (old ≡ Some place)
-found true place next old e = inl (refl, cc)
-found false place next old e = inr e
-
-some_either : (b : Bool) (next : ℕ) (old : Option ℕ) → (b ≡ true) ⊎ IsSome old → IsSome (cond b (Some next) old)
-some_either true next old one = refl
-some_either false next old (inl e) = absurd cc
-some_either false next old (inr some) = some
-
--- after an act that emits nothing
-after_nothing : (k n : Side) (side : End) (stored : List Emission) (automaton : Automaton) (emitted : List OwnedPacket) (words : List ℕ) (word : Option ℕ)
-    → n.automaton ≡ automaton → ((q : OwnedPacket) → get order n.places q ≡ get order k.places q)
-    → ((w : ℕ) → contains nat_cmp n.words w ≡ with_word (contains nat_cmp k.words) word w)
-    → Keeps k side stored k.automaton emitted words → Keeps n side stored automaton emitted (option_to_list word ++ words)
-after_nothing k n side stored automaton emitted words word state places used keeps = record {
-  state = state;
-  indexed = λ p among. subst IsSome (sym (places p)) (keeps.indexed p among);
-  placed = λ p place e. keeps.placed p place (sym (places p) ∙ e);
-  used = λ w. let known = used_more (contains nat_cmp k.words) words word keeps.used w in ((λ is. known.0 (sym (used w) ∙ is)), λ among. used w ∙ known.1 among);
-}
-
--- after an act that emits a packet again
-after_again : (k n : Side) (side : End) (stored : List Emission) (automaton : Automaton) (emitted : List OwnedPacket) (words : List ℕ) (word : Option ℕ) (packet : OwnedPacket) (at : ℕ)
-    → n.automaton ≡ automaton → get order k.places packet ≡ Some at → ((q : OwnedPacket) → get order n.places q ≡ get order k.places q)
-    → ((w : ℕ) → contains nat_cmp n.words w ≡ with_word (contains nat_cmp k.words) word w)
-    → Keeps k side stored k.automaton emitted words → Keeps n side stored automaton (packet ∷ emitted) (option_to_list word ++ words)
-after_again k n side stored automaton emitted words word packet at state known places used keeps = record {
-  state = state;
-  indexed = λ p among. subst IsSome (sym (places p)) (again p (contains_cases packet emitted p among));
-  placed = λ p place e. let stands = keeps.placed p place (sym (places p) ∙ e) in (contains_other packet emitted p stands.0, stands.1);
-  used = λ w. let told = used_more (contains nat_cmp k.words) words word keeps.used w in ((λ is. told.0 (sym (used w) ∙ is)), λ among. used w ∙ told.1 among);
+-- after a packet that was emitted before
+emitted_again : (k : KeptSide) (side : End) (stored : List Emission) (a : Automaton) (emitted : List OwnedPacket) (packet : OwnedPacket)
+    → Contains emitted packet → Represents k side stored a emitted → Represents k side stored a (packet ∷ emitted)
+emitted_again k side stored a emitted packet before keeps = record {
+  state = keeps.state;
+  indexed = λ p c. indexed p (contains_cases packet emitted p c);
+  placed = λ key place at. let (p, c, key_is, is) = keeps.placed key place at in (p, contains_other packet emitted p c, key_is, is);
 }
   where
-    again : (p : OwnedPacket) → (packet ≡ p) ⊎ Contains emitted p → IsSome (get order k.places p)
-    again p (inl here) = subst (λ (x : OwnedPacket). IsSome (get order k.places x)) here (subst IsSome (sym known) refl)
-    again p (inr there) = keeps.indexed p there
+    indexed : (p : OwnedPacket) → (packet ≡ p) ⊎ Contains emitted p → IsIndexed k side stored p
+    indexed p (inl here) = subst (IsIndexed k side stored) here (keeps.indexed packet before)
+    indexed p (inr there) = keeps.indexed p there
 
--- after an act that emits a packet for the first time, which goes to the next place
-after_first : (k n : Side) (side : End) (stored : List Emission) (automaton : Automaton) (emitted : List OwnedPacket) (words : List ℕ) (word : Option ℕ) (packet : OwnedPacket) (next : ℕ)
-    → n.automaton ≡ automaton → next ≡ length stored → ((q : OwnedPacket) → get order n.places q ≡ with_place (get order k.places) (Some packet) next q)
-    → ((w : ℕ) → contains nat_cmp n.words w ≡ with_word (contains nat_cmp k.words) word w)
-    → Keeps k side stored k.automaton emitted words → Keeps n side (stored ++ emission_by side packet ∷ []) automaton (packet ∷ emitted) (option_to_list word ++ words)
-after_first k n side stored automaton emitted words word packet next state end places used keeps = record {
-  state = state;
-  indexed = λ p among. subst IsSome (sym (places p)) (some_either (is_at (order packet) p) next (get order k.places p) (here_or_there p (contains_cases packet emitted p among)));
-  placed = λ p place e. stands p place (found (is_at (order packet) p) place next (get order k.places p) (sym (places p) ∙ e));
-  used = λ w. let told = used_more (contains nat_cmp k.words) words word keeps.used w in ((λ is. told.0 (sym (used w) ∙ is)), λ among. used w ∙ told.1 among);
-}
-  where
-    here_or_there : (p : OwnedPacket) → (packet ≡ p) ⊎ Contains emitted p → (is_at (order packet) p ≡ true) ⊎ IsSome (get order k.places p)
-    here_or_there p (inl here) = inl (subst (λ (x : OwnedPacket). is_at (order packet) x ≡ true) here (at_itself packet))
-    here_or_there p (inr there) = inr (keeps.indexed p there)
+-- after a packet that was not emitted before, which goes to the next place
+module _ (was now : KeptSide) (side : End) (stored : List Emission) (a : Automaton) (emitted : List OwnedPacket) (packet : OwnedPacket)
+    (state : now.automaton ≡ was.automaton)
+    (put : (key : Key) → place_at now key ≡ with_place (place_at was) (key_of packet.body) (length stored) key)
+    (absent : place_at was (key_of packet.body) ≡ None)
+    (keeps : Represents was side stored a emitted) where
+  abbrev longer : List Emission
+  longer = stored ++ emission_by side packet ∷ []
 
-    at_end : (p : OwnedPacket) (place : ℕ) → packet ≡ p → next ≡ place → Contains (packet ∷ emitted) p × (slice_get (stored ++ emission_by side packet ∷ []) place ≡ Some (emission_by side p))
-    at_end p place same is = (
-      subst (Contains (packet ∷ emitted)) same (contains_first packet emitted),
-      ap (slice_get (stored ++ emission_by side packet ∷ [])) (sym is ∙ end) ∙ slice_get-end stored (emission_by side packet) ∙ ap (λ (x : OwnedPacket). Some (emission_by side x)) same,
-    )
+  at_key : place_at now (key_of packet.body) ≡ Some (length stored)
+  at_key =
+      put (key_of packet.body)
+      ∙ ap (λ (b : Bool). cond b (Some (unwrap_or (place_at was (key_of packet.body)) (length stored))) (place_at was (key_of packet.body))) (key_at_itself (key_of packet.body))
+      ∙ ap (λ (o : Option ℕ). Some (unwrap_or o (length stored))) absent
 
-    stands : (p : OwnedPacket) (place : ℕ) → ((is_at (order packet) p ≡ true) × (next ≡ place)) ⊎ (get order k.places p ≡ Some place)
-        → Contains (packet ∷ emitted) p × (slice_get (stored ++ emission_by side packet ∷ []) place ≡ Some (emission_by side p))
-    stands p place (inl (here, is)) = at_end p place (same_packet packet p here) is
-    stands p place (inr there) = let known = keeps.placed p place there in (contains_other packet emitted p known.0, slice_get-longer stored (emission_by side packet ∷ []) place _ known.1)
+  -- at another key
+  elsewhere : (key : Key) (place : ℕ) → (key_of packet.body ≡ key → ⊥) → place_at was key ≡ Some place → place_at now key ≡ Some place
+  elsewhere key place apart at = put key ∙ by_test (is_at (order (key_of packet.body)) key) refl
+    where
+      by_test : (b : Bool) → is_at (order (key_of packet.body)) key ≡ b → cond (is_at (order (key_of packet.body)) key) (Some (unwrap_or (place_at was (key_of packet.body)) (length stored))) (place_at was key) ≡ Some place
+      by_test true is = absurd (apart (same_key (key_of packet.body) key is))
+      by_test false is = ap (λ (b : Bool). cond b (Some (unwrap_or (place_at was (key_of packet.body)) (length stored))) (place_at was key)) is ∙ at
+
+  indexed_now : (p : OwnedPacket) → (packet ≡ p) ⊎ Contains emitted p → IsIndexed now side longer p
+  indexed_now p (inl here) = subst (IsIndexed now side longer) here (length stored, at_key, slice_get-end stored (emission_by side packet))
+  indexed_now p (inr there) = moved (keeps.indexed p there)
+    where
+      moved : IsIndexed was side stored p → IsIndexed now side longer p
+      moved (place, at, is) = (
+        place,
+        elsewhere (key_of p.body) place (λ same. not_found was side stored a emitted keeps p (ap (place_at was) (sym same) ∙ absent) there) at,
+        slice_get-longer stored (emission_by side packet ∷ []) place _ is,
+      )
+
+  placed_now : (key : Key) (place : ℕ) (b : Bool) → is_at (order (key_of packet.body)) key ≡ b → place_at now key ≡ Some place → IsPlaced side longer (packet ∷ emitted) key place
+  placed_now key place true is at =
+      let same = same_key (key_of packet.body) key is in
+      let end = some_injective (length stored) place (sym at_key ∙ ap (place_at now) same ∙ at) in
+      (packet, contains_first packet emitted, same, ap (slice_get longer) (sym end) ∙ slice_get-end stored (emission_by side packet))
+  placed_now key place false is at =
+      moved (keeps.placed key place (sym (put key ∙ ap (λ (b : Bool). cond b (Some (unwrap_or (place_at was (key_of packet.body)) (length stored))) (place_at was key)) is) ∙ at))
+    where
+      moved : IsPlaced side stored emitted key place → IsPlaced side longer (packet ∷ emitted) key place
+      moved (p, c, key_is, there) = (p, contains_other packet emitted p c, key_is, slice_get-longer stored (emission_by side packet ∷ []) place _ there)
+
+  emitted_first : Represents now side longer a (packet ∷ emitted)
+  emitted_first = record {
+    state = state ∙ keeps.state;
+    indexed = λ p c. indexed_now p (contains_cases packet emitted p c);
+    placed = λ key place at. placed_now key place (is_at (order (key_of packet.body)) key) refl at;
+  }
+
+-- the emission is the packet that was emitted before under its key, if one was
+abbrev pub IsKnown : Option OwnedPacket → List OwnedPacket → Type 0
+IsKnown now emitted = (p q : OwnedPacket) → now ≡ Some p → Contains emitted q → key_of q.body ≡ key_of p.body → q ≡ p
 
 -- after any act
-pub Keeps-more : (k n : Side) (side : End) (stored : List Emission) (automaton : Automaton) (emitted : List OwnedPacket) (words : List ℕ) (word : Option ℕ) (now : Option OwnedPacket) (told : Emitted) (next : ℕ)
-    → IsEmission k now told → n.automaton ≡ automaton → next ≡ length stored
-    → ((q : OwnedPacket) → get order n.places q ≡ with_place (get order k.places) (first_packet told) next q)
-    → ((w : ℕ) → contains nat_cmp n.words w ≡ with_word (contains nat_cmp k.words) word w)
-    → Keeps k side stored k.automaton emitted words
-    → Keeps n side (stored ++ first_of side told) automaton (option_to_list now ++ emitted) (option_to_list word ++ words)
-Keeps-more k n side stored automaton emitted words word now Nothing next none state end places used keeps =
-    let kept = after_nothing k n side stored automaton emitted words word state places used keeps in
-    subst (λ (o : Option OwnedPacket). Keeps n side (stored ++ []) automaton (option_to_list o ++ emitted) (option_to_list word ++ words)) (sym none)
-    (subst (λ (s : List Emission). Keeps n side s automaton emitted (option_to_list word ++ words)) (sym (append-nil stored)) kept)
-Keeps-more k n side stored automaton emitted words word now (Again at) next (packet, is, known) state end places used keeps =
-    let kept = after_again k n side stored automaton emitted words word packet at state known places used keeps in
-    subst (λ (o : Option OwnedPacket). Keeps n side (stored ++ []) automaton (option_to_list o ++ emitted) (option_to_list word ++ words)) (sym is)
-    (subst (λ (s : List Emission). Keeps n side s automaton (packet ∷ emitted) (option_to_list word ++ words)) (sym (append-nil stored)) kept)
-Keeps-more k n side stored automaton emitted words word now (First packet) next (is, absent) state end places used keeps =
-    let kept = after_first k n side stored automaton emitted words word packet next state end places used keeps in
-    subst (λ (o : Option OwnedPacket). Keeps n side (stored ++ emission_by side packet ∷ []) automaton (option_to_list o ++ emitted) (option_to_list word ++ words)) (sym is) kept
+pub noted_side : (was now : KeptSide) (side : End) (stored : List Emission) (a : Automaton) (emitted : List OwnedPacket) (act : Act) (what : Emitted)
+    → IsEmission was act what → IsNoted was now (length stored) what → Represents was side stored a emitted
+    → (used_word was.automaton act ≡ None → IsKnown (row was.automaton act).emitted emitted)
+    → Represents now side (stored ++ first_of side what) a (option_to_list (row was.automaton act).emitted ++ emitted)
+noted_side was now side stored a emitted act Nothing none same keeps known =
+    subst (λ (o : Option OwnedPacket). Represents now side (stored ++ []) a (option_to_list o ++ emitted)) (sym none)
+    (subst (λ (s : List Emission). Represents now side s a emitted) (sym (append-nil stored)) (same_side was now side stored a emitted same keeps))
+noted_side was now side stored a emitted act (Again place) (p, is, at, no_word) same keeps known =
+    subst (λ (o : Option OwnedPacket). Represents now side (stored ++ []) a (option_to_list o ++ emitted)) (sym is)
+    (subst (λ (s : List Emission). Represents now side s a (p ∷ emitted)) (sym (append-nil stored))
+    (same_side was now side stored a (p ∷ emitted) same (emitted_again was side stored a emitted p (before (keeps.placed (key_of p.body) place at)) keeps)))
+  where
+    before : IsPlaced side stored emitted (key_of p.body) place → Contains emitted p
+    before (q, c, key, there) = subst (Contains emitted) (known no_word p q is c key) c
+noted_side was now side stored a emitted act (First p) (is, absent) (state, put) keeps known =
+    subst (λ (o : Option OwnedPacket). Represents now side (stored ++ emission_by side p ∷ []) a (option_to_list o ++ emitted)) (sym is)
+    (emitted_first was now side stored a emitted p state put absent keeps)
 
--- what is told is what is emitted
-pub told_from : (k : Side) (side : End) (stored : List Emission) (automaton : Automaton) (emitted : List OwnedPacket) (words : List ℕ) (now : Option OwnedPacket) (told : Emitted)
-    → IsEmission k now told → Keeps k side stored automaton emitted words → IsTold stored side told (option_map (emission_by side) now)
-told_from k side stored automaton emitted words now Nothing none keeps = ap (option_map (emission_by side)) none
-told_from k side stored automaton emitted words now (Again place) (packet, is, found) keeps = (emission_by side packet, ap (option_map (emission_by side)) is, (keeps.placed packet place found).1)
-told_from k side stored automaton emitted words now (First packet) (is, absent) keeps = ap (option_map (emission_by side)) is
+-- what was noted of an emission denotes it
+abbrev pub Denotes : List Emission → End → Emitted → Option Emission → Type 0
+Denotes stored side Nothing now = now ≡ None
+Denotes stored side (Again place) now = (x : Emission) × (now ≡ Some x) × (slice_get stored place ≡ Some x)
+Denotes stored side (First packet) now = now ≡ Some (emission_by side packet)
 
--- the automaton is the one that is kept
-itself : (k : Side) (side : End) (stored : List Emission) (automaton : Automaton) (emitted : List OwnedPacket) (words : List ℕ)
-    → Keeps k side stored automaton emitted words → Keeps k side stored k.automaton emitted words
-itself k side stored automaton emitted words keeps = record { state = refl; indexed = keeps.indexed; placed = keeps.placed; used = keeps.used }
+pub denoted_side : (was : KeptSide) (side : End) (stored : List Emission) (a : Automaton) (emitted : List OwnedPacket) (act : Act) (what : Emitted)
+    → IsEmission was act what → Represents was side stored a emitted → (used_word was.automaton act ≡ None → IsKnown (row was.automaton act).emitted emitted)
+    → Denotes stored side what (option_map (emission_by side) (row was.automaton act).emitted)
+denoted_side was side stored a emitted act Nothing none keeps known = ap (option_map (emission_by side)) none
+denoted_side was side stored a emitted act (Again place) (p, is, at, no_word) keeps known = stands (keeps.placed (key_of p.body) place at)
+  where
+    stands : IsPlaced side stored emitted (key_of p.body) place → (x : Emission) × (option_map (emission_by side) (row was.automaton act).emitted ≡ Some x) × (slice_get stored place ≡ Some x)
+    stands (q, c, key, there) = (
+      emission_by side p,
+      ap (option_map (emission_by side)) is,
+      there ∙ ap (λ (x : OwnedPacket). Some (emission_by side x)) (known no_word p q is c key),
+    )
+denoted_side was side stored a emitted act (First p) (is, absent) keeps known = ap (option_map (emission_by side)) is
 
--- what an act at a side does there, whatever was stored and kept
-abbrev pub MakesAt : Side → Side → ℕ → Act → Emitted → Type 0
-MakesAt was now next act told = (side : End) (stored : List Emission) (emitted : List OwnedPacket) (words : List ℕ)
-    → Keeps was side stored was.automaton emitted words → next ≡ length stored
-    → Keeps now side (stored ++ first_of side told) (row was.automaton act).state (option_to_list (row was.automaton act).emitted ++ emitted) (option_to_list (used_word was.automaton act) ++ words)
-
-made_at : (was now : Side) (next : ℕ) (act : Act) (told : Emitted) → MakesAt was now next act told
-    → (side : End) (stored : List Emission) (automaton : Automaton) (emitted : List OwnedPacket) (words : List ℕ) → Keeps was side stored automaton emitted words → next ≡ length stored
-    → Keeps now side (stored ++ first_of side told) (row automaton act).state (option_to_list (row automaton act).emitted ++ emitted) (option_to_list (used_word automaton act) ++ words)
-made_at was now next act told makes side stored automaton emitted words keeps end =
-    subst (λ (a : Automaton). Keeps now side (stored ++ first_of side told) (row a act).state (option_to_list (row a act).emitted ++ emitted) (option_to_list (used_word a act) ++ words))
-    keeps.state (makes side stored emitted words (itself was side stored automaton emitted words keeps) end)
-
-pub sender_makes : (k : Sides) (now : Side) (next : ℕ) (act : Act) (told : Emitted) → MakesAt k.sender now next act told
-    → (stored : List Emission) (s : Stream) → KeepsBoth k stored s → next ≡ length stored → KeepsBoth (record k { sender = now }) (stored ++ first_of Sender told) (after s Sender act)
-sender_makes k now next act told makes stored s both end Sender = made_at k.sender now next act told makes Sender stored _ _ _ (both Sender) end
-sender_makes k now next act told makes stored s both end Receiver = Keeps-longer k.receiver Receiver stored (first_of Sender told) _ _ _ (both Receiver)
-
-pub receiver_makes : (k : Sides) (now : Side) (next : ℕ) (act : Act) (told : Emitted) → MakesAt k.receiver now next act told
-    → (stored : List Emission) (s : Stream) → KeepsBoth k stored s → next ≡ length stored → KeepsBoth (record k { receiver = now }) (stored ++ first_of Receiver told) (after s Receiver act)
-receiver_makes k now next act told makes stored s both end Sender = Keeps-longer k.sender Sender stored (first_of Receiver told) _ _ _ (both Sender)
-receiver_makes k now next act told makes stored s both end Receiver = made_at k.receiver now next act told makes Receiver stored _ _ _ (both Receiver) end
-
--- what an act at a side tells
-abbrev pub TellsAt : Side → Act → Emitted → Type 0
-TellsAt was act told = (side : End) (stored : List Emission) (emitted : List OwnedPacket) (words : List ℕ) → Keeps was side stored was.automaton emitted words
-    → IsTold stored side told (option_map (emission_by side) (row was.automaton act).emitted)
-
-pub sender_tells : (k : Sides) (act : Act) (told : Emitted) → TellsAt k.sender act told
-    → (stored : List Emission) (s : Stream) → KeepsBoth k stored s → IsTold stored Sender told (option_map (emission_by Sender) (emitted_at s Sender act))
-sender_tells k act told tells stored s both =
-    let keeps = both Sender in
-    subst (λ (a : Automaton). IsTold stored Sender told (option_map (emission_by Sender) (row a act).emitted)) keeps.state (tells Sender stored _ _ (itself k.sender Sender stored _ _ _ keeps))
-
-pub receiver_tells : (k : Sides) (act : Act) (told : Emitted) → TellsAt k.receiver act told
-    → (stored : List Emission) (s : Stream) → KeepsBoth k stored s → IsTold stored Receiver told (option_map (emission_by Receiver) (emitted_at s Receiver act))
-receiver_tells k act told tells stored s both =
-    let keeps = both Receiver in
-    subst (λ (a : Automaton). IsTold stored Receiver told (option_map (emission_by Receiver) (row a act).emitted)) keeps.state (tells Receiver stored _ _ (itself k.receiver Receiver stored _ _ _ keeps))
-
--- where an act was refused
-abbrev pub StaysAt : Side → Side → Type 0
-StaysAt was now = (side : End) (stored : List Emission) (automaton : Automaton) (emitted : List OwnedPacket) (words : List ℕ)
-    → Keeps was side stored automaton emitted words → Keeps now side stored automaton emitted words
-
-pub sender_stays : (k : Sides) (now : Side) → StaysAt k.sender now → (stored : List Emission) (s : Stream) → KeepsBoth k stored s → KeepsBoth (record k { sender = now }) stored s
-sender_stays k now stays stored s both Sender = stays Sender stored _ _ _ (both Sender)
-sender_stays k now stays stored s both Receiver = both Receiver
-
-pub receiver_stays : (k : Sides) (now : Side) → StaysAt k.receiver now → (stored : List Emission) (s : Stream) → KeepsBoth k stored s → KeepsBoth (record k { receiver = now }) stored s
-receiver_stays k now stays stored s both Sender = both Sender
-receiver_stays k now stays stored s both Receiver = stays Receiver stored _ _ _ (both Receiver)
-
--- what follows from one fact of a result follows from the other
-module _ {T E : Type 0} where
-  pub if_ok : (r : Result T E) (P Q : T → Type 0) → ((x : T) → P x → Q x) → IfOk r P → IfOk r Q
-  if_ok (Ok x) P Q f p = f x p
-  if_ok (Err e) P Q f p = p
-
-  pub on_err : (r : Result T E) (P Q : Type 0) → (P → Q) → OnErr r P → OnErr r Q
-  on_err (Ok x) P Q f p = p
-  on_err (Err e) P Q f p = f p
-
--- a packet is found exactly where it was emitted
-among : (k : Side) (side : End) (stored : List Emission) (automaton : Automaton) (emitted : List OwnedPacket) (words : List ℕ) → Keeps k side stored automaton emitted words
-    → (p : OwnedPacket) (o : Option ℕ) → get order k.places p ≡ o → IsSome o → Contains emitted p
-among k side stored automaton emitted words keeps p None e some = absurd cc
-among k side stored automaton emitted words keeps p (Some place) e some = (keeps.placed p place e).0
-
-pub found_among : (k : Side) (side : End) (stored : List Emission) (automaton : Automaton) (emitted : List OwnedPacket) (words : List ℕ) → Keeps k side stored automaton emitted words
-    → (p : OwnedPacket) (r : Bool) → r ≡ is_some (get order k.places p) → IsTrue r ↔ Contains emitted p
-found_among k side stored automaton emitted words keeps p r e =
-    ((λ is. among k side stored automaton emitted words keeps p (get order k.places p) refl (sym e ∙ is)), λ c. e ∙ keeps.indexed p c)
-
--- two sides at which nothing happened yet
-pub nothing_yet : (k : Sides) (number : ℕ) (a : sender.State) (b : receiver.State) → a ≡ sender.initial number → b ≡ receiver.initial number
-    → ((side : End) (stored : List Emission) → Keeps k.sender side stored (automaton.Sender a) [] []) → ((side : End) (stored : List Emission) → Keeps k.receiver side stored (automaton.Receiver b) [] [])
-    → (stored : List Emission) → KeepsBoth k stored (initial number)
-nothing_yet k number a b p q sends receives stored Sender = subst (λ (x : sender.State). Keeps k.sender Sender stored (automaton.Sender x) [] []) p (sends Sender stored)
-nothing_yet k number a b p q sends receives stored Receiver = subst (λ (x : receiver.State). Keeps k.receiver Receiver stored (automaton.Receiver x) [] []) q (receives Receiver stored)
+-- the act is made after its emission was noted
+pub advanced_side : (mid now : KeptSide) (side : End) (stored : List Emission) (a : Automaton) (emitted : List OwnedPacket) (act : Act)
+    → now.automaton ≡ (row mid.automaton act).state → now.places ≡ mid.places → Represents mid side stored a emitted → Represents now side stored (row a act).state emitted
+advanced_side mid now side stored a emitted act state places keeps = record {
+  state = state ∙ ap (λ (x : Automaton). (row x act).state) keeps.state;
+  indexed = λ p c. let (place, at, is) = keeps.indexed p c in (place, same (key_of p.body) ∙ at, is);
+  placed = λ key place at. keeps.placed key place (sym (same key) ∙ at);
+}
+  where
+    same : (key : Key) → place_at now key ≡ place_at mid key
+    same key = ap (λ m. get order m key) places

@@ -1,4 +1,4 @@
--- The parts of the view of a stream: when they are the same, and when fewer messages are in doubt.
+-- Forward simulation, the parts of the view of a stream: when they are the same, and when fewer messages are in doubt.
 use Rattle.std.proofs.Common.{◌≡◌, ℕ, Bool, true, false, ◌&&◌, ◌||◌, not, eqb, if◌then◌else◌, List, [], ◌∷◌, ◌++◌, ◌⊎◌, inl, inr, refl, sym, ◌∙◌, ap, subst}
 use Rattle.std.proofs.lemmas.Bool.{eq-eqb}
 use Rattle.std.proofs.lemmas.Bool.Decides.{eqb_tells}
@@ -11,9 +11,11 @@ use Rattle.amo_core.specs.declared.receiver.ReceiverMode.{ReceiverMode}
 use Rattle.amo_core.specs.declared.receiver.ReceiverMode.TheVariants as receiving
 use Rattle.amo_core.specs.Sender as sender
 use Rattle.amo_world.specs.Doubt.{Entry, entry}
-use Rattle.amo_world.specs.View.{entries, has, holds, carried_by, carried, is_lost_offer, may_meet_lost_offer, received, current}
-use Rattle.amo_world.proofs.Moving.{HasFewerMarks, SameMessages, AllDoubted}
-use Rattle.amo_world.proofs.Packets.{Any, OffersFor, Sends, Names}
+use Rattle.amo_core.specs.Receiver.{is_holding}
+use Rattle.amo_world.specs.View.{entries, has, carried_by, carried, is_lost_accept, may_meet_lost_accept, received, current}
+use Rattle.amo_world.proofs.Unmarking.{HasFewerMarks, AllDoubted}
+use Rattle.amo_world.proofs.Marking.{SameMessages}
+use Rattle.amo_world.proofs.Packets.{Any, IsAcceptFor, IsSend, IsPastAccept}
 
 -- the same, whichever way
 pub same_either_way : {X : Type 0} (b : Bool) (x : X) → (if b then x else x) ≡ x
@@ -41,55 +43,59 @@ either_of false y true v first other is = refl
 either_of false y false v first other is = other is
 
 -- a message sent under no name
-carried_by_none : (b : OwnedBody) (id : ℕ) (earlier : List (List ℕ)) → (Names id b → ⊥) → earlier ≡ [] → carried_by b id earlier ≡ []
+carried_by_none : (b : OwnedBody) (id : ℕ) (earlier : List (List ℕ)) → (IsPastAccept id b → ⊥) → earlier ≡ [] → carried_by b id earlier ≡ []
 carried_by_none (packet.NeedUid word) id earlier none is = is
-carried_by_none (packet.Accept asked offered) id earlier none is = is
+carried_by_none (packet.Accept asked accepted) id earlier none is = is
 carried_by_none (packet.Send under m) id earlier none is = elim (eqb_tells under id) [
   | inl h ↦ absurd (none h.1)
   | inr h ↦ rw h.0 is
 ]
-carried_by_none (packet.Ack under answer) id earlier none is = is
+carried_by_none (packet.Ack under ack) id earlier none is = is
 carried_by_none (packet.Cleanup under) id earlier none is = is
 
--- nothing is carried under an identifier that no packet names
-pub carried_none : (ps : List OwnedPacket) (id : ℕ) → (Any (Names id) ps → ⊥) → carried ps id ≡ []
+-- nothing is carried under an identifier that no send bears
+pub carried_none : (ps : List OwnedPacket) (id : ℕ) → (Any (IsPastAccept id) ps → ⊥) → carried ps id ≡ []
 carried_none [] id none = refl
 carried_none (p ∷ ps) id none = carried_by_none p.body id (carried ps id) (λ n. none (inl n)) (carried_none ps id (λ a. none (inr a)))
 
-carried_by_is : (b : OwnedBody) (id : ℕ) (m : List ℕ) (earlier : List (List ℕ)) → Sends id m b ⊎ (earlier ≡ m ∷ []) → ((n : List ℕ) → Sends id n b → n ≡ m)
+carried_by_is : (b : OwnedBody) (id : ℕ) (m : List ℕ) (earlier : List (List ℕ)) → IsSend id m b ⊎ (earlier ≡ m ∷ [])
+    → ((n : List ℕ) → IsSend id n b → n ≡ m)
     → carried_by b id earlier ≡ m ∷ []
 carried_by_is (packet.NeedUid word) id m earlier (inl here) one = absurd here
 carried_by_is (packet.NeedUid word) id m earlier (inr is) one = is
-carried_by_is (packet.Accept asked offered) id m earlier (inl here) one = absurd here
-carried_by_is (packet.Accept asked offered) id m earlier (inr is) one = is
-carried_by_is (packet.Send under sent) id m earlier (inl here) one = rw (eq-eqb under id here.0) (ap (λ (x : List ℕ). x ∷ []) here.1)
-carried_by_is (packet.Send under sent) id m earlier (inr is) one = elim (eqb_tells under id) [
-  | inl h ↦ rw h.0 (ap (λ (x : List ℕ). x ∷ []) (one sent (h.1, refl)))
+carried_by_is (packet.Accept asked accepted) id m earlier (inl here) one = absurd here
+carried_by_is (packet.Accept asked accepted) id m earlier (inr is) one = is
+carried_by_is (packet.Send under content) id m earlier (inl here) one = rw (eq-eqb under id here.0) (ap (λ (x : List ℕ). x ∷ []) here.1)
+carried_by_is (packet.Send under content) id m earlier (inr is) one = elim (eqb_tells under id) [
+  | inl h ↦ rw h.0 (ap (λ (x : List ℕ). x ∷ []) (one content (h.1, refl)))
   | inr h ↦ rw h.0 is
 ]
-carried_by_is (packet.Ack under answer) id m earlier (inl here) one = absurd here
-carried_by_is (packet.Ack under answer) id m earlier (inr is) one = is
+carried_by_is (packet.Ack under ack) id m earlier (inl here) one = absurd here
+carried_by_is (packet.Ack under ack) id m earlier (inr is) one = is
 carried_by_is (packet.Cleanup under) id m earlier (inl here) one = absurd here
 carried_by_is (packet.Cleanup under) id m earlier (inr is) one = is
 
 -- what is carried under an identifier is the one message that is sent under it
-pub carried_is : (ps : List OwnedPacket) (id : ℕ) (m : List ℕ) → Any (Sends id m) ps → ((n : List ℕ) → Any (Sends id n) ps → n ≡ m) → carried ps id ≡ m ∷ []
+pub carried_is : (ps : List OwnedPacket) (id : ℕ) (m : List ℕ) → Any (IsSend id m) ps → ((n : List ℕ) → Any (IsSend id n) ps → n ≡ m)
+    → carried ps id ≡ m ∷ []
 carried_is [] id m a one = absurd a
 carried_is (p ∷ ps) id m (inl here) one = carried_by_is p.body id m (carried ps id) (inl here) (λ n s. one n (inl s))
 carried_is (p ∷ ps) id m (inr there) one =
     carried_by_is p.body id m (carried ps id) (inr (carried_is ps id m there (λ n a. one n (inr a)))) (λ n s. one n (inl s))
 
 -- what the receiver holds or may be sent depends on what is carried alone
-pub received_same : (mode : SenderMode) (at : ReceiverMode) (sent more : List OwnedPacket) → ((id : ℕ) → carried more id ≡ carried sent id)
-    → received mode at more ≡ received mode at sent
-received_same mode (receiving.Rcvd id m) sent more same = refl
-received_same mode (receiving.Accept jd id) sent more same = ap (λ (c : List (List ℕ)). if sender.is_sending mode id then [] else entries true c) (same id)
-received_same mode (receiving.Ack id) sent more same = refl
-received_same mode receiving.Idle sent more same = refl
-received_same mode receiving.Down sent more same = refl
+pub received_same : (mode : SenderMode) (at : ReceiverMode) (from_sender more : List OwnedPacket)
+    → ((id : ℕ) → carried more id ≡ carried from_sender id)
+    → received mode at more ≡ received mode at from_sender
+received_same mode (receiving.Rcvd id m) from_sender more same = refl
+received_same mode (receiving.Accept jd id) from_sender more same =
+    ap (λ (c : List (List ℕ)). if sender.is_sending mode id then [] else entries true c) (same id)
+received_same mode (receiving.Ack id) from_sender more same = refl
+received_same mode receiving.Idle from_sender more same = refl
+received_same mode receiving.Down from_sender more same = refl
 
-lost_one : (a b : ReceiverMode) (jd : ℕ) (body : OwnedBody) → ((id : ℕ) → OffersFor jd id body → has b id ≡ false → has a id ≡ false)
-    → is_lost_offer b jd body ≡ true → is_lost_offer a jd body ≡ true
+lost_one : (a b : ReceiverMode) (jd : ℕ) (body : OwnedBody) → ((id : ℕ) → IsAcceptFor jd id body → has b id ≡ false → has a id ≡ false)
+    → is_lost_accept b jd body ≡ true → is_lost_accept a jd body ≡ true
 lost_one a b jd (packet.NeedUid word) fewer is = is
 lost_one a b jd (packet.Accept asked id) fewer is = elim (eqb_tells asked jd) [
   | inl h ↦ rw h.0 (ap (λ (x : Bool). not x) (fewer id (h.1, refl) (not_back (has b id) (rw h.0 at is))))
@@ -102,49 +108,55 @@ lost_one a b jd (packet.Accept asked id) fewer is = elim (eqb_tells asked jd) [
 
     never : (x : Bool) → false && x ≡ true → ⊥
     never x e = cc
-lost_one a b jd (packet.Send under sent) fewer is = is
-lost_one a b jd (packet.Ack under answer) fewer is = is
+lost_one a b jd (packet.Send under content) fewer is = is
+lost_one a b jd (packet.Ack under ack) fewer is = is
 lost_one a b jd (packet.Cleanup under) fewer is = is
 
--- a lost offer may be met as before, where no offer for the request is lost that was not
-pub lost_fewer : (a b : ReceiverMode) (jd : ℕ) (ps : List OwnedPacket) → ((id : ℕ) → Any (OffersFor jd id) ps → has b id ≡ false → has a id ≡ false)
-    → may_meet_lost_offer b jd ps ≡ true → may_meet_lost_offer a jd ps ≡ true
+-- a lost accept may be met as before, where no accept for the needuid is lost that was not
+pub lost_fewer : (a b : ReceiverMode) (jd : ℕ) (ps : List OwnedPacket)
+    → ((id : ℕ) → Any (IsAcceptFor jd id) ps → has b id ≡ false → has a id ≡ false)
+    → may_meet_lost_accept b jd ps ≡ true → may_meet_lost_accept a jd ps ≡ true
 lost_fewer a b jd [] fewer is = is
 lost_fewer a b jd (p ∷ ps) fewer is =
-    either_of (is_lost_offer b jd p.body) (may_meet_lost_offer b jd ps) (is_lost_offer a jd p.body) (may_meet_lost_offer a jd ps)
+    either_of (is_lost_accept b jd p.body) (may_meet_lost_accept b jd ps) (is_lost_accept a jd p.body) (may_meet_lost_accept a jd ps)
     (lost_one a b jd p.body (λ id o. fewer id (inl o)))
     (lost_fewer a b jd ps (λ id o. fewer id (inr o)))
     is
 
-not_lost_one : (a : ReceiverMode) (jd : ℕ) (body : OwnedBody) → ((id : ℕ) → OffersFor jd id body → has a id ≡ true) → is_lost_offer a jd body ≡ false
+not_lost_one : (a : ReceiverMode) (jd : ℕ) (body : OwnedBody) → ((id : ℕ) → IsAcceptFor jd id body → has a id ≡ true)
+    → is_lost_accept a jd body ≡ false
 not_lost_one a jd (packet.NeedUid word) had = refl
 not_lost_one a jd (packet.Accept asked id) had = elim (eqb_tells asked jd) [
   | inl h ↦ rw h.0 (ap (λ (x : Bool). not x) (had id (h.1, refl)))
   | inr h ↦ rw h.0 refl
 ]
-not_lost_one a jd (packet.Send under sent) had = refl
-not_lost_one a jd (packet.Ack under answer) had = refl
+not_lost_one a jd (packet.Send under content) had = refl
+not_lost_one a jd (packet.Ack under ack) had = refl
 not_lost_one a jd (packet.Cleanup under) had = refl
 
--- no lost offer may be met, where the receiver has each identifier that it offered for the request
-pub none_lost : (a : ReceiverMode) (jd : ℕ) (ps : List OwnedPacket) → ((id : ℕ) → Any (OffersFor jd id) ps → has a id ≡ true) → may_meet_lost_offer a jd ps ≡ false
+-- no lost accept may be met, where the receiver has each identifier that it accepted for the needuid
+pub none_lost : (a : ReceiverMode) (jd : ℕ) (ps : List OwnedPacket) → ((id : ℕ) → Any (IsAcceptFor jd id) ps → has a id ≡ true)
+    → may_meet_lost_accept a jd ps ≡ false
 none_lost a jd [] had = refl
 none_lost a jd (p ∷ ps) had = rw (not_lost_one a jd p.body (λ id o. had id (inl o)), none_lost a jd ps (λ id o. had id (inr o))) refl
 
-lost_one_is : (a : ReceiverMode) (jd id : ℕ) (body : OwnedBody) → OffersFor jd id body → has a id ≡ false → is_lost_offer a jd body ≡ true
+lost_one_is : (a : ReceiverMode) (jd id : ℕ) (body : OwnedBody) → IsAcceptFor jd id body → has a id ≡ false
+    → is_lost_accept a jd body ≡ true
 lost_one_is a jd id (packet.NeedUid word) o lost = absurd o
-lost_one_is a jd id (packet.Accept asked offered) o lost =
+lost_one_is a jd id (packet.Accept asked accepted) o lost =
     rw (eq-eqb asked jd o.0) (ap (λ (x : Bool). not x) (subst (λ (x : ℕ). has a x ≡ false) (sym o.1) lost))
-lost_one_is a jd id (packet.Send under sent) o lost = absurd o
-lost_one_is a jd id (packet.Ack under answer) o lost = absurd o
+lost_one_is a jd id (packet.Send under content) o lost = absurd o
+lost_one_is a jd id (packet.Ack under ack) o lost = absurd o
 lost_one_is a jd id (packet.Cleanup under) o lost = absurd o
 
--- an offer for the request that is lost may be met
-pub lost_is_met : (a : ReceiverMode) (jd id : ℕ) (ps : List OwnedPacket) → Any (OffersFor jd id) ps → has a id ≡ false → may_meet_lost_offer a jd ps ≡ true
+-- an accept for the needuid that is lost may be met
+pub lost_is_met : (a : ReceiverMode) (jd id : ℕ) (ps : List OwnedPacket) → Any (IsAcceptFor jd id) ps → has a id ≡ false
+    → may_meet_lost_accept a jd ps ≡ true
 lost_is_met a jd id [] o lost = absurd o
 lost_is_met a jd id (p ∷ ps) (inl here) lost = rw (lost_one_is a jd id p.body here lost) refl
 lost_is_met a jd id (p ∷ ps) (inr there) lost =
-    either_of false (may_meet_lost_offer a jd ps) (is_lost_offer a jd p.body) (may_meet_lost_offer a jd ps) (λ e. absurd cc) (λ e. e) (lost_is_met a jd id ps there lost)
+    either_of false (may_meet_lost_accept a jd ps) (is_lost_accept a jd p.body) (may_meet_lost_accept a jd ps) (λ e. absurd cc) (λ e. e)
+    (lost_is_met a jd id ps there lost)
 
 -- messages in doubt, or in less
 pub entries_fewer : (x y : Bool) (ms : List (List ℕ)) → (y ≡ true → x ≡ true) → HasFewerMarks (entries x ms) (entries y ms)
@@ -165,12 +177,14 @@ entries-append b (x ∷ xs) ys = ap (λ (es : List Entry). entry b x ∷ es) (en
 
 -- what the sender sends, or is about to, is not in doubt under another receiver where it was not under this one
 abbrev pub DoubtsNoMore : SenderMode → ReceiverMode → ReceiverMode → List OwnedPacket → List OwnedPacket → Type 0
-DoubtsNoMore (sending.NeedId jd m) a b told more = may_meet_lost_offer b jd more ≡ true → may_meet_lost_offer a jd told ≡ true
-DoubtsNoMore (sending.Send id m) a b told more = (holds b id ≡ holds a id) × (has b id ≡ false → has a id ≡ false)
-DoubtsNoMore (sending.Quiet got) a b told more = Unit {0}
-DoubtsNoMore sending.Down a b told more = Unit {0}
+DoubtsNoMore (sending.NeedId jd m) a b from_receiver more =
+    may_meet_lost_accept b jd more ≡ true → may_meet_lost_accept a jd from_receiver ≡ true
+DoubtsNoMore (sending.Send id m) a b from_receiver more = (is_holding b id ≡ is_holding a id) × (has b id ≡ false → has a id ≡ false)
+DoubtsNoMore (sending.Quiet got) a b from_receiver more = Unit {0}
+DoubtsNoMore sending.Down a b from_receiver more = Unit {0}
 
-none_or_entries_fewer : (h x y : Bool) (ms : List (List ℕ)) → (y ≡ true → x ≡ true) → HasFewerMarks (if h then [] else entries x ms) (if h then [] else entries y ms)
+none_or_entries_fewer : (h x y : Bool) (ms : List (List ℕ)) → (y ≡ true → x ≡ true)
+    → HasFewerMarks (if h then [] else entries x ms) (if h then [] else entries y ms)
 none_or_entries_fewer true x y ms fewer = tt
 none_or_entries_fewer false x y ms fewer = entries_fewer x y ms fewer
 
@@ -179,22 +193,35 @@ not_fewer x true fewer e = absurd cc
 not_fewer true false fewer e = let f = fewer refl in absurd cc
 not_fewer false false fewer e = refl
 
-pub current_fewer : (mode : SenderMode) (a b : ReceiverMode) (told more : List OwnedPacket) (untaken : List (List ℕ)) → DoubtsNoMore mode a b told more
-    → HasFewerMarks (current mode a told untaken) (current mode b more untaken)
-current_fewer (sending.NeedId jd m) a b told more untaken fewer = (refl, fewer, tt)
-current_fewer (sending.Send id m) a b told more untaken fewer =
-    rw fewer.0 (none_or_entries_fewer (holds a id) (not (has a id)) (not (has b id)) untaken (not_fewer (has a id) (has b id) fewer.1))
-current_fewer (sending.Quiet got) a b told more untaken fewer = tt
-current_fewer sending.Down a b told more untaken fewer = tt
+pub current_fewer : (mode : SenderMode) (a b : ReceiverMode) (from_receiver more : List OwnedPacket) (untaken : List (List ℕ))
+    → DoubtsNoMore mode a b from_receiver more
+    → HasFewerMarks (current mode a from_receiver untaken) (current mode b more untaken)
+current_fewer (sending.NeedId jd m) a b from_receiver more untaken fewer = (refl, fewer, tt)
+current_fewer (sending.Send id m) a b from_receiver more untaken fewer =
+    rw fewer.0 (none_or_entries_fewer (is_holding a id) (not (has a id)) (not (has b id)) untaken (not_fewer (has a id) (has b id) fewer.1))
+current_fewer (sending.Quiet got) a b from_receiver more untaken fewer = tt
+current_fewer sending.Down a b from_receiver more untaken fewer = tt
 
-lost_same_one : (a b : ReceiverMode) (jd : ℕ) (body : OwnedBody) → ((id : ℕ) → has a id ≡ has b id) → is_lost_offer a jd body ≡ is_lost_offer b jd body
+lost_same_one : (a b : ReceiverMode) (jd : ℕ) (body : OwnedBody) → ((id : ℕ) → has a id ≡ has b id)
+    → is_lost_accept a jd body ≡ is_lost_accept b jd body
 lost_same_one a b jd (packet.NeedUid word) same = refl
 lost_same_one a b jd (packet.Accept asked id) same = ap (λ (h : Bool). eqb asked jd && not h) (same id)
-lost_same_one a b jd (packet.Send under sent) same = refl
-lost_same_one a b jd (packet.Ack under answer) same = refl
+lost_same_one a b jd (packet.Send under content) same = refl
+lost_same_one a b jd (packet.Ack under ack) same = refl
 lost_same_one a b jd (packet.Cleanup under) same = refl
 
--- the same offers are lost under receivers that have the same identifiers
-pub lost_same : (a b : ReceiverMode) (jd : ℕ) (ps : List OwnedPacket) → ((id : ℕ) → has a id ≡ has b id) → may_meet_lost_offer a jd ps ≡ may_meet_lost_offer b jd ps
+-- the same accepts are lost under receivers that have the same identifiers
+pub lost_same : (a b : ReceiverMode) (jd : ℕ) (ps : List OwnedPacket) → ((id : ℕ) → has a id ≡ has b id)
+    → may_meet_lost_accept a jd ps ≡ may_meet_lost_accept b jd ps
 lost_same a b jd [] same = refl
 lost_same a b jd (p ∷ ps) same = rw (lost_same_one a b jd p.body same, lost_same a b jd ps same) refl
+
+-- what the receiver may be sent depends on the sender only where it sends
+pub received_unless_sending : (mode : SenderMode) (at : ReceiverMode) (from_sender : List OwnedPacket)
+    → ((id : ℕ) → sender.is_sending mode id ≡ false)
+    → received mode at from_sender ≡ received sending.Down at from_sender
+received_unless_sending mode (receiving.Accept jd accepted) from_sender none = rw (none accepted) refl
+received_unless_sending mode (receiving.Rcvd under held) from_sender none = refl
+received_unless_sending mode (receiving.Ack under) from_sender none = refl
+received_unless_sending mode receiving.Idle from_sender none = refl
+received_unless_sending mode receiving.Down from_sender none = refl

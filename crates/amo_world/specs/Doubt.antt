@@ -18,7 +18,7 @@ abbrev pub entry : Bool → List ℕ → Entry
 entry doubted m = record { message = m; doubted = doubted }
 
 -- the messages, first one first; what is known of the last one put, and whether that is in doubt; which sides are down
-pub record State : Type 0 where
+pub record DoubtState : Type 0 where
   pub entries : List Entry
   pub status : Status
   pub status_doubted : Bool
@@ -26,20 +26,20 @@ pub record State : Type 0 where
   pub receiver_down : Bool
 
 -- empty, with nothing put yet and both sides up
-abbrev pub start : State
+abbrev pub start : DoubtState
 start = record { entries = []; status = Yes; status_doubted = false; sender_down = false; receiver_down = false }
 
 -- whether this side is down
-abbrev pub is_down : State → End → Bool
+abbrev pub is_down : DoubtState → End → Bool
 is_down s Sender = s.sender_down
 is_down s Receiver = s.receiver_down
 
 -- whether some side is down
-abbrev pub is_any_down : State → Bool
+abbrev pub is_any_down : DoubtState → Bool
 is_any_down s = s.sender_down || s.receiver_down
 
 -- this side is down from now on, or up
-abbrev pub set_down : State → End → Bool → State
+abbrev pub set_down : DoubtState → End → Bool → DoubtState
 set_down s Sender down = record s { sender_down = down }
 set_down s Receiver down = record s { receiver_down = down }
 
@@ -72,7 +72,7 @@ pub data Change : Type 0 where
   settle_status : Change
 
 -- a visible step of the queue is allowed here
-abbrev pub AllowsCall : State → Step → Type 0
+abbrev pub AllowsCall : DoubtState → Step → Type 0
 AllowsCall s (Put m) = s.sender_down ≡ false
 AllowsCall s (Get m) = (s.receiver_down ≡ false) × (first s.entries ≡ Some m)
 AllowsCall s (Ack answer) = (s.sender_down ≡ false) × (s.status ≡ status_of answer) × (s.status_doubted ≡ false)
@@ -83,7 +83,7 @@ AllowsCall s (Lose place) = ⊥
 AllowsCall s LoseAck = ⊥
 
 -- and what it leaves
-abbrev pub after_call : State → Step → State
+abbrev pub after_call : DoubtState → Step → DoubtState
 after_call s (Put m) = record s { entries = s.entries ++ entry false m ∷ []; status = Open; status_doubted = false }
 after_call s (Get m) = record s { entries = rest s.entries; status = settled_before (rest s.entries) s.status Yes }
 after_call s (Ack answer) = s
@@ -95,7 +95,7 @@ after_call s LoseAck = s
 
 -- Marks are set only while a side is down, and may be taken away at any time. What is marked may be lost at any time: a message
 -- leaves, as at a loss of the queue, and a status becomes No.
-abbrev pub Allows : State → Change → Type 0
+abbrev pub Allows : DoubtState → Change → Type 0
 Allows s (call step) = AllowsCall s step
 Allows s (mark before e later) = (is_any_down s ≡ true) × (s.entries ≡ before ++ e ∷ later)
 Allows s (unmark before e later) = s.entries ≡ before ++ e ∷ later
@@ -105,7 +105,7 @@ Allows s unmark_status = Unit {0}
 Allows s settle_status = s.status_doubted ≡ true
 
 -- the queue after a change that it allows
-abbrev pub after : State → Change → State
+abbrev pub after : DoubtState → Change → DoubtState
 after s (call step) = after_call s step
 after s (mark before e later) = record s { entries = before ++ entry true e.message ∷ later }
 after s (unmark before e later) = record s { entries = before ++ entry false e.message ∷ later }
@@ -115,12 +115,12 @@ after s unmark_status = record s { status_doubted = false }
 after s settle_status = record s { status = No }
 
 -- these changes, one after another, each allowed where it stands
-abbrev pub AllowsAll : State → List Change → Type 0
+abbrev pub AllowsAll : DoubtState → List Change → Type 0
 AllowsAll s [] = Unit {0}
 AllowsAll s (c ∷ cs) = Allows s c × AllowsAll (after s c) cs
 
 -- the queue after them
-abbrev pub after_all : State → List Change → State
+abbrev pub after_all : DoubtState → List Change → DoubtState
 after_all s [] = s
 after_all s (c ∷ cs) = after_all (after s c) cs
 
@@ -136,8 +136,24 @@ calls_of (unmark_status ∷ cs) = calls_of cs
 calls_of (settle_status ∷ cs) = calls_of cs
 
 -- from one state to another by changes that are allowed, with just these visible steps among them
-pub record Moves (s : State) (steps : List Step) (t : State) : Type 0 where
+pub record Moves (s : DoubtState) (steps : List Step) (t : DoubtState) : Type 0 where
   pub changes : List Change
   pub allowed : AllowsAll s changes
   pub reached : after_all s changes ≡ t
   pub seen : calls_of changes ≡ steps
+
+-- whether a change sets a mark
+abbrev pub sets_mark : Change → Bool
+sets_mark (mark before e later) = true
+sets_mark mark_status = true
+sets_mark _ = false
+
+-- none of these changes sets a mark
+abbrev pub SetsNoMark : List Change → Type 0
+SetsNoMark [] = Unit {0}
+SetsNoMark (c ∷ cs) = (sets_mark c ≡ false) × SetsNoMark cs
+
+-- the same moves, and no mark is set
+pub record MovesUnmarking (s : DoubtState) (steps : List Step) (t : DoubtState) : Type 0 where
+  pub moves : Moves s steps t
+  pub unmarking : SetsNoMark moves.changes

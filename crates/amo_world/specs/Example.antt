@@ -44,15 +44,15 @@ abbrev pub put_while_down : List ℕ → Line
 put_while_down m = line_of Sender 1 (act.Put m) reply.Down
 
 abbrev pub ack : Reply → Line
-ack answer = line_of Sender 1 act.Ack answer
+ack given = line_of Sender 1 act.Ack given
 
 abbrev pub get : Reply → Line
-get answer = line_of Receiver 1 act.Get answer
+get given = line_of Receiver 1 act.Get given
 
 abbrev pub start : ℕ → Line
 start word = line_of Sender 1 (act.Start word) reply.Done
 
--- a packet comes to the receiver, with the word for an offer, or to the sender
+-- a delivery to the receiver, with the word for an accept, or to the sender
 abbrev pub to_receiver : OwnedBody → ℕ → Line
 to_receiver body word = line_of Receiver 1 (act.Deliver (of_stream_1 body) word) reply.Done
 
@@ -128,7 +128,7 @@ send_repeated =
 abbrev pub send_repeated_run : List Step
 send_repeated_run = step.Put hi ∷ step.Get hi ∷ step.Ack true ∷ []
 
--- the request comes again after the handshake: a second offer is made, and given back
+-- the needuid is delivered again after the handshake: it is accepted again, and that is cleaned up
 abbrev pub needuid_repeated : List Line
 needuid_repeated = handshake ++ (
     to_receiver (NeedUid 7) 11 emits Accept 7 11 ∷
@@ -141,7 +141,7 @@ needuid_repeated = handshake ++ (
 abbrev pub needuid_repeated_run : List Step
 needuid_repeated_run = step.Put [] ∷ step.Get [] ∷ step.Ack true ∷ []
 
--- words said again that are not used up: by a start while the sender asks, by a request while its offer stands, by the other side
+-- words that come again and are not used up: of a start while the sender asks, of a needuid that was accepted, and of the other side
 abbrev pub words_said_again : List Line
 words_said_again =
     put letter_a ∷
@@ -154,7 +154,7 @@ words_said_again =
 abbrev pub words_said_again_run : List Step
 words_said_again_run = step.Put letter_a ∷ []
 
--- the receiver crashes after its offer: the message is lost, and the answer is No
+-- the receiver crashes after its accept: the message is lost, and the status is No
 abbrev pub receiver_crash_before_send : List Line
 receiver_crash_before_send =
     put letter_a ∷
@@ -203,7 +203,7 @@ sender_crash_after_send =
 abbrev pub sender_crash_after_send_run : List Step
 sender_crash_after_send_run = step.Put letter_a ∷ step.Crash Sender ∷ step.Recover Sender ∷ step.Put letter_b ∷ step.Get letter_a ∷ step.Get letter_b ∷ step.Ack true ∷ []
 
--- the receiver crashes after the get and before it could say so: the message was got, and the answer is No
+-- the receiver crashes after the get and before its ack: the message was got, and the status is No
 abbrev pub receiver_crash_after_get : List Line
 receiver_crash_after_get =
     put letter_a ∷
@@ -221,9 +221,10 @@ receiver_crash_after_get =
     []
 
 abbrev pub receiver_crash_after_get_run : List Step
-receiver_crash_after_get_run = step.Put letter_a ∷ step.Get letter_a ∷ step.Crash Receiver ∷ step.LoseAck ∷ step.Recover Receiver ∷ step.Ack false ∷ []
+receiver_crash_after_get_run =
+    step.Put letter_a ∷ step.Get letter_a ∷ step.Crash Receiver ∷ step.LoseAck ∷ step.Recover Receiver ∷ step.Ack false ∷ []
 
--- calls to a sender that is down are told so
+-- calls to a sender that is down: the reply is Down
 abbrev pub calls_while_down : List Line
 calls_while_down =
     crash Sender ∷
@@ -235,7 +236,15 @@ calls_while_down =
     []
 
 abbrev pub calls_while_down_run : List Step
-calls_while_down_run = step.Crash Sender ∷ step.DownReply Sender ∷ step.DownReply Sender ∷ step.LoseAck ∷ step.Recover Sender ∷ step.Ack false ∷ []
+calls_while_down_run =
+    step.Crash Sender ∷ step.DownReply Sender ∷ step.DownReply Sender ∷ step.LoseAck ∷ step.Recover Sender ∷ step.Ack false ∷ []
+
+-- a get from a receiver that is down is a call, too
+abbrev pub get_while_down : List Line
+get_while_down = crash Receiver ∷ get reply.Down ∷ recover Receiver ∷ []
+
+abbrev pub get_while_down_run : List Step
+get_while_down_run = step.Crash Receiver ∷ step.DownReply Receiver ∷ step.Recover Receiver ∷ []
 
 -- the receiver holds a message through a crash of the sender, which loses what waits; then the receiver crashes too
 abbrev pub message_held_through_a_crash : List Line
@@ -278,7 +287,7 @@ both_sides_down =
 abbrev pub both_sides_down_run : List Step
 both_sides_down_run = step.Put letter_a ∷ step.Put letter_b ∷ step.Get letter_a ∷ step.Crash Receiver ∷ step.Crash Sender ∷ step.Lose 0 ∷ step.Recover Sender ∷ step.Recover Receiver ∷ []
 
--- after a crash the sender asks under the word of its first request again
+-- after a crash the sender asks under the word of its first needuid again
 abbrev pub start_word_repeated : List Line
 start_word_repeated =
     put letter_a ∷
@@ -289,9 +298,9 @@ start_word_repeated =
     start 7 emits NeedUid 7 ∷
     []
 
--- after a handshake the receiver is asked to offer the word of its last offer again
-abbrev pub offer_word_repeated : List Line
-offer_word_repeated = handshake ++ (
+-- after a handshake a needuid comes to the receiver with the word of its last accept
+abbrev pub accept_word_repeated : List Line
+accept_word_repeated = handshake ++ (
     put [] ∷
     start 8 emits NeedUid 8 ∷
     to_receiver (NeedUid 8) 9 emits Accept 8 9 ∷
@@ -302,11 +311,11 @@ offer_word_repeated = handshake ++ (
 abbrev pub unsent_delivery : End → ℕ → OwnedPacket → ℕ → List Line
 unsent_delivery side stream packet word = line_of side stream (act.Deliver packet word) reply.Done ∷ []
 
--- the request comes back to the sender that emitted it
+-- the needuid is delivered to the sender that emitted it
 abbrev pub returned_packet : List Line
 returned_packet = first_needuid ++ to_sender (NeedUid 7) ∷ []
 
--- the request comes to the receiver of another stream
+-- the needuid is delivered to the receiver of another stream
 abbrev pub stray_packet : List Line
 stray_packet = first_needuid ++ line_of Receiver 2 (act.Deliver (of_stream_1 (NeedUid 7)) 9) reply.Done ∷ []
 
@@ -332,7 +341,7 @@ good_journal_run = step.Put letter_a ∷ step.Get letter_a ∷ []
 abbrev pub forged_journal : List Line
 forged_journal = first_get ++ get (reply.Got letter_a) ∷ []
 
--- a message comes that was never sent, under an identifier that was never asked for
+-- a send is delivered that was never emitted, under an identifier that was never asked for
 abbrev pub message_invented : List Line
 message_invented =
     to_receiver (NeedUid 7) 9 emits Accept 7 9 ∷
@@ -340,7 +349,7 @@ message_invented =
     get (reply.Got letter_a) ∷
     []
 
--- the receiver offers an identifier again that it offered before its crash, and takes the old message a second time
+-- the receiver accepts under an identifier that it used before its crash, and gets the old message a second time
 abbrev pub message_got_twice : List Line
 message_got_twice = first_get ++ (
     crash Receiver ∷
@@ -351,7 +360,7 @@ message_got_twice = first_get ++ (
     []
     )
 
--- the sender asks under a word of before its crash, and takes the answer for its old message as one for the new, which is not got
+-- the sender asks under a word of before its crash, and takes the ack of its old message for one of the new, which is not got
 abbrev pub old_message_acknowledged : List Line
 old_message_acknowledged = first_get ++ (
     crash Sender ∷

@@ -1,14 +1,16 @@
 -- Histories. A history is the list of its events, the newest first: `past` stands for all that was before.
-use Rattle.std.specs.Prelude.{◌≡◌, ℕ, ◌==◌, Bool, true, false, Option, Some, IfSome, List, [], ◌∷◌, ◌++◌}
+use Rattle.std.specs.Prelude.{◌≡◌, ℕ, ◌==◌, Bool, true, false, ◌&&◌, Option, Some, IfSome, List, [], ◌∷◌, ◌++◌}
 use Rattle.std.specs.List.{Contains}
 use Rattle.std.specs.Option.{option_to_list, option_map}
 use Rattle.amo_object.specs.declared.step.End.{End}
+use Rattle.amo_object.specs.declared.step.End.TheVariants.{Sender, Receiver}
 use Rattle.amo_object.specs.End.{other}
 use Rattle.amo_core.specs.declared.act.Act.{Act}
 use Rattle.amo_core.specs.declared.act.Act.TheVariants.{Deliver}
 use Rattle.amo_world.specs.declared.emission.Emission.{Emission}
 use Rattle.amo_world.specs.declared.event.Event.{Event}
-use Rattle.amo_world.specs.Stream.{Stream, initial, after, reply_of, emission_of, word_of, emitted_by, words_of}
+use Rattle.amo_core.specs.declared.automaton.Automaton.{Automaton}
+use Rattle.amo_world.specs.Stream.{Stream, Side, initial, after, reply_of, emission_of, word_of, emitted_by, words_of, acts}
 
 -- a stream after an event, if the event is one of its own
 abbrev pub after_if : Bool → Stream → Event → Stream
@@ -69,3 +71,29 @@ emissions (e ∷ past) = emissions past ++ option_to_list (event_emission past e
 -- a history that goes on from another
 abbrev pub Extends : List Event → List Event → Type 0
 Extends later earlier = (newer : List Event) × (later ≡ newer ++ earlier)
+
+-- an event before others, if it is one of those that are looked for
+abbrev pub event_if : Bool → Event → List Event → List Event
+event_if true e events = e ∷ events
+event_if false e events = events
+
+-- the events of a history that bear a pass's number
+abbrev pub events_of : ℕ → List Event → List Event
+events_of pass [] = []
+events_of pass (e ∷ past) = event_if (pass == e.pass) e (events_of pass past)
+
+-- both are the same side
+abbrev pub is_same_side : End → End → Bool
+is_same_side Sender Sender = true
+is_same_side Receiver Receiver = true
+is_same_side _ _ = false
+
+-- the events of a history at a side of the stream of a number
+abbrev pub events_at : ℕ → End → List Event → List Event
+events_at number side [] = []
+events_at number side (e ∷ past) = event_if ((number == e.stream) && is_same_side side e.side) e (events_at number side past)
+
+-- a side after these events of its own, each by its row
+abbrev pub side_after : Side Automaton → List Event → Side Automaton
+side_after side [] = side
+side_after side (e ∷ past) = acts (side_after side past) e.act

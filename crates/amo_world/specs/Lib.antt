@@ -6,8 +6,11 @@ pub mod Resolution
 pub mod View
 pub mod Example
 pub mod InDoubt
-pub mod Emission
-pub mod Side
-pub mod Sides
+pub mod Key
+pub mod Newest
+pub mod Log
+pub mod LogRoom
+pub mod KeptSide
+pub mod KeptStream
 pub mod World
 pub mod Fault

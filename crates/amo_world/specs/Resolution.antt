@@ -5,7 +5,7 @@ use Rattle.amo_object.specs.declared.status.Status.TheVariants.{Yes, No, Open}
 use Rattle.amo_object.specs.declared.step.Step.{Step}
 use Rattle.amo_object.specs.Queue as queue
 use Rattle.amo_object.specs.Run.{IsRunFrom, after_all, without_losses}
-use Rattle.amo_world.specs.Doubt.{Entry, State}
+use Rattle.amo_world.specs.Doubt.{Entry, DoubtState}
 
 -- a message, its mark, and whether it is kept
 pub record Fate : Type 0 where
@@ -44,7 +44,7 @@ ResolvesStatus Yes last doubted known = IsKnown Yes doubted known
 ResolvesStatus No last doubted known = IsKnown No doubted known
 
 -- a queue that a queue in doubt may stand for
-pub record Resolves (r : queue.State) (s : State) : Type 0 where
+pub record Resolves (r : queue.QueueState) (s : DoubtState) : Type 0 where
   pub fates : List Fate
   pub of : entries_of fates ≡ s.entries
   pub undoubted : KeepsUndoubted fates
@@ -54,8 +54,13 @@ pub record Resolves (r : queue.State) (s : State) : Type 0 where
   pub receiver_down : r.receiver_down ≡ s.receiver_down
 
 -- a run of the queue between two states, with just these steps besides its losses
-pub record Runs (r : queue.State) (steps : List Step) (t : queue.State) : Type 0 where
+pub record Runs (r : queue.QueueState) (steps : List Step) (t : queue.QueueState) : Type 0 where
   pub run : List Step
   pub allowed : IsRunFrom r run
   pub reached : after_all r run ≡ t
   pub seen : without_losses run ≡ steps
+
+-- these steps lead from one state of the queue to the other, each allowed where it stands, and no loss besides
+pub record Leads (r : queue.QueueState) (steps : List Step) (t : queue.QueueState) : Type 0 where
+  pub allowed : IsRunFrom r steps
+  pub reached : after_all r steps ≡ t

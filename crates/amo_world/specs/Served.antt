@@ -11,7 +11,7 @@ use Rattle.amo_core.specs.declared.reply.Reply.{Reply}
 use Rattle.amo_core.specs.declared.reply.Reply.TheVariants as reply
 use Rattle.amo_world.specs.declared.event.Event.{Event}
 
--- the visible step of an event: an answered call, a crash or a recovery; Full, Nothing and NotYet are none
+-- the visible step of an event: a client's call, a crash or a recovery; a call with the reply Full, Nothing or NotYet is none
 abbrev pub call_of : End → Act → Reply → Option Step
 call_of side (act.Put m) reply.Ok = Some (step.Put m)
 call_of side (act.Put m) reply.Down = Some (step.DownReply side)

@@ -1,9 +1,10 @@
 -- A stream: what its events leave of both its sides.
-use Rattle.std.specs.Prelude.{ℕ, ◌≤◌, ◌==◌, if◌then◌else◌, Option, List, [], ◌∷◌, ◌++◌}
+use Rattle.std.specs.Prelude.{ℕ, ◌==◌, if◌then◌else◌, Option, List, [], ◌∷◌, ◌++◌}
 use Rattle.std.specs.Option.{option_to_list}
 use Rattle.amo_object.specs.declared.step.End.{End}
 use Rattle.amo_object.specs.declared.step.End.TheVariants.{Sender, Receiver}
 use Rattle.amo_packet.specs.declared.packet.OwnedPacket.{OwnedPacket}
+pub use Rattle.amo_packet.specs.Stream.{IsStream}
 use Rattle.amo_core.specs.declared.act.Act.{Act}
 use Rattle.amo_core.specs.declared.act.Act.TheVariants.{Get}
 use Rattle.amo_core.specs.declared.reply.Reply.{Reply}
@@ -14,12 +15,9 @@ use Rattle.amo_core.specs.declared.sender.SenderMode.TheVariants.{NeedId, Send}
 use Rattle.amo_core.specs.declared.receiver.ReceiverMode.{ReceiverMode}
 use Rattle.amo_core.specs.declared.receiver.ReceiverMode.TheVariants.{Rcvd}
 use Rattle.amo_core.specs.Row.{Row}
+use Rattle.amo_core.specs.Automaton.{row, used_word}
 use Rattle.amo_core.specs.Sender as sender
 use Rattle.amo_core.specs.Receiver as receiver
-
--- the streams of a host
-abbrev pub IsStream : ℕ → Type 0
-IsStream stream = (1 ≤ stream) × (stream ≤ 256)
 
 -- a side: the state of its automaton, the packets that it emitted, and the words that it used up, the newest first
 pub record Side (S : Type 0) : Type 0 where
@@ -42,8 +40,8 @@ module _ {S : Type 0} where
 
 -- both sides; and while the sender sends, the messages of what it sends that the receiver's client did not take yet. No row reads these.
 pub record Stream : Type 0 where
-  pub sender : Side sender.State
-  pub receiver : Side receiver.State
+  pub sender : Side sender.SenderState
+  pub receiver : Side receiver.ReceiverState
   pub untaken : List (List ℕ)
 
 -- a stream of this number in which nothing happened yet
@@ -100,3 +98,11 @@ emitted_by s Receiver = s.receiver.emitted
 abbrev pub words_of : Stream → End → List ℕ
 words_of s Sender = s.sender.words
 words_of s Receiver = s.receiver.words
+
+-- a side of a stream, with an automaton of either kind
+abbrev pub side_of : Stream → End → Side Automaton
+side_of s side = record { state = automaton_of s side; emitted = emitted_by s side; words = words_of s side }
+
+-- such a side after an act
+abbrev pub acts : Side Automaton → Act → Side Automaton
+acts side act = acted side (row side.state act) (used_word side.state act)

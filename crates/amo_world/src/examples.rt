@@ -9,7 +9,7 @@ ghost use Rattle.amo_world.specs.InDoubt.{doubts_of};
 ghost use Rattle.amo_world.specs.History.{IsRight, IsHonest, IsFresh};
 ghost use Rattle.amo_world.specs.Served.{IsServed};
 
-/// Stories without a crash: the first request, a whole handshake, and packets and words that come again.
+/// Stories without a crash: the first needuid, a whole handshake, and packets and words that come again.
 pub fn handshakes()
     ensures first_needuid { IsServedExample example.first_needuid example.first_needuid_run }
     ensures handshake { IsServedExample example.handshake example.handshake_run }
@@ -25,6 +25,7 @@ pub fn crashes()
     ensures sender_after_send { IsServedExample example.sender_crash_after_send example.sender_crash_after_send_run }
     ensures receiver_after_get { IsServedExample example.receiver_crash_after_get example.receiver_crash_after_get_run }
     ensures calls_while_down { IsServedExample example.calls_while_down example.calls_while_down_run }
+    ensures get_while_down { IsServedExample example.get_while_down example.get_while_down_run }
     ensures message_held { IsServedExample example.message_held_through_a_crash example.message_held_through_a_crash_run }
     ensures both_sides_down { IsServedExample example.both_sides_down example.both_sides_down_run }
 {}
@@ -37,6 +38,7 @@ pub fn doubts()
     ensures sender_after_send { doubts_of example.sender_crash_after_send ≡ in_doubt.sender_crash_after_send_doubts }
     ensures receiver_after_get { doubts_of example.receiver_crash_after_get ≡ in_doubt.receiver_crash_after_get_doubts }
     ensures calls_while_down { doubts_of example.calls_while_down ≡ in_doubt.calls_while_down_doubts }
+    ensures get_while_down { doubts_of example.get_while_down ≡ in_doubt.get_while_down_doubts }
     ensures message_held { doubts_of example.message_held_through_a_crash ≡ in_doubt.message_held_through_a_crash_doubts }
     ensures both_sides_down { doubts_of example.both_sides_down ≡ in_doubt.both_sides_down_doubts }
 {}
@@ -44,7 +46,7 @@ pub fn doubts()
 /// Stories that are not fresh: a side uses a word twice.
 pub fn repeated_words()
     ensures of_a_start { IsRepeatExample example.start_word_repeated }
-    ensures of_an_offer { IsRepeatExample example.offer_word_repeated }
+    ensures of_an_accept { IsRepeatExample example.accept_word_repeated }
 {}
 
 /// Stories that are not honest: a packet that nobody emitted, one that comes back, and one that strays.
@@ -56,7 +58,7 @@ pub fn unsent_packets()
 {}
 
 /// What each premise of serving is for. Each story lacks one of them alone, and no run of the queue serves its stream: a
-/// forged reply, a message that was never sent, and a word used twice, of an offer and of a start.
+/// forged reply, a message that was never sent, and a word used twice, of an accept and of a start.
 pub fn needed_premises()
     ensures reply_forged { (¬ (IsRight (history_of example.forged_journal)))
         × IsHonest (history_of example.forged_journal) × IsFresh (history_of example.forged_journal) }

@@ -1,20 +1,27 @@
 //! Laws of histories. Each is the contract of a function that does nothing.
-ghost use Rattle.std.specs.Prelude.{◌≡◌, ◌≢◌, ℕ, ◌+◌, true, Some, List, [], ◌∷◌, ◌++◌, reverse, take, slice_get, IfSome};
+ghost use Rattle.std.specs.Prelude.{◌≡◌, ◌≢◌, ◌≤◌, ◌⊎◌, ℕ, ◌+◌, true, Some, List, [], ◌∷◌, ◌++◌, length, reverse, take, slice_get, IfSome, IsSome};
 ghost use Rattle.std.specs.List.{Contains};
 ghost use Rattle.std.specs.Option.{option_to_list};
 ghost use Rattle.amo_object.specs.declared.step.Step.{Step};
-ghost use Rattle.amo_object.specs.declared.step.Step.TheVariants.{Put, Ack};
+ghost use Rattle.amo_object.specs.declared.step.Step.TheVariants as step;
+ghost use Rattle.amo_object.specs.declared.step.End.{End};
+ghost use Rattle.amo_object.specs.declared.step.End.TheVariants.{Sender, Receiver};
 ghost use Rattle.amo_object.specs.Queue as queue;
 ghost use Rattle.amo_object.specs.Run.{IsCrashFree};
 ghost use Rattle.amo_object.specs.Delivery.{messages_put, messages_got, IsSubsequence};
+ghost use Rattle.amo_packet.specs.declared.packet.OwnedPacket.{OwnedPacket};
+ghost use Rattle.amo_core.specs.declared.act.Act.{Act};
+ghost use Rattle.amo_core.specs.declared.act.Act.TheVariants.{Put, Get, Ack, Start, Resend, Deliver, Crash, Recover};
+ghost use Rattle.amo_core.specs.declared.reply.Reply.TheVariants.{Done};
+ghost use Rattle.amo_core.specs.Automaton.{row, used_word};
 ghost use Rattle.amo_world.specs.declared.emission.Emission.{Emission};
 ghost use Rattle.amo_world.specs.declared.event.Event.{Event};
-ghost use Rattle.amo_world.specs.Stream.{initial, after, emitted_by};
-ghost use Rattle.amo_world.specs.History.{stream_after, stream_before, emissions, event_emission, IsRight, IsHonest, IsFresh, Extends};
+ghost use Rattle.amo_world.specs.Stream.{Stream, initial, after, automaton_of, reply_of, emission_of, word_of, emitted_by, side_of};
+ghost use Rattle.amo_world.specs.History.{stream_after, stream_before, emissions, event_emission, IsRight, IsHonest, IsFresh, Extends, events_of, events_at, side_after};
 ghost use Rattle.amo_world.specs.Served.{call_of, calls, IsServed};
 ghost use Rattle.amo_world.specs.Doubt as doubt;
-ghost use Rattle.amo_world.specs.Doubt.{Moves};
-ghost use Rattle.amo_world.specs.Resolution.{Resolves, Runs};
+ghost use Rattle.amo_world.specs.Doubt.{set_down, Moves, MovesUnmarking};
+ghost use Rattle.amo_world.specs.Resolution.{Resolves, Runs, Leads};
 ghost use Rattle.amo_world.specs.View.{view};
 
 /// What one event more changes: its own stream, by the row of its act, and no other.
@@ -34,7 +41,7 @@ pub fn in_order_of_time()
 {}
 
 /// What a client may rely on where its stream is served: what is got was put, in that order and each message at most
-/// once; while no host crashes, what was put is got or still waits; and after the answer yes, the last message put was
+/// once; while no host crashes, what was put is got or still waits; and after the reply yes, the last message put was
 /// got.
 pub fn served_streams()
     ensures order { (number : ℕ) (events : List Event) → IsServed number events →
@@ -42,7 +49,7 @@ pub fn served_streams()
     ensures nothing_lost { (number : ℕ) (events : List Event) → IsServed number events → IsCrashFree (calls number events) →
         (waiting : List (List ℕ)) × (messages_put (calls number events) ≡ messages_got (calls number events) ++ waiting) }
     ensures yes { (number : ℕ) (events : List Event) (before later : List Step) (m : List ℕ) → IsServed number events →
-        calls number events ≡ before ++ Put m ∷ later ++ Ack true ∷ [] → messages_put later ≡ [] →
+        calls number events ≡ before ++ step.Put m ∷ later ++ step.Ack true ∷ [] → messages_put later ≡ [] →
         (earlier : List (List ℕ)) × (messages_got later ≡ earlier ++ m ∷ []) }
 {}
 
@@ -58,13 +65,29 @@ pub fn events_move_the_queue_in_doubt()
 /// for after it has moved comes, by steps of the queue with the same visible ones, from what it may have stood for before; so
 /// it is with each event of a right, honest and fresh history.
 pub fn doubts_resolve()
-    ensures exists { (s : doubt.State) → (r : queue.State) × Resolves r s }
-    ensures first { (r : queue.State) → Resolves r doubt.start → r ≡ queue.start }
-    ensures moves { (s t : doubt.State) (steps : List Step) → Moves s steps t → (after : queue.State) → Resolves after t
-        → (before : queue.State) × Resolves before s × Runs before steps after }
+    ensures exists { (s : doubt.DoubtState) → (r : queue.QueueState) × Resolves r s }
+    ensures first { (r : queue.QueueState) → Resolves r doubt.start → r ≡ queue.start }
+    ensures moves { (s t : doubt.DoubtState) (steps : List Step) → Moves s steps t → (after : queue.QueueState) → Resolves after t
+        → (before : queue.QueueState) × Resolves before s × Runs before steps after }
     ensures events { (past : List Event) (e : Event) → IsRight (e ∷ past) → IsHonest (e ∷ past) → IsFresh (e ∷ past)
-        → (after : queue.State) → Resolves after (view (stream_after e.stream (e ∷ past)))
-        → (before : queue.State) × Resolves before (view (stream_before past e)) × Runs before (option_to_list (call_of e.side e.act e.reply)) after }
+        → (after : queue.QueueState) → Resolves after (view (stream_after e.stream (e ∷ past)))
+        → (before : queue.QueueState) × Resolves before (view (stream_before past e)) × Runs before (option_to_list (call_of e.side e.act e.reply)) after }
+{}
+
+/// In a right, honest and fresh history only a crash sets marks, and only after a crash does the queue lose anything. At any
+/// other event each queue that may stand after it is led to, by the event's call alone, from one that may have stood before it;
+/// at a crash, by the crash and then by losses.
+pub fn only_crashes_set_marks()
+    ensures calm { (past : List Event) (e : Event) → IsRight (e ∷ past) → IsHonest (e ∷ past) → IsFresh (e ∷ past) → e.act ≢ Crash
+        → MovesUnmarking (view (stream_before past e)) (option_to_list (call_of e.side e.act e.reply)) (view (stream_after e.stream (e ∷ past))) }
+    ensures led { (past : List Event) (e : Event) → IsRight (e ∷ past) → IsHonest (e ∷ past) → IsFresh (e ∷ past) → e.act ≢ Crash
+        → (after : queue.QueueState) → Resolves after (view (stream_after e.stream (e ∷ past)))
+        → (before : queue.QueueState) × Resolves before (view (stream_before past e)) × Leads before (option_to_list (call_of e.side e.act e.reply)) after }
+    ensures crash { (past : List Event) (e : Event) → IsRight (e ∷ past) → IsHonest (e ∷ past) → IsFresh (e ∷ past) → e.act ≡ Crash
+        → Moves (set_down (view (stream_before past e)) e.side true) [] (view (stream_after e.stream (e ∷ past))) }
+    ensures lost { (past : List Event) (e : Event) → IsRight (e ∷ past) → IsHonest (e ∷ past) → IsFresh (e ∷ past) → e.act ≡ Crash
+        → (after : queue.QueueState) → Resolves after (view (stream_after e.stream (e ∷ past)))
+        → (before : queue.QueueState) × Resolves before (view (stream_before past e)) × Runs (queue.after before (step.Crash e.side)) [] after }
 {}
 
 /// Each right, honest and fresh history serves each of its streams.
@@ -92,4 +115,43 @@ pub fn longer_histories()
         → (more : List Step) × (calls number later ≡ calls number earlier ++ more) }
     ensures emitted { (later earlier : List Event) → Extends later earlier
         → (more : List Emission) × (emissions later ≡ emissions earlier ++ more) }
+{}
+
+/// Two histories from which one history goes on: one of them goes on from the other, and the one that is not the shorter does.
+/// Two that go on from one another, or of which one goes on from the other with no event more, are the same.
+pub fn comparable_histories()
+    ensures comparable { (latest one other : List Event) → Extends latest one → Extends latest other → Extends one other ⊎ Extends other one }
+    ensures longer { (latest one other : List Event) → Extends latest one → Extends latest other → length other ≤ length one → Extends one other }
+    ensures antisymmetric { (one other : List Event) → Extends one other → Extends other one → one ≡ other }
+    ensures same_length { (later earlier : List Event) → Extends later earlier → length later ≡ length earlier → later ≡ earlier }
+{}
+
+/// The events that bear a pass's number, one event more at a time, of two histories joined, and of one that goes on.
+pub fn events_of_a_pass()
+    ensures own { (past : List Event) (e : Event) → events_of e.pass (e ∷ past) ≡ e ∷ events_of e.pass past }
+    ensures others { (past : List Event) (e : Event) (pass : ℕ) → pass ≢ e.pass → events_of pass (e ∷ past) ≡ events_of pass past }
+    ensures joined { (pass : ℕ) (newer past : List Event) → events_of pass (newer ++ past) ≡ events_of pass newer ++ events_of pass past }
+    ensures further { (pass : ℕ) (later earlier : List Event) → Extends later earlier → Extends (events_of pass later) (events_of pass earlier) }
+{}
+
+/// What a side of a stream is, with what it emitted and which words it used up, its own events alone leave of it: each acts by its
+/// row, and what an act replies, emits and uses up depends on the automaton of its side alone.
+pub fn sides_by_themselves()
+    ensures replay { (number : ℕ) (side : End) (events : List Event) →
+        side_of (stream_after number events) side ≡ side_after (side_of (initial number) side) (events_at number side events) }
+    ensures reply { (s : Stream) (side : End) (act : Act) → reply_of s side act ≡ (row (automaton_of s side) act).reply }
+    ensures emission { (s : Stream) (side : End) (act : Act) → emission_of s side act ≡ (row (automaton_of s side) act).emitted }
+    ensures word { (s : Stream) (side : End) (act : Act) → word_of s side act ≡ used_word (automaton_of s side) act }
+{}
+
+/// At its side each act has a reply: a client's call one of its own, any other act that it is done.
+pub fn acts_have_replies()
+    ensures put { (s : Stream) (message : List ℕ) → IsSome (reply_of s Sender (Put message)) }
+    ensures ack { (s : Stream) → IsSome (reply_of s Sender Ack) }
+    ensures get { (s : Stream) → IsSome (reply_of s Receiver Get) }
+    ensures start { (s : Stream) (word : ℕ) → reply_of s Sender (Start word) ≡ Some Done }
+    ensures resend { (s : Stream) (side : End) → reply_of s side Resend ≡ Some Done }
+    ensures deliver { (s : Stream) (side : End) (packet : OwnedPacket) (word : ℕ) → reply_of s side (Deliver packet word) ≡ Some Done }
+    ensures crash { (s : Stream) (side : End) → reply_of s side Crash ≡ Some Done }
+    ensures recover { (s : Stream) (side : End) → reply_of s side Recover ≡ Some Done }
 {}

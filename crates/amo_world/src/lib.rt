@@ -2,7 +2,7 @@
 //! A [`World`] keeps such a history: it accepts an event exactly where the history with it is right, honest and fresh.
 //!
 //! ```text
-//!   Event      what happened at one side of a stream, under whose pass, and what was told
+//!   Event      what happened at one side of a stream, under whose pass, and the reply
 //!   history    a list of events; the definitions read it newest first, so that each has two cases,
 //!              nothing yet and one event more
 //!   right      every reply is the one of the tables, after all earlier events
@@ -16,10 +16,11 @@
 //! the queue stands a queue in doubt. Each event moves it ([`laws::events_move_the_queue_in_doubt`]), and what it may stand
 //! for after an event comes by steps of the queue from what it may have stood for before ([`laws::doubts_resolve`]).
 //!
-//! A world keeps both sides of streams 1 to [`STREAMS`]: of each side its automaton, an index of the packets that it
-//! emitted, and the words that it used up. So it judges an event without reading the history again. It judges in the
-//! order of [`WorldFault`]'s three causes, the reply first; memory that is refused is told only of an event without a
-//! fault. It numbers the packets emitted over all streams, from 0, and tells each with its side.
+//! A world keeps both sides of streams 1 to [`STREAMS`]: of each side its automaton, and an index of the packets that it
+//! emitted, each stored once. So it judges an event without reading the history again, and no event lies in memory: the
+//! history is there for contracts alone. It judges in the order of [`WorldFault`]'s three causes, the reply first; that
+//! memory ran out is the answer only for an event without a fault. It numbers the packets emitted over all streams, from
+//! 0, and gives each with its side.
 //!
 //! [`laws`] says besides what one event more changes and what a client may rely on where its stream is served; [`examples`]
 //! tells worked stories, among them one for each premise that shows what goes wrong without it.
@@ -32,15 +33,19 @@ mod emission;
 mod event;
 pub mod examples;
 mod fault;
+mod history;
+mod kept_side;
+mod kept_stream;
+mod key;
 pub mod laws;
-mod side;
-mod sides;
+mod log;
 #[cfg(test)]
 mod tests;
 mod world;
 
 pub use amo_core::{Act, Reply};
 pub use amo_object::End;
+pub use amo_packet::STREAMS;
 pub use event::Event;
 pub use fault::{NoMemory, WorldFault};
-pub use world::{STREAMS, World};
+pub use world::World;

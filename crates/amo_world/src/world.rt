@@ -1,45 +1,42 @@
 //! A world: a history that grows event by event, and is right, honest and fresh at every moment.
-ghost use Rattle.std.specs.Prelude.{ℕ, ◌≡◌, ◌↔◌, ◌<◌, ◌≤◌, ◌^◌, [], ◌∷◌, length, IfOk, IfErr, IfSome, OnOk, OnErr, IsErrOf, slice_get};
+ghost use Rattle.std.specs.Prelude.{ℕ, ◌≡◌, ◌↔◌, ◌<◌, ◌^◌, None, [], ◌∷◌, length, IfOk, IfErr, IfSome, OnOk, OnErr, IsErrOf, slice_get};
 ghost use Rattle.std.specs.Option.{option_map, option_to_list, ForSome};
 ghost use Rattle.amo_packet.specs.Packet.{packet_of, body_of};
-ghost use Rattle.amo_packet.specs.Grammar.{message_of};
+ghost use Rattle.amo_packet.specs.Grammar.{CanBeWritten, CarriesNoBytes};
 ghost use Rattle.amo_world.specs.History.{stream_after, stream_before, emissions, HasRightReply, DeliversEmitted, UsesNewWord, IsRight, IsHonest, IsFresh};
 ghost use Rattle.amo_world.specs.Stream.{IsStream};
 ghost use Rattle.amo_world.specs.Served.{call_of, IsServed};
 ghost use Rattle.amo_world.specs.Doubt.{Moves};
 ghost use Rattle.amo_world.specs.View.{view};
-ghost use Rattle.amo_world.specs.World.{Refuses};
+ghost use Rattle.amo_world.specs.World.{Refuses, delivery_of, IsRepeat};
 
-use crate::emission::Emissions;
-use crate::sides::Sides;
-use crate::{Event, NoMemory, WorldFault};
+use crate::emission::Emission;
+use crate::kept_stream::KeptStream;
+use crate::log::Log;
+use crate::{Act, Event, NoMemory, Reply, WorldFault};
 use amo_object::End;
-use amo_packet::{MAX_MESSAGE, Packet};
-use std::alloc::{AllocError, Global};
+use amo_packet::{Packet, STREAMS};
+use std::alloc::Global;
 use std::marker::Model;
-
-/// How many streams a host has. They are numbered from 1.
-pub const STREAMS: u32 = 256;
 
 /// Both hosts, with all that happened at them. Contracts see the history of the events that it accepted, the newest first.
 #[derive(Drop)]
 pub struct World {
     alloc: Global,
-    events: Vec<Event>,
-    streams: Vec<Sides>,
-    emissions: Emissions,
+    streams: Vec<KeptStream>,
+    log: Log,
 }
 
 impl Model for World {
-    ghost use Rattle.std.specs.Prelude.{List, reverse};
+    ghost use Rattle.std.specs.Prelude.{List};
     ghost use Rattle.amo_world.specs.declared.event.Event.{Event};
-    ghost use Rattle.amo_world.specs.World.{IsWorld};
+    ghost use Rattle.amo_world.specs.World.{Represents};
 
     ghost Value = { List Event };
 
-    ghost view = { λ w. reverse w.events.items };
+    ghost view = { λ w. w.log.history };
 
-    ghost invariant = { λ w. IsWorld w.streams.items w.emissions.stored.items w.emissions.order.items (reverse w.events.items) };
+    ghost invariant = { λ w. Represents w.streams.items w.log w.log.history };
 }
 
 impl World {
@@ -47,25 +44,22 @@ impl World {
     pub fn new(alloc: Global) -> Result<World, NoMemory>
         ensures { IfOk result (λ world. world ≡ []) }
     {
-        let Ok(mut streams) = Vec::with_capacity(alloc, STREAMS as usize) else {
-            return Err(NoMemory);
-        };
+        let mut streams = Vec::with_capacity(alloc, STREAMS as usize)?;
         for number in 1..=STREAMS {
-            let Ok(()) = streams.push(Sides::new(alloc, number)) else {
+            let Ok(()) = streams.push(KeptStream::new(alloc, number)) else {
                 return Err(NoMemory);
             };
         }
         Ok(World {
             alloc,
-            events: Vec::new(alloc),
             streams,
-            emissions: Emissions::new(alloc),
+            log: Log::new(alloc),
         })
     }
 
     /// Accepts an event of a stream of 1 to [`STREAMS`], if the history stays right, honest and fresh with it. Otherwise
-    /// the first fault is told: a wrong reply, an unsent packet, a repeated word. An event without a fault may still want
-    /// memory, and is accepted if it is handed in again when there is some.
+    /// the first fault is the answer: a wrong reply, an unsent packet, a repeated word. An event without a fault may still
+    /// find no memory, and is accepted if it is handed in again when there is some.
     pub fn apply(&mut self, event: Event) -> Result<(), WorldFault>
         requires { IsStream event.stream }
         ensures accepted { OnOk result (self.new ≡ event ∷ self.old) }
@@ -84,46 +78,59 @@ impl World {
         ensures unchanged { OnErr result (self.new ≡ self.old) }
     {
         self.judge(&event)?;
-        match self.accept(event) {
-            Ok(()) => Ok(()),
-            Err(AllocError) => Err(WorldFault::NoMemory),
-        }
+        self.commit(event)
     }
 
-    /// Looks for the first fault of an event.
+    /// Accepts the delivery, under a pass and a word, of the packet emitted that has this number: exactly as [`World::apply`]
+    /// does with that event. The number says that the packet was emitted, so it is not looked for; where none has this
+    /// number the answer is unsent.
+    pub fn apply_emitted(&mut self, pass: usize, number: usize, word: u64) -> Result<(), WorldFault>
+        ensures accepted { OnOk result (IfSome (slice_get (emissions self.old) number) (λ x. self.new ≡ delivery_of pass x word ∷ self.old)) }
+        ensures sound { OnOk result (IsRight self.new × IsHonest self.new × IsFresh self.new) }
+        ensures served { OnOk result ((number : ℕ) → IsServed number self.new) }
+        ensures wrong_reply { ¬ (IsErrOf result WorldFault.WrongReply) }
+        ensures unsent { IsErrOf result WorldFault.Unsent ↔ (slice_get (emissions self.old) number ≡ None) }
+        ensures repeat { IsErrOf result WorldFault.Repeat ↔ IsRepeat self.old pass word (slice_get (emissions self.old) number) }
+        ensures memory { IsErrOf result WorldFault.NoMemory → (¬ (IsRepeat self.old pass word (slice_get (emissions self.old) number))) }
+        ensures unchanged { OnErr result (self.new ≡ self.old) }
+    {
+        let Some(emission) = self.log.emitted(number) else {
+            return Err(WorldFault::Unsent);
+        };
+        let event = delivery(self.alloc, pass, emission, word)?;
+        self.commit(event)
+    }
+
+    /// Looks for a wrong reply, or for an unsent packet.
     fn judge(&self, event: &Event) -> Result<(), WorldFault>
         requires { IsStream event.now.stream }
-        ensures sound { OnOk result (HasRightReply self.now event.now × DeliversEmitted self.now event.now × UsesNewWord self.now event.now) }
+        ensures sound { OnOk result (HasRightReply self.now event.now × DeliversEmitted self.now event.now) }
         ensures fault { IfErr result (λ fault. Refuses self.now event.now fault) }
     {
-        let sides = &self.streams[event.stream as usize - 1];
-        if !sides.has_right_reply(event) {
+        let stream = &self.streams[event.stream as usize - 1];
+        if !stream.has_right_reply(event) {
             Err(WorldFault::WrongReply)
-        } else if !sides.delivers_emitted(event) {
+        } else if !stream.delivers_emitted(event, &self.log) {
             Err(WorldFault::Unsent)
-        } else if !sides.uses_new_word(event) {
-            Err(WorldFault::Repeat)
         } else {
             Ok(())
         }
     }
 
-    /// Adds an event that has no fault. Where memory runs out nothing has changed.
-    fn accept(&mut self, event: Event) -> Result<(), AllocError>
+    /// Adds an event with a right reply that delivers nothing unsent, unless it uses up a word again. All memory is taken
+    /// before the act is made; where it runs out, what was noted for the act is taken back.
+    fn commit(&mut self, event: Event) -> Result<(), WorldFault>
         requires stream { IsStream event.stream }
-        requires sound { HasRightReply self.old event × DeliversEmitted self.old event × UsesNewWord self.old event }
+        requires sound { HasRightReply self.old event × DeliversEmitted self.old event }
         ensures accepted { OnOk result (self.new ≡ event ∷ self.old) }
         ensures sound { OnOk result (IsRight self.new × IsHonest self.new × IsFresh self.new) }
+        ensures fault { IfErr result (λ fault. Refuses self.old event fault) }
         ensures unchanged { OnErr result (self.new ≡ self.old) }
     {
-        let act = event.act.clone()?;
-        self.events.reserve(1)?;
-        self.emissions.reserve()?;
-        let next = self.emissions.next_place();
-        let sides = &mut self.streams[event.stream as usize - 1];
-        let emitted = sides.make(self.alloc, event.side, act, next)?;
-        self.emissions.push(event.side, emitted);
-        let _ = self.events.push(event);
+        let stream = &mut self.streams[event.stream as usize - 1];
+        let emitted = stream.note(self.alloc, event.side, &event.act, &mut self.log)?;
+        self.log.push(&event, emitted);
+        stream.advance(event.side, event.act);
         Ok(())
     }
 
@@ -132,23 +139,38 @@ impl World {
         ensures value { result ≡ length self.now }
         ensures small { result < 2 ^ 63 }
     {
-        self.events.len()
+        self.log.event_count()
     }
 
     /// How many packets were emitted, over all streams.
     pub fn emission_count(&self) -> usize
         ensures { result ≡ length (emissions self.now) }
     {
-        self.emissions.count()
+        self.log.emission_count()
     }
 
     /// The packet emitted that has this number, counted from 0 over all streams, and the side that emitted it.
     pub fn emitted(&self, number: usize) -> Option<(End, Packet<'_>)>
         ensures value { option_map (λ e. record { side = e.0; packet = packet_of e.1 }) result ≡ slice_get (emissions self.now) number }
-        ensures fits { ForSome result (λ e. length (message_of (body_of e.1.body)) ≤ MAX_MESSAGE) }
+        ensures fits { ForSome result (λ e. CanBeWritten (body_of e.1.body)) }
         ensures stream { IfSome result (λ e. IsStream e.1.stream) }
     {
-        let emission = self.emissions.get(number)?;
+        let emission = self.log.emitted(number)?;
         Some((emission.side, emission.packet.as_packet()))
     }
+}
+
+/// The delivery of an emitted packet to the other side of its stream.
+fn delivery(alloc: Global, pass: usize, emission: &Emission, word: u64) -> Result<Event, WorldFault>
+    ensures event { IfOk result (λ event. event ≡ delivery_of pass emission.now word) }
+    ensures memory { IfErr result (λ fault. (fault ≡ WorldFault.NoMemory) × (¬ (CarriesNoBytes emission.now.packet.body))) }
+{
+    let packet = emission.packet.as_packet().copied(alloc)?;
+    Ok(Event {
+        pass,
+        side: emission.side.other(),
+        stream: packet.stream,
+        act: Act::Deliver(packet, word),
+        reply: Reply::Done,
+    })
 }

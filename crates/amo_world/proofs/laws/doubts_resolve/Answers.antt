@@ -1,4 +1,5 @@
-use Rattle.amo_world.proofs.Resolving.{resolves_before, start_resolves, all_kept}
+use Rattle.amo_world.proofs.Resolutions.{start_resolves, all_kept}
+use Rattle.amo_world.proofs.Resolving.{resolves_before}
 use Rattle.amo_world.proofs.Serving.{event_resolves}
 use Rattle.amo_world.proofs.laws.doubts_resolve.Goals as goal
 

@@ -1,10 +1,11 @@
-use Rattle.std.proofs.Common.{◌≡◌, ◌+◌, ◌++◌, ◌∷◌, ap, arith, rules, [], reverse}
+use Rattle.std.proofs.Common.{◌≡◌, ◌+◌, ◌++◌, ◌∷◌, ap, arith, rules, []}
 use Rattle.std.proofs.lemmas.List.{length_push}
 use Rattle.amo_world.proofs.Worlds.{new_world, new_streams}
 use Rattle.amo_world.proofs.world.World.new.Goals as goal
 
 pub invariant_of-result : goal.invariant_of-result
-invariant_of-result c = new_world _ _ _ _ (omega (arith, c.loop-number.invariant.count)) c.loop-number.invariant.new c.new-3.ensures.0 c.new-3.ensures.1 (ap reverse c.new-2.ensures.items)
+invariant_of-result c =
+    new_world _ _ _ (omega (arith, c.loop-number.invariant.count)) c.loop-number.invariant.new c.new-2.ensures.stored c.new-2.ensures.order c.new-2.ensures.events c.new-2.ensures.history
 
 pub loop-number-preserved : goal.loop-number-preserved
 loop-number-preserved c =
