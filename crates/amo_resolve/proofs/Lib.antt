@@ -1,0 +1,12 @@
+pub mod Answered
+pub mod Falls
+pub mod Following
+pub mod Lists
+pub mod Planning
+pub mod Serving
+pub mod Shapes
+pub mod Subsequences
+mod Losing
+mod Runs
+mod Telling
+mod Gathering

@@ -1,0 +1,185 @@
+-- Lists step by step.
+use Rattle.std.proofs.Common.{◌≡◌, ◌↔◌, ℕ, zero, suc, ◌+◌, ◌-◌, ◌<◌, ◌≤◌, ◌||◌, Bool, true, false, IsTrue, Option, Some, None, List, [], ◌∷◌, ◌++◌, length, map, take, drop, remove, get_or, refl, sym, ◌∙◌, ap, subst, inl, inr, append_assoc, arith}
+use Rattle.std.proofs.lemmas.List.{append-nil, take_more, drop_more, drop_all, take_all, get_or_default, get_or-drop, length-drop, length-take}
+use Rattle.std.proofs.lemmas.List.Elements.{filter_map-append}
+use Rattle.std.specs.Option.{option_to_list}
+use Rattle.amo_object.specs.declared.step.Step.{Step}
+use Rattle.amo_object.specs.declared.step.Step.TheVariants.{Put, Get, Ack, Crash, Recover, DownReply, Lose, LoseAck}
+use Rattle.amo_object.specs.Delivery.{message_got, messages_got, IsSubsequence}
+use Rattle.amo_resolve.specs.declared.plan.Note.{Note}
+use Rattle.amo_resolve.specs.Plan.{last, MarksDown, sender_after, receiver_after}
+use Rattle.amo_resolve.proofs.Subsequences.{subsequence-refl, subsequence-trans, subsequence-after, subsequence-longer, subsequence-last, subsequence-nil, length-subsequence, last-push}
+
+pub map_remove : {X Y : Type 0} (f : X → Y) (xs : List X) (i : ℕ) → map f (remove xs i) ≡ remove (map f xs) i
+map_remove f [] zero = refl
+map_remove f [] (suc i) = refl
+map_remove f (x ∷ xs) zero = refl
+map_remove f (x ∷ xs) (suc i) = ap (λ ys. f x ∷ ys) (map_remove f xs i)
+
+-- what one call more gets
+pub got_more : (calls : List Step) (i : ℕ) (d : Step) → i < length calls → messages_got (take (i + 1) calls) ≡ messages_got (take i calls) ++ messages_got (get_or calls i d ∷ [])
+got_more calls i d within = ap messages_got (take_more calls i d within) ∙ filter_map-append message_got (take i calls) (get_or calls i d ∷ [])
+
+got_of : (call : Step) (m : Option (List ℕ)) → message_got call ≡ m → messages_got (call ∷ []) ≡ option_to_list m
+got_of call m is = by call ∙ ap option_to_list is
+  where
+    by : (call : Step) → messages_got (call ∷ []) ≡ option_to_list (message_got call)
+    by (Put m) = refl
+    by (Get m) = refl
+    by (Ack answer) = refl
+    by (Crash side) = refl
+    by (Recover side) = refl
+    by (DownReply side) = refl
+    by (Lose place) = refl
+    by LoseAck = refl
+
+pub got_pushed : (calls : List Step) (i : ℕ) (call : Step) (m : Option (List ℕ)) (got : List (List ℕ)) → i < length calls → call ≡ get_or calls i call → message_got call ≡ m
+    → got ≡ messages_got (take i calls) → got ++ option_to_list m ≡ messages_got (take (i + 1) calls)
+got_pushed calls i call m got within is by so_far =
+    ap (λ (ys : List (List ℕ)). ys ++ option_to_list m) so_far
+    ∙ ap (λ (ys : List (List ℕ)). messages_got (take i calls) ++ ys) (sym (got_of call m by) ∙ ap (λ (x : Step). messages_got (x ∷ [])) is)
+    ∙ sym (got_more calls i call within)
+
+-- the first of some messages
+pub is_first : (xs : List (List ℕ)) (x m : List ℕ) → 0 < length xs → x ≡ get_or xs 0 x → x ≡ m → xs ≡ m ∷ remove xs 0
+is_first [] x m within is same = absurd (omega (arith, within))
+is_first (y ∷ xs) x m within is same = ap (λ (z : List ℕ). z ∷ xs) (sym is ∙ same)
+
+pub not_first : (xs : List (List ℕ)) (x m : List ℕ) (rest : List (List ℕ)) → x ≡ get_or xs 0 x → (x ≡ m → ⊥) → xs ≡ m ∷ rest → ⊥
+not_first xs x m rest is other whole = other (is ∙ ap (λ (ys : List (List ℕ)). get_or ys 0 x) whole)
+
+-- notes that mark the rest, with one more
+pub marks_more : (calls : List Step) (place : ℕ) (call : Step) (sender receiver : Bool) (items : List Note) (note : Note) → place < length calls → call ≡ get_or calls place call
+    → note.is_down ≡ sender_after sender call || receiver_after receiver call
+    → ((more : List Note) → MarksDown sender receiver (drop place calls) more → MarksDown false false calls (items ++ more))
+    → (more : List Note) → MarksDown (sender_after sender call) (receiver_after receiver call) (drop (place + 1) calls) more → MarksDown false false calls ((items ++ note ∷ []) ++ more)
+marks_more calls place call sender receiver items note within is down marks more rest =
+    subst (λ (notes : List Note). MarksDown false false calls notes) (sym (append_assoc items (note ∷ []) more))
+    (marks (note ∷ more) (subst (λ (steps : List Step). MarksDown sender receiver steps (note ∷ more)) (sym (drop_more calls place call within ∙ ap (λ (x : Step). x ∷ drop (place + 1) calls) (sym is))) (down, rest)))
+
+-- looking for a part of a list from the end on
+pub same_last : {X : Type 0} (xs ys : List X) (x : X) → IsSubsequence (xs ++ x ∷ []) (ys ++ x ∷ []) ↔ IsSubsequence xs ys
+same_last xs ys x = (forward, λ part. subsequence-after (x ∷ []) part)
+  where
+    forward : IsSubsequence (xs ++ x ∷ []) (ys ++ x ∷ []) → IsSubsequence xs ys
+    forward part = elim (subsequence-last xs x ys x part) [
+      | inl here ↦ here.1
+      | inr before ↦ subsequence-trans (subsequence-longer (x ∷ []) (subsequence-refl xs)) before
+    ]
+
+pub other_last : {X : Type 0} (xs ys : List X) (x y : X) → (x ≡ y → ⊥) → IsSubsequence (xs ++ x ∷ []) (ys ++ y ∷ []) ↔ IsSubsequence (xs ++ x ∷ []) ys
+other_last xs ys x y other = (forward, λ part. subsequence-longer (y ∷ []) part)
+  where
+    forward : IsSubsequence (xs ++ x ∷ []) (ys ++ y ∷ []) → IsSubsequence (xs ++ x ∷ []) ys
+    forward part = elim (subsequence-last xs x ys y part) [
+      | inl here ↦ absurd (other here.0)
+      | inr before ↦ before
+    ]
+
+-- a part of the messages got, and its last one
+pub part_more : (got : List (List ℕ)) (first end : ℕ) (x : List ℕ) → first < end → end ≤ length got → x ≡ get_or got (end - 1) x
+    → take (end - first) (drop first got) ≡ take (end - 1 - first) (drop first got) ++ x ∷ []
+part_more got first end x some within is =
+    let inside : end - 1 - first < length (drop first got) = omega (arith, length-drop first got) in
+    let at : get_or (drop first got) (end - 1 - first) x ≡ x =
+    get_or-drop first got (end - 1 - first) x ∙ ap (λ (n : ℕ). get_or got n x) (omega arith) ∙ sym is in
+    let count : end - first ≡ end - 1 - first + 1 = omega arith in
+    ap (λ (n : ℕ). take n (drop first got)) count ∙ take_more (drop first got) (end - 1 - first) x inside ∙ ap (λ (y : List ℕ). take (end - 1 - first) (drop first got) ++ y ∷ []) at
+
+-- notes that mark no calls more
+pub marks_all : (calls : List Step) (place : ℕ) (sender receiver : Bool) (items : List Note) → length calls ≤ place
+    → ((more : List Note) → MarksDown sender receiver (drop place calls) more → MarksDown false false calls (items ++ more)) → MarksDown false false calls items
+marks_all calls place sender receiver items end marks =
+    subst (λ (notes : List Note). MarksDown false false calls notes) (append-nil items)
+    (marks [] (subst (λ (steps : List Step). MarksDown sender receiver steps []) (sym (drop_all place calls end)) tt))
+
+-- how one call from the end is looked for
+pub none_left : (got self : List (List ℕ)) (first end place : ℕ) → first ≡ end
+    → IsSubsequence (take (end - first) (drop first got)) (take place self) ↔ IsSubsequence (take (end - first) (drop first got)) (take (place + 1) self)
+none_left got self first end place is =
+    let nothing : take (end - first) (drop first got) ≡ [] = ap (λ (n : ℕ). take n (drop first got)) {x = end - first} {y = 0} (omega (arith, is)) in (
+      λ part. subst (λ (xs : List (List ℕ)). IsSubsequence xs (take (place + 1) self)) (sym nothing) (subsequence-nil (take (place + 1) self)),
+      λ part. subst (λ (xs : List (List ℕ)). IsSubsequence xs (take place self)) (sym nothing) (subsequence-nil (take place self)),
+    )
+
+pub found : (got self : List (List ℕ)) (first end place : ℕ) (x y : List ℕ) → first < end → end ≤ length got → place < length self → x ≡ get_or got (end - 1) x → y ≡ get_or self place y → x ≡ y
+    → IsSubsequence (take (end - 1 - first) (drop first got)) (take place self) ↔ IsSubsequence (take (end - first) (drop first got)) (take (place + 1) self)
+found got self first end place x y some inside within at here same =
+    let few = part_more got first end x some inside at in
+    let many : take (place + 1) self ≡ take place self ++ x ∷ [] = take_more self place y within ∙ ap (λ (z : List ℕ). take place self ++ z ∷ []) (sym here ∙ sym same) in
+    let both = same_last (take (end - 1 - first) (drop first got)) (take place self) x in (
+      λ part. subst (λ (xs : List (List ℕ)). IsSubsequence xs (take (place + 1) self)) (sym few) (subst (λ (ys : List (List ℕ)). IsSubsequence (take (end - 1 - first) (drop first got) ++ x ∷ []) ys) (sym many) (both.1 part)),
+      λ part. both.0 (subst (λ (ys : List (List ℕ)). IsSubsequence (take (end - 1 - first) (drop first got) ++ x ∷ []) ys) many (subst (λ (xs : List (List ℕ)). IsSubsequence xs (take (place + 1) self)) few part)),
+    )
+
+pub not_found : (got self : List (List ℕ)) (first end place : ℕ) (x y : List ℕ) → first < end → end ≤ length got → place < length self → x ≡ get_or got (end - 1) x → y ≡ get_or self place y → (x ≡ y → ⊥)
+    → IsSubsequence (take (end - first) (drop first got)) (take place self) ↔ IsSubsequence (take (end - first) (drop first got)) (take (place + 1) self)
+not_found got self first end place x y some inside within at here other =
+    let few = part_more got first end x some inside at in
+    let many : take (place + 1) self ≡ take place self ++ y ∷ [] = take_more self place y within ∙ ap (λ (z : List ℕ). take place self ++ z ∷ []) (sym here) in
+    let both = other_last (take (end - 1 - first) (drop first got)) (take place self) x y other in (
+      λ part. subst (λ (xs : List (List ℕ)). IsSubsequence xs (take (place + 1) self)) (sym few) (subst (λ (ys : List (List ℕ)). IsSubsequence (take (end - 1 - first) (drop first got) ++ x ∷ []) ys) (sym many)
+          (both.1 (subst (λ (xs : List (List ℕ)). IsSubsequence xs (take place self)) few part))),
+      λ part. subst (λ (xs : List (List ℕ)). IsSubsequence xs (take place self)) (sym few)
+          (both.0 (subst (λ (ys : List (List ℕ)). IsSubsequence (take (end - 1 - first) (drop first got) ++ x ∷ []) ys) many (subst (λ (xs : List (List ℕ)). IsSubsequence xs (take (place + 1) self)) few part))),
+    )
+
+-- the last of a part of the messages got, and the last of others
+last_none : {X : Type 0} (xs : List X) → None ≡ last xs → xs ≡ []
+last_none [] e = refl
+last_none (x ∷ []) e = absurd cc
+last_none (x ∷ y ∷ xs) e = absurd (let none = last_none (y ∷ xs) e in cc)
+
+pub no_part_last : (got self : List (List ℕ)) (first end : ℕ) (P : Type 0) → first ≡ end → P ↔ (self ≡ []) → P ↔ (last (take (end - first) (drop first got)) ≡ last self)
+no_part_last got self first end P is empty =
+    let nothing : take (end - first) (drop first got) ≡ [] = ap (λ (n : ℕ). take n (drop first got)) {x = end - first} {y = 0} (omega (arith, is)) in
+    (λ p. ap last nothing ∙ ap last (sym (empty.0 p)), λ e. empty.1 (last_none self (sym (ap last nothing) ∙ e)))
+
+pub no_others_last : (got self : List (List ℕ)) (first end : ℕ) → first < end → end ≤ length got → self ≡ [] → last (take (end - first) (drop first got)) ≡ last self → ⊥
+no_others_last got self first end some inside empty e =
+    let x = get_or got (end - 1) [] in
+    let at : x ≡ get_or got (end - 1) x = get_or_default got (end - 1) [] x (omega (arith, some, inside)) in
+    let there = sym (last-push (take (end - 1 - first) (drop first got)) x) ∙ sym (ap last (part_more got first end x some inside at)) ∙ e ∙ ap last empty in cc
+
+pub whole_last : (self : List (List ℕ)) (place : ℕ) (y : List ℕ) → place + 1 ≡ length self → y ≡ get_or self place y → last self ≡ Some y
+whole_last self place y end at =
+    let whole : self ≡ take place self ++ y ∷ [] = sym (take_all (place + 1) self (omega (arith, end))) ∙ take_more self place y (omega (arith, end)) ∙ ap (λ (z : List ℕ). take place self ++ z ∷ []) (sym at) in
+    ap last whole ∙ last-push (take place self) y
+
+pub both_last : (got self : List (List ℕ)) (first end len : ℕ) (x y : List ℕ) (P : Type 0) → first < end → end ≤ length got → x ≡ get_or got (end - 1) x → 0 < len → len ≡ length self → y ≡ get_or self (len - 1) y
+    → P ↔ (x ≡ y) → P ↔ (last (take (end - first) (drop first got)) ≡ last self)
+both_last got self first end len x y P some inside at one is here same =
+    let few : last (take (end - first) (drop first got)) ≡ Some x = ap last (part_more got first end x some inside at) ∙ last-push (take (end - 1 - first) (drop first got)) x in
+    let many : last self ≡ Some y = whole_last self (len - 1) y (omega (arith, one, is)) here in
+    (λ p. few ∙ ap (λ (z : List ℕ). Some z) (same.0 p) ∙ sym many, λ e. same.1 (let equal = sym few ∙ e ∙ many in cc))
+
+-- what is false does not hold
+pub untrue : (b : Bool) → b ≡ false → b ≡ true → ⊥
+untrue true e holds = cc
+untrue false e holds = cc
+
+pub some_wait : (self : List (List ℕ)) (b : Bool) → b ≡ false → IsTrue b ↔ (self ≡ []) → 0 < length self
+some_wait [] b e empty = absurd (untrue b e (empty.1 refl))
+some_wait (x ∷ self) b e empty = omega arith
+
+-- one message more of those got
+pub part_pushed : (got : List (List ℕ)) (first place : ℕ) (x : List ℕ) → first ≤ place → place < length got → x ≡ get_or got place x
+    → take (place - first) (drop first got) ++ x ∷ [] ≡ take (place + 1 - first) (drop first got)
+part_pushed got first place x after within is =
+    let at : x ≡ get_or got (place + 1 - 1) x = is ∙ ap (λ (n : ℕ). get_or got n x) {x = place} {y = place + 1 - 1} (omega arith) in
+    ap (λ (n : ℕ). take n (drop first got) ++ x ∷ []) {x = place - first} {y = place + 1 - 1 - first} (omega arith)
+    ∙ sym (part_more got first (place + 1) x (omega (arith, after)) (omega (arith, within)) at)
+
+-- once all were looked for
+pub all_found : (got self : List (List ℕ)) (first left place end : ℕ) → first ≡ left → IsSubsequence (take (left - first) (drop first got)) (take place self) ↔ IsSubsequence (take (end - first) (drop first got)) self
+    → IsSubsequence (take (end - first) (drop first got)) self
+all_found got self first left place end is same =
+    let nothing : take (left - first) (drop first got) ≡ [] = ap (λ (n : ℕ). take n (drop first got)) {x = left - first} {y = 0} (omega (arith, is)) in
+    same.0 (subst (λ (xs : List (List ℕ)). IsSubsequence xs (take place self)) (sym nothing) (subsequence-nil (take place self)))
+
+pub some_missing : (got self : List (List ℕ)) (first left place end : ℕ) → first < left → left ≤ length got → place ≡ 0
+    → IsSubsequence (take (left - first) (drop first got)) (take place self) ↔ IsSubsequence (take (end - first) (drop first got)) self
+    → IsSubsequence (take (end - first) (drop first got)) self → ⊥
+some_missing got self first left place end some inside none same part =
+    let short = length-subsequence (same.1 part) in
+    omega (arith, short, some, inside, none, length-take (left - first) (drop first got), length-drop first got, length-take place self)

@@ -1,0 +1,37 @@
+use Rattle.std.proofs.Common.{◌≡◌, ◌+◌, ◌++◌, ◌∷◌, [], List, reverse, refl, sym, ◌∙◌, subst, arith, rules}
+use Rattle.amo_world.proofs.Worlds.{untrue}
+use Rattle.amo_object.specs.declared.step.Step.{Step}
+use Rattle.amo_world.specs.Served.{calls}
+use Rattle.amo_resolve.specs.declared.resolver.Run.{Run}
+use Rattle.amo_resolve.specs.Explanation.{Explains, IsExplained}
+use Rattle.amo_resolve.proofs.Gathering.{SoFar, nothing_yet, one_run_more, no_run_more, all_gathered, explained_calls}
+use Rattle.amo_resolve.proofs.resolver.runs_of.Goals as goal
+use Rattle.amo_resolve.proofs.resolver.runs_of.Goals.{then-is_named+in_ok-calls+in_ok-steps+in-Ok, else-is_named}
+
+pub loop-place-init : goal.loop-place-init
+loop-place-init c =
+    subst (λ (runs : List Run). SoFar runs c.args.events.now 0) (sym c.new-runs.ensures.items) (nothing_yet c.args.events.now c.requires.streams)
+
+pub explanation-requires : goal.explanation-requires
+explanation-requires c =
+    subst (λ (steps : List Step). IsExplained steps) (sym (c.as_slice.ensures.value ∙ c.in_ok-calls.ensures))
+    (explained_calls (c.loop-place.place + 1) (reverse c.args.events.now) c.requires.sound.0 c.requires.sound.1 c.requires.sound.2)
+
+pub loop-place-preserved : goal.loop-place-preserved
+loop-place-preserved c = elim c.if-is_named.branch [
+  | then-is_named+in_ok-calls+in_ok-steps+in-Ok w ↦ (
+      let run : Run = record { stream = c.loop-place.place + 1; steps = w.in_ok-steps.steps } in
+      let items : c.if-is_named.runs.items ≡ c.loop-place.runs.items ++ run ∷ [] = search rules in
+      let told : Explains w.in_ok-steps.steps.items (calls (c.loop-place.place + 1) (reverse c.args.events.now)) =
+      subst (λ (steps : List Step). Explains w.in_ok-steps.steps.items steps) (w.as_slice.ensures.value ∙ w.in_ok-calls.ensures) w.in_ok-steps.ensures in
+      subst (λ (runs : List Run). SoFar runs c.args.events.now (c.loop-place.place + 1)) (sym items)
+      (one_run_more c.loop-place.runs.items c.args.events.now c.loop-place.place run c.loop-place.invariant refl (c.is_named.ensures.0 w.if-is_named.true) told))
+  | else-is_named w ↦ (
+      let items : c.if-is_named.runs.items ≡ c.loop-place.runs.items = search rules in
+      subst (λ (runs : List Run). SoFar runs c.args.events.now (c.loop-place.place + 1)) (sym items)
+      (no_run_more c.loop-place.runs.items c.args.events.now c.loop-place.place c.loop-place.invariant (λ named. untrue _ w.if-is_named.false (c.is_named.ensures.1 named))))
+]
+
+pub returns : goal.returns
+returns c =
+    all_gathered c.loop-place.runs.items c.args.events.now c.loop-place.place c.loop-place.invariant (omega (arith, c.loop-place-test.false)) c.requires.streams

@@ -1,0 +1,5 @@
+pub mod Explanation
+pub mod Plan
+pub mod Telling
+pub mod Fault
+pub mod Resolved

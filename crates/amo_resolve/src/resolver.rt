@@ -1,0 +1,79 @@
+//! Runs of the queue for all streams of a history.
+ghost use Rattle.std.specs.Prelude.{◌≡◌, ◌↔◌, ℕ, IsTrue, IfOk, IfErr, OnOk, reverse};
+ghost use Rattle.std.specs.List.{All};
+ghost use Rattle.amo_world.specs.Stream.{IsStream};
+ghost use Rattle.amo_world.specs.History.{IsRight, IsHonest, IsFresh};
+ghost use Rattle.amo_resolve.specs.Fault.{IsFault};
+ghost use Rattle.amo_resolve.specs.Resolved.{IsNamed, IsResolved};
+ghost use Rattle.amo_resolve.specs.Explanation.{IsExplained, Explains};
+
+use crate::calls::calls_of;
+use crate::explanation::explain;
+use crate::judge::judge;
+use crate::{Event, NoMemory, ResolveFault, Step};
+use amo_world::STREAMS;
+use std::alloc::Global;
+
+/// A run of the queue that explains the calls of a stream.
+#[derive(Debug, Drop)]
+pub struct Run {
+    /// The stream.
+    pub stream: u32,
+    /// The steps, in the order of time.
+    pub steps: Vec<Step>,
+}
+
+/// Runs that explain a history, the events of which stand in the order of time: one for each stream that an event names,
+/// rising. Which of several runs is given is open. A stream that is named without a call has an empty run.
+///
+/// # Errors
+///
+/// The first event that a world refuses, by its place, and why; or memory was refused, and the caller may try again later.
+pub fn resolve(alloc: Global, events: &[Event]) -> Result<Vec<Run>, ResolveFault>
+    requires { All (λ e. IsStream e.stream) events.now }
+    ensures resolved { IfOk result (λ runs. IsResolved runs.items events.now) }
+    ensures sound { OnOk result (IsRight (reverse events.now) × IsHonest (reverse events.now) × IsFresh (reverse events.now)) }
+    ensures fault { IfErr result (λ fault. IsFault events.now fault) }
+{
+    judge(alloc, events)?;
+    Ok(runs_of(alloc, events)?)
+}
+
+/// Runs that explain a history that is right, honest and fresh.
+fn runs_of(alloc: Global, events: &[Event]) -> Result<Vec<Run>, NoMemory>
+    requires streams { All (λ e. IsStream e.stream) events.now }
+    requires sound { IsRight (reverse events.now) × IsHonest (reverse events.now) × IsFresh (reverse events.now) }
+    ensures { IfOk result (λ runs. IsResolved runs.items events.now) }
+{
+    let mut runs = Vec::new(alloc);
+    for place in 0..STREAMS {
+        let stream = place + 1;
+        if is_named(stream, events) {
+            let calls = calls_of(alloc, stream, events)?;
+            let steps = explanation(alloc, calls.as_slice())?;
+            match runs.push(Run { stream, steps }) {
+                Ok(()) => {}
+                Err(_) => return Err(NoMemory),
+            }
+        }
+    }
+    Ok(runs)
+}
+
+/// Whether an event names this stream.
+fn is_named(stream: u32, events: &[Event]) -> bool
+    ensures { IsTrue result ↔ IsNamed stream events.now }
+{
+    events.iter().any(|event| event.stream == stream)
+}
+
+/// A run that explains these calls, of which there is one.
+fn explanation(alloc: Global, calls: &[Step]) -> Result<Vec<Step>, NoMemory>
+    requires { IsExplained calls.now }
+    ensures { IfOk result (λ run. Explains run.items calls.now) }
+{
+    match explain(alloc, calls)? {
+        Some(steps) => Ok(steps),
+        None => unreachable!(),
+    }
+}
