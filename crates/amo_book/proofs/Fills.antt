@@ -1,0 +1,68 @@
+-- Lists that are filled one by one.
+use Rattle.std.proofs.Common.{◌≡◌, ℕ, zero, suc, ◌+◌, ◌<◌, ◌≤◌, List, [], ◌∷◌, ◌++◌, length, get_or, map, replicate, inl, inr, ◌⊎◌, ⊎_elim, slice_get, Some, refl, sym, ap, ◌∙◌, subst, arith, length-append}
+use Rattle.std.proofs.lemmas.Option.{slice_get_within}
+use mathlib.Core.Option.{some, some-injective, some-ne-none}
+use mathlib.Core.Logic.{dite}
+use native.Mathlib.Decide.{ℕ_discrete}
+use lib.ListN.{get_elem?}
+use Rattle.amo_book.specs.Book.{Each, Lists}
+
+module _ {A : Type 0} where
+  get-push-here : (l : List A) (x : A) → slice_get (l ++ x ∷ []) (length l) ≡ Some x
+  get-push-here [] x = refl
+  get-push-here (y ∷ ys) x = get-push-here ys x
+
+  get-push-before : (l : List A) (x : A) (k : ℕ) → k < length l → slice_get (l ++ x ∷ []) k ≡ slice_get l k
+  get-push-before [] x k h = absurd (omega arith)
+  get-push-before (y ∷ ys) x zero h = refl
+  get-push-before (y ∷ ys) x (suc k) h = get-push-before ys x k (omega arith)
+
+  -- an entry of a longer list is one of the list, or the last
+  pub get-push : (l : List A) (y x : A) (j : ℕ) → slice_get (l ++ y ∷ []) j ≡ Some x → (slice_get l j ≡ Some x) ⊎ ((j ≡ length l) × (y ≡ x))
+  get-push [] y x zero e = inr (refl, cc)
+  get-push [] y x (suc j) e = cc
+  get-push (z ∷ zs) y x zero e = inl e
+  get-push (z ∷ zs) y x (suc j) e = ⊎_elim (λ h. inl h) (λ (t : (j ≡ length zs) × (y ≡ x)). inr (ap suc t.0, t.1)) (get-push zs y x j e)
+
+  pub lists-none : (f : ℕ → A) → Lists f 0 []
+  lists-none f = (refl, λ k h. absurd (omega arith))
+
+  pub lists-more : (f : ℕ → A) (n : ℕ) (l : List A) (x : A) → x ≡ f n → Lists f n l → Lists f (n + 1) (l ++ x ∷ [])
+  lists-more f n l x is h = let long = h.0 in (
+    omega (arith, length-append l (x ∷ [])),
+    λ k lt. dite (ℕ_discrete k n)
+        (λ e. ap (slice_get (l ++ x ∷ [])) (e ∙ sym long) ∙ (get-push-here l x ∙ ap Some (is ∙ ap f (sym e))))
+        (λ ne. get-push-before l x k (omega arith) ∙ h.1 k (omega arith)),
+  )
+
+  pub to_elem : (l : List A) (k : ℕ) (x : A) → slice_get l k ≡ Some x → get_elem? l k ≡ some x
+  to_elem [] k x e = cc
+  to_elem (y ∷ ys) zero x e = ap some (cc)
+  to_elem (y ∷ ys) (suc k) x e = to_elem ys k x e
+
+  pub each-from : (P : A → Type 0) (l : List A) → ((k : ℕ) (x : A) → slice_get l k ≡ Some x → P x) → Each P l
+  each-from P [] h = tt
+  each-from P (y ∷ ys) h = (h 0 y refl, each-from P ys (λ k x e. h (suc k) x e))
+
+  pub lists-each : (P : A → Type 0) (f : ℕ → A) (n : ℕ) (l : List A) → ((k : ℕ) → P (f k)) → Lists f n l → Each P l
+  lists-each P f n l all h = each-from P l
+      (λ k x e. let lt = slice_get_within l k x e in let long = h.0 in let same = h.1 k (omega arith) in let is : f k ≡ x = cc in subst P is (all k))
+
+module _ {A B : Type 0} where
+  pub is_map : (f : B → A) (d : B) (l : List B) (xs : List A) → length xs ≡ length l
+      → ((j : ℕ) (x : A) → slice_get xs j ≡ Some x → x ≡ f (get_or l j d)) → xs ≡ map f l
+  is_map f d [] [] n h = refl
+  is_map f d [] (x ∷ xs) n h = absurd (omega arith)
+  is_map f d (y ∷ ys) [] n h = absurd (omega arith)
+  is_map f d (y ∷ ys) (x ∷ xs) n h = let first : x ≡ f y = h 0 x refl in let rest : xs ≡ map f ys = is_map f d ys xs (omega arith) (λ j z e. h (suc j) z e) in
+      λ i. first i ∷ rest i
+
+pub zeros : (n k : ℕ) → let l : List ℕ = replicate n 0 in get_or l k 0 ≡ 0
+zeros zero k = refl
+zeros (suc n) zero = refl
+zeros (suc n) (suc k) = zeros n k
+
+pub elem_index : (l : List ℕ) (i x : ℕ) → get_elem? l i ≡ some x → x ≡ get_or l i 0
+elem_index [] i x e = absurd (some-ne-none x (sym e))
+elem_index (y ∷ ys) zero x e = sym (some-injective y x e)
+elem_index (y ∷ ys) (suc i) x e = elem_index ys i x e

@@ -1,0 +1,11 @@
+pub mod Histories
+pub mod Seats
+pub mod Gates
+pub mod Counting
+pub mod Fills
+pub mod Gathers
+pub mod Indexing
+pub mod Replies
+pub mod Sharing
+pub mod Runs
+pub mod Ends

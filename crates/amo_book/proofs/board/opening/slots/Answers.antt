@@ -1,0 +1,22 @@
+use Rattle.std.proofs.Common.{◌≡◌, ◌+◌, [], Some, sym, ap, ◌∙◌, subst, arith}
+use Rattle.amo_core.specs.declared.automaton.Automaton.{Automaton}
+use Rattle.amo_book.specs.Book.{Lists}
+use Rattle.amo_book.specs.Rule.{Slot, first_slot}
+use Rattle.amo_book.proofs.Histories.{state_at-is}
+use Rattle.amo_book.proofs.Fills.{lists-none, lists-more}
+use Rattle.amo_book.proofs.board.opening.slots.Goals as goal
+
+pub loop-place-init : goal.loop-place-init
+loop-place-init c = let e = c.in_ok-slots.ensures.items in let room = c.in_ok-slots.ensures.capacity in
+    (subst (Lists (first_slot c.args.sides.now) 0) (sym e) (lists-none (first_slot c.args.sides.now)), room)
+
+abbrev slot_of : Automaton → Slot
+slot_of x = Some x
+
+pub loop-place-preserved : goal.loop-place-preserved
+loop-place-preserved c =
+    let e = c.push_reserved.ensures.items in
+    let room = c.push_reserved.ensures.capacity in
+    let was = c.loop-place.invariant.1 in
+    let is = ap slot_of (c.initial.ensures ∙ sym (state_at-is c.args.sides.now c.loop-place.place c.side_at-at.result.0 c.side_at-at.result.1 [] c.side_at-at.ensures)) in
+    (subst (Lists (first_slot c.args.sides.now) (c.loop-place.place + 1)) (sym e) (lists-more (first_slot c.args.sides.now) _ _ _ is c.loop-place.invariant.0), omega arith)

@@ -1,0 +1,37 @@
+use Rattle.std.proofs.Common.{◌≡◌, ◌∙◌, Some, slice_get, sym, ap, subst}
+use Rattle.amo_core.specs.declared.act.Act.{Act}
+use Rattle.amo_core.specs.declared.automaton.Automaton.{Automaton}
+use Rattle.amo_core.specs.declared.reply.Reply.TheVariants as reply
+use Rattle.amo_core.specs.Automaton.{mode_of}
+use Rattle.amo_book.specs.Pass.{PassState, event}
+use Rattle.amo_book.specs.Charge.{ChargeState}
+use Rattle.amo_book.specs.Book.{BookState}
+use Rattle.amo_book.specs.Drive.{Driven}
+use Rattle.amo_book.specs.Steps.{Made}
+use Rattle.amo_book.proofs.Runs.{pass_of, charge_of, driven_by}
+use Rattle.amo_book.proofs.book.Book.drive.Goals as goal
+
+pub settle-position-requires-clause-place : goal.settle-position-requires-clause-place
+settle-position-requires-clause-place c =
+    subst (λ (z : BookState × ChargeState). slice_get z.0.sides z.1.place ≡ Some (z.1.side, z.1.stream)) (λ i. (sym c.self.view_is i, sym c.charge.view_is i))
+    c.requires.book.1.1
+
+pub returns-clause-driven : goal.returns-clause-driven
+returns-clause-driven c =
+    let taken = c.in-Some.ensures.taken in
+    let p = c.pass.inside in
+    let h = c.charge.inside in
+    let made = c.settle-position.ensures.made c.in-Some.automaton p.seat.me c.pass.invariant taken.0 in
+    let made' : Made p.number p.seat.me c.settle-position.new.seat.me (event p.number h.side h.stream c.args.act reply.Done) c.in-Some.automaton c.settle-position.result =
+    subst (λ (a : Act). Made p.number p.seat.me c.settle-position.new.seat.me (event p.number h.side h.stream a reply.Done) c.in-Some.automaton c.settle-position.result)
+    c.of-told.ensures made in
+    let now : PassState = pass_of c.settle-position.new.seat.table_id p.number c.settle-position.new.seat.me in
+    let then : ChargeState = charge_of h.seat.table_id h.place h.side h.stream c.mode-kind.result in
+    subst (λ (z : PassState × ChargeState). Driven z.0 now z.1 then c.args.act c.args.out.now c.step-length.new.buffer
+    (record { position = c.settle-position.result; length = c.step-length.result.length; mode = c.mode-kind.result }))
+    (λ i. (c.pass.view_is i, c.charge.view_is i))
+    (driven_by _ _ p.number p.seat.me c.settle-position.new.seat.me h.seat.table_id h.place h.side h.stream h.mode c.mode-kind.result c.args.act
+    c.in-Some.automaton c.settle-position.result c.args.out.now c.step-length.new.buffer c.step-length.result.length
+    (c.settle-position.ensures.same.0 ∙ c.take.ensures.same.0) made' c.step-length.ensures.emitted
+    (c.mode-kind.ensures ∙ ap mode_of c.step-length.ensures.state)
+    (λ is. c.is_as_held.ensures c.if-not-is_as_held.false is))

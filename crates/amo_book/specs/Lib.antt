@@ -1,0 +1,11 @@
+pub mod Book
+pub mod Calls
+pub mod Charge
+pub mod Closed
+pub mod Drive
+pub mod Fault
+pub mod Index
+pub mod Pass
+pub mod Plays
+pub mod Rule
+pub mod Steps

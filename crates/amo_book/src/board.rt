@@ -1,0 +1,203 @@
+//! The table of a book, and the steps of its calls.
+//! Word 0 is the count. Word `place + 1` is the gate of the side at that place, and the slot `place` its automaton.
+ghost use Rattle.std.specs.Prelude.{◌≡◌, ◌≢◌, ℕ, List, ◌+◌, ◌%◌, ◌^◌, ◌<◌, true, false, [], ◌∷◌, length, Some, None, IfSome, IfNone, slice_get};
+ghost use Rattle.amo_core.specs.declared.automaton.Automaton.{Automaton};
+ghost use Rattle.amo_core.specs.Automaton.{row};
+ghost use Rattle.amo_world.specs.declared.event.Event.{Event};
+ghost use Rattle.amo_book.specs.Pass.{event};
+ghost use Rattle.amo_book.specs.Rule.{share};
+ghost use Rattle.amo_book.specs.Plays.{Sat, IsAtRest, Took, Looks, Counts, view, witness, joined};
+ghost use Rattle.amo_book.specs.Steps.{IsSame, IsPass, IsStateOf, Made, holding, released};
+ghost use Rattle.amo_book.specs.Book.{Apart};
+
+use crate::plays::{Count, Counted, Free, Gather, Law, Look, Tried, Try, Witness};
+use crate::view::{Setup, View};
+use amo_core::{Act, Automaton, Reply};
+use amo_object::End;
+use atomic_table::{Seat, Table};
+use std::alloc::Global;
+use std::marker::Brand;
+use std::snapshot::Snapshot;
+
+mod closing;
+mod opening;
+
+/// A token of the table: what a pass or a charge steps with.
+pub type Chair = Seat<Option<Automaton>, View>;
+
+/// The table, with what it was made of.
+#[derive(Drop)]
+pub struct Board {
+    pub table: Table<Option<Automaton>, View, Setup, Law, Global>,
+    pub setup: Setup,
+    pub ghost keyed: { table.shared.key ≡ setup },
+    pub ghost sized: { (table.shared.table_id.words ≡ length setup.sides.items + 1) × (table.shared.table_id.slots ≡ length setup.sides.items) },
+    pub ghost apart: { Apart setup.sides.items },
+}
+
+// The six kinds of atomic step.
+impl Board {
+    /// Loads the count: the seat has then seen all that it had met.
+    pub fn look(&self, seat: &mut Chair) -> u64
+        requires { seat.old.table_id ≡ self.now.table.shared.table_id }
+        ensures same { IsSame seat.old seat.new }
+        ensures looks { Looks seat.old.me seat.new.me result }
+    {
+        self.table.shared.load::<Look>(seat, 0)
+    }
+
+    /// Tries the gate of a side once.
+    fn try_gate<E: Tried>(&self, seat: &mut Chair, place: usize, side: End, stream: u32) -> bool
+        requires own { seat.old.table_id ≡ self.now.table.shared.table_id }
+        requires place { slice_get self.now.setup.sides.items place ≡ Some (side, stream) }
+        requires side { (E.side ≡ side) × (E.stream ≡ stream) }
+        requires rests { IsAtRest seat.old.me }
+        ensures same { IsSame seat.old seat.new }
+        ensures won { result ≡ true → Took E.side E.stream place seat.old.me seat.new.me }
+        ensures lost { result ≡ false → seat.new.me ≡ seat.old.me }
+    {
+        let _ = side;
+        let _ = stream;
+        self.table
+            .shared
+            .compare_exchange::<Try<E>>(seat, place + 1, 0, 1)
+            == 0
+    }
+
+    /// Moves the automaton out of its slot.
+    fn take_state(&self, seat: &mut Chair, place: usize) -> Automaton
+        requires own { seat.old.table_id ≡ self.now.table.shared.table_id }
+        requires held { (x : Automaton) × (seat.old.me.1 ≡ (place, Some x) ∷ []) }
+        ensures same { IsSame seat.old seat.new }
+        ensures moved { (seat.old.me.1 ≡ (place, Some result) ∷ []) × (seat.new.me ≡ (seat.old.me.0, (place, None) ∷ [])) }
+    {
+        self.table.shared.exchange(seat, place, None).unwrap()
+    }
+
+    /// Adds the event to the history, and 1 to the count.
+    fn count<E: Counted>(
+        &self,
+        seat: &mut Chair,
+        pass: usize,
+        place: usize,
+        side: End,
+        stream: u32,
+        act: &Snapshot<Act>,
+        reply: &Reply,
+    ) -> u64
+        requires own { seat.old.table_id ≡ self.now.table.shared.table_id }
+        requires place { slice_get self.now.setup.sides.items place ≡ Some (side, stream) }
+        requires event { E.event ≡ event pass side stream act.now.value reply.now }
+        requires held { (x : Automaton) × (made : List Event) × (seat.old.me.0.held ≡ Some (place, x)) × (seat.old.me.0.shares ≡ share pass made ∷ []) × ((row x act.now.value).reply ≡ Some reply.now) }
+        ensures same { IsSame seat.old seat.new }
+        ensures counts { Counts E.event seat.old.me seat.new.me result }
+    {
+        self.table.shared.fetch_add::<Count<E>>(seat, 0, 1)
+    }
+
+    /// Moves the automaton back into its slot.
+    fn give_state(&self, seat: &mut Chair, place: usize, state: Automaton)
+        requires own { seat.old.table_id ≡ self.now.table.shared.table_id }
+        requires held { seat.old.me.1 ≡ (place, None) ∷ [] }
+        ensures same { IsSame seat.old seat.new }
+        ensures moved { seat.new.me ≡ (seat.old.me.0, (place, Some state) ∷ []) }
+    {
+        drop(self.table.shared.exchange(seat, place, Some(state)));
+    }
+
+    /// Opens the gate.
+    fn free_gate(&self, seat: &mut Chair, place: usize)
+        requires own { seat.old.table_id ≡ self.now.table.shared.table_id }
+        requires place { place < length self.now.setup.sides.items }
+        requires held { (x : Automaton) × (seat.old.me.1 ≡ (place, Some x) ∷ []) × (seat.old.me.0.held ≡ Some (place, x)) }
+        ensures same { IsSame seat.old seat.new }
+        ensures freed { seat.new.me ≡ (view seat.old.me.0.seen seat.old.me.0.met seat.old.me.0.shares None, []) }
+    {
+        self.table.shared.store::<Free>(seat, place + 1, 0);
+    }
+}
+
+// What the calls are made of.
+impl Board {
+    /// Takes the automaton of a side, if its gate is free.
+    pub fn take(&self, seat: &mut Chair, place: usize, side: End, stream: u32) -> Option<Automaton>
+        requires own { seat.old.table_id ≡ self.now.table.shared.table_id }
+        requires place { slice_get self.now.setup.sides.items place ≡ Some (side, stream) }
+        requires rests { IsAtRest seat.old.me }
+        ensures same { IsSame seat.old seat.new }
+        ensures taken { IfSome result (λ x. (seat.new.me ≡ holding place x seat.old.me) × IsStateOf side stream x) }
+        ensures busy { IfNone result (seat.new.me ≡ seat.old.me) }
+    {
+        if !self.try_gate::<Brand>(seat, place, side, stream) {
+            return None;
+        }
+        Some(self.take_state(seat, place))
+    }
+
+    /// Gives the automaton home, and opens the gate.
+    pub fn put_back(&self, seat: &mut Chair, place: usize, state: Automaton)
+        requires own { seat.old.table_id ≡ self.now.table.shared.table_id }
+        requires place { place < length self.now.setup.sides.items }
+        requires held { (seat.old.me.1 ≡ (place, None) ∷ []) × (seat.old.me.0.held ≡ Some (place, state)) }
+        ensures same { IsSame seat.old seat.new }
+        ensures released { seat.new.me ≡ released seat.old.me.0 }
+    {
+        self.give_state(seat, place, state);
+        self.free_gate(seat, place);
+    }
+
+    /// Makes the event of an act that the automaton has done, and gives it home. The answer is the event's position.
+    pub fn settle(
+        &self,
+        seat: &mut Chair,
+        pass: usize,
+        place: usize,
+        side: End,
+        stream: u32,
+        act: &Snapshot<Act>,
+        reply: &Reply,
+        state: Automaton,
+    ) -> u64
+        requires own { seat.old.table_id ≡ self.now.table.shared.table_id }
+        requires place { slice_get self.now.setup.sides.items place ≡ Some (side, stream) }
+        requires held { (x : Automaton) × (m : Sat) × IsPass pass m × (seat.old.me ≡ holding place x m)
+            × (state ≡ (row x act.now.value).state) × ((row x act.now.value).reply ≡ Some reply.now) }
+        ensures same { IsSame seat.old seat.new }
+        ensures rests { IsPass pass seat.new.me }
+        ensures made { (x : Automaton) (m : Sat) → IsPass pass m → seat.old.me ≡ holding place x m
+            → Made pass m seat.new.me (event pass side stream act.now.value reply.now) x result }
+    {
+        let position = self.count::<Brand>(seat, pass, place, side, stream, act, reply);
+        self.put_back(seat, place, state);
+        position
+    }
+
+    /// The seat looks, and has then seen all that the other had seen too.
+    pub fn learn(&self, seat: &mut Chair, other: &mut Chair)
+        requires { (seat.old.table_id ≡ self.now.table.shared.table_id) × (other.old.table_id ≡ self.now.table.shared.table_id) }
+        ensures same { IsSame seat.old seat.new × IsSame other.old other.new × (other.new.me ≡ other.old.me) }
+        ensures looks { (r : ℕ) × Looks (joined seat.old.me.0 (witness other.old.me.0), seat.old.me.1) seat.new.me r }
+    {
+        let note = self.witness(other);
+        self.join(seat, note);
+        self.look(seat);
+    }
+
+    /// A seat that has seen what this one has.
+    pub fn witness(&self, seat: &mut Chair) -> Chair
+        requires own { seat.old.table_id ≡ self.now.table.shared.table_id }
+        ensures same { IsSame seat.old seat.new × (seat.new.me ≡ seat.old.me) }
+        ensures witness { (result.table_id ≡ seat.old.table_id) × (result.me ≡ (witness seat.old.me.0, [])) }
+    {
+        self.table.shared.split_seat::<Witness>(seat)
+    }
+
+    /// The seat takes in another's shares, and meets what it had seen.
+    pub fn join(&self, seat: &mut Chair, other: Chair)
+        requires own { (seat.old.table_id ≡ self.now.table.shared.table_id) × (other.table_id ≡ self.now.table.shared.table_id) }
+        requires rests { (other.me.1 ≡ []) × (other.me.0.held ≡ None) }
+        ensures same { IsSame seat.old seat.new × (seat.new.me ≡ (joined seat.old.me.0 other.me.0, seat.old.me.1)) }
+    {
+        self.table.shared.join_seat::<Gather>(seat, other);
+    }
+}

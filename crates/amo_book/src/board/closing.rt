@@ -1,0 +1,54 @@
+//! How the seats come back, and the table ends.
+ghost use Rattle.std.specs.Prelude.{◌≡◌, ◌<◌, ◌≤◌, [], length, None, vec_capacity};
+ghost use Rattle.amo_book.specs.Rule.{HasAll};
+ghost use Rattle.amo_book.specs.Book.{Each};
+ghost use Rattle.amo_book.specs.Closed.{IsOf, HasTaken, Ends};
+
+use super::{Board, Chair};
+use crate::pass::Pass;
+use amo_core::Automaton;
+
+impl Board {
+    /// One seat with the shares of all these passes, which has seen all that they had seen.
+    pub fn gather(&self, passes: Vec<Pass>) -> Chair
+        requires some { 0 < length passes.items }
+        requires own { Each (IsOf self.now.table.shared.table_id) passes.items }
+        ensures same { (result.table_id ≡ self.now.table.shared.table_id) × (result.me.1 ≡ []) × (result.me.0.held ≡ None) }
+        ensures all { Each (HasTaken result.me.0) passes.items }
+    {
+        let mut passes = passes;
+        let Some(first) = passes.pop() else {
+            unreachable!()
+        };
+        let Pass {
+            number: _,
+            seat: mut root,
+        } = first;
+        while let Some(pass) = passes.pop() {
+            let Pass { number: _, seat } = pass;
+            self.join(&mut root, seat);
+            self.look(&mut root);
+        }
+        root
+    }
+
+    /// The last count, and the last states, put into the room for them.
+    pub fn end(self, root: Chair, room: Vec<Automaton>) -> (u64, Vec<Automaton>)
+        requires own { (root.table_id ≡ self.table.shared.table_id) × HasAll self.setup.passes root.me.0 }
+        requires room { (room.items ≡ []) × (length self.setup.sides.items ≤ vec_capacity room) }
+        ensures { Ends self.setup.sides.items self.setup.passes root.me.0 result.0 result.1.items }
+    {
+        let Board { table, setup } = self;
+        let mut lasts = room;
+        let mut closed = table.close_with(root);
+        let count = closed.word(0);
+        for place in 0..setup.sides.len() {
+            let Some(state) = closed.take(place) else {
+                unreachable!()
+            };
+            lasts.push_reserved(state);
+        }
+        closed.free();
+        (count, lasts)
+    }
+}

@@ -1,0 +1,107 @@
+//! How the table is made, and dealt out.
+ghost use Rattle.std.specs.Prelude.{◌≡◌, ◌+◌, ◌≤◌, [], ◌∷◌, IfOk, None, length, vec_capacity};
+ghost use Rattle.amo_book.specs.Pass.{automaton_after};
+ghost use Rattle.amo_book.specs.Rule.{fresh, first_view, first_slot, share};
+ghost use Rattle.amo_book.specs.Plays.{view};
+ghost use Rattle.amo_book.specs.Steps.{IsSame};
+ghost use Rattle.amo_book.specs.Book.{Apart, AreLawful, Lists, AreFirstCharges, first_pass};
+
+use super::{Board, Chair};
+use crate::index::side_at;
+use crate::plays::Deal;
+use crate::view::Setup;
+use crate::{Charge, Pass};
+use amo_core::{Automaton, Mode, Receiver, Sender};
+use amo_object::End;
+use atomic_table::{Refused, Table};
+use std::alloc::{AllocError, Global};
+
+/// The automaton of a side at which nothing happened yet.
+fn initial(at: (End, u32)) -> Automaton
+    ensures { result ≡ automaton_after at.0 at.1 [] }
+{
+    let (side, stream) = at;
+    match side {
+        End::Sender => Automaton::Sender(Sender::new(stream)),
+        End::Receiver => Automaton::Receiver(Receiver::new(stream)),
+    }
+}
+
+/// What the slots hold at first: each side's automaton.
+fn slots(alloc: Global, sides: &[(End, u32)]) -> Result<Vec<Option<Automaton>>, AllocError>
+    ensures { IfOk result (λ slots. Lists (first_slot sides.now) (length sides.now) slots.items) }
+{
+    let n = sides.len();
+    let mut slots = Vec::with_capacity(alloc, n)?;
+    for place in 0..n {
+        let at = side_at(sides, place);
+        slots.push_reserved(Some(initial(at)));
+    }
+    Ok(slots)
+}
+
+impl Board {
+    /// The board, and the seat that has the share of every pass.
+    pub fn open(alloc: Global, setup: Setup) -> Result<(Board, Chair), AllocError>
+        requires { Apart setup.sides.items }
+        ensures { IfOk result (λ t. (t.0.setup ≡ setup) × (t.1.table_id ≡ t.0.table.shared.table_id) × (t.1.me ≡ (first_view setup.passes, []))) }
+    {
+        let slots = slots(alloc, setup.sides.as_slice())?;
+        let words = vec![in alloc; 0u64; setup.sides.len() + 1]?;
+        match Table::new(alloc, words.as_slice(), slots, &setup) {
+            Ok((table, seat)) => Ok((Board { table, setup }, seat)),
+            Err(Refused { slots: _ }) => Err(AllocError),
+        }
+    }
+
+    /// Deals the passes, in the order of their numbers, into the room for them.
+    pub fn deal_passes(&self, root: &mut Chair, passes: &mut Vec<Pass>)
+        requires own { root.old.table_id ≡ self.now.table.shared.table_id }
+        requires fresh { root.old.me ≡ (first_view self.now.setup.passes, []) }
+        requires room { (passes.old.items ≡ []) × (self.now.setup.passes ≤ vec_capacity passes.old) }
+        ensures same { IsSame root.old root.new }
+        ensures dealt { Lists (first_pass self.now.table.shared.table_id) self.now.setup.passes passes.new.items }
+    {
+        for number in 0..self.setup.passes {
+            let seat = self.deal(root, number, self.setup.passes - number - 1);
+            passes.push_reserved(Pass { number, seat });
+        }
+    }
+
+    /// Deals the charges, in the order of the sides, into the room for them.
+    pub fn deal_charges(&self, root: &mut Chair, charges: &mut Vec<Charge>)
+        requires own { root.old.table_id ≡ self.now.table.shared.table_id }
+        requires room { (charges.old.items ≡ []) × (length self.now.setup.sides.items ≤ vec_capacity charges.old) }
+        requires streams { AreLawful self.now.setup.sides.items }
+        ensures same { IsSame root.old root.new }
+        ensures dealt { AreFirstCharges self.now.table.shared.table_id self.now.setup.sides.items charges.new.items }
+    {
+        for place in 0..self.setup.sides.len() {
+            let (side, stream) = side_at(self.setup.sides.as_slice(), place);
+            let mode = match side {
+                End::Sender => Mode::Quiet,
+                End::Receiver => Mode::Idle,
+            };
+            let seat = self.witness(root);
+            charges.push_reserved(Charge {
+                place,
+                side,
+                stream,
+                mode,
+                seat,
+            });
+        }
+    }
+
+    /// The first share that the opening's seat has left, in a seat of its own.
+    fn deal(&self, seat: &mut Chair, pass: usize, left: usize) -> Chair
+        requires own { seat.old.table_id ≡ self.now.table.shared.table_id }
+        requires fresh { seat.old.me ≡ (view [] [] (fresh pass (left + 1)) None, []) }
+        ensures same { IsSame seat.old seat.new × (seat.new.me ≡ (view [] [] (fresh (pass + 1) left) None, [])) }
+        ensures dealt { (result.table_id ≡ seat.old.table_id) × (result.me ≡ (view [] [] (share pass [] ∷ []) None, [])) }
+    {
+        let _ = left;
+        let _ = pass;
+        self.table.shared.split_seat::<Deal>(seat)
+    }
+}

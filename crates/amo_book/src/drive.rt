@@ -1,0 +1,178 @@
+//! The acts of hosts: each drives the side of a charge.
+ghost use Rattle.std.specs.Prelude.{◌≡◌, Some, true, IfOk, IfErr, IsErrOf};
+ghost use Rattle.amo_object.specs.declared.step.End.TheVariants as end_of;
+ghost use Rattle.amo_packet.specs.Packet.{packet_of, body_of};
+ghost use Rattle.amo_packet.specs.Grammar.{CanBeWritten, CarriesNoBytes};
+ghost use Rattle.amo_core.specs.declared.act.Act.TheVariants as act;
+ghost use Rattle.amo_core.specs.declared.reply.Reply.TheVariants as reply;
+ghost use Rattle.amo_core.specs.declared.automaton.Automaton.{Automaton};
+ghost use Rattle.amo_core.specs.Automaton.{row, mode_of};
+ghost use Rattle.amo_world.specs.History.{IsRight};
+ghost use Rattle.amo_book.specs.Charge.{IsChargeOf};
+ghost use Rattle.amo_book.specs.Steps.{IsStateOf};
+ghost use Rattle.amo_book.specs.Drive.{Driven, DrivenSilently, Unchanged};
+
+use crate::{Book, Charge, DriveFault, Pass};
+use amo_core::{Act, Automaton, Mode, Outcome, Reply};
+use amo_object::End;
+use amo_packet::{MAX_PACKET, MessageFault, Packet};
+use std::alloc::Global;
+use std::snapshot::Snapshot;
+
+/// What an act of a host did.
+#[derive(Clone, Copy, Debug, PartialEq, Eq)]
+pub struct Done {
+    /// The event's place in the history, from 0 and modulo 2^64.
+    pub position: u64,
+    /// How many bytes at the front of the buffer are the emitted packet, or none where nothing is emitted.
+    pub length: Option<usize>,
+    /// The kind of the side's mode after the event.
+    pub mode: Mode,
+}
+
+impl Book {
+    /// Begins a handshake under a word, if the sender is at rest and a message waits.
+    #[tactic(auto, using(crate::proofs::Replies::start_known))]
+    pub fn start(
+        &self,
+        pass: &mut Pass,
+        charge: &mut Charge,
+        word: u64,
+        out: &mut [u8; MAX_PACKET],
+    ) -> Result<Done, DriveFault>
+        requires book { (pass.old.book ≡ self.now.id) × IsChargeOf self.now.id self.now.sides charge.old }
+        requires sender { charge.old.side ≡ end_of.Sender }
+        ensures driven { IfOk result (Driven pass.old pass.new charge.old charge.new (act.Start word) out.old out.new) }
+        ensures right { IsRight pass.new.seen }
+        ensures busy { IfErr result (λ fault. (fault ≡ DriveFault.Busy) × Unchanged pass.old pass.new charge.old charge.new out.old out.new) }
+    {
+        self.drive(pass, charge, Act::Start(word), out)
+    }
+
+    /// Emits the packet of the mode, if it has one.
+    #[tactic(auto, using(crate::proofs::Replies::resend_known))]
+    pub fn resend(
+        &self,
+        pass: &mut Pass,
+        charge: &mut Charge,
+        out: &mut [u8; MAX_PACKET],
+    ) -> Result<Done, DriveFault>
+        requires book { (pass.old.book ≡ self.now.id) × IsChargeOf self.now.id self.now.sides charge.old }
+        ensures driven { IfOk result (Driven pass.old pass.new charge.old charge.new act.Resend out.old out.new) }
+        ensures right { IsRight pass.new.seen }
+        ensures busy { IfErr result (λ fault. (fault ≡ DriveFault.Busy) × Unchanged pass.old pass.new charge.old charge.new out.old out.new) }
+    {
+        self.drive(pass, charge, Act::Resend, out)
+    }
+
+    /// Delivers a packet of the charge's stream, with the word for an accept. Memory is asked for only where the packet carries a byte,
+    /// and before anything happens.
+    #[tactic(auto, using(crate::proofs::Replies::deliver_known))]
+    pub fn deliver(
+        &self,
+        alloc: Global,
+        pass: &mut Pass,
+        charge: &mut Charge,
+        packet: &Packet<'_>,
+        word: u64,
+        out: &mut [u8; MAX_PACKET],
+    ) -> Result<Done, DriveFault>
+        requires book { (pass.old.book ≡ self.now.id) × IsChargeOf self.now.id self.now.sides charge.old }
+        requires stream { packet.now.stream ≡ charge.old.stream }
+        requires fits { CanBeWritten (body_of packet.now.body) }
+        ensures driven { IfOk result (Driven pass.old pass.new charge.old charge.new (act.Deliver (packet_of packet.now) word) out.old out.new) }
+        ensures right { IsRight pass.new.seen }
+        ensures refused { IfErr result (λ fault. Unchanged pass.old pass.new charge.old charge.new out.old out.new) }
+        ensures memory { IsErrOf result DriveFault.NoMemory → ¬ (CarriesNoBytes (body_of packet.now.body)) }
+    {
+        let _number = pass.number;
+        let owned = match packet.to_owned(alloc) {
+            Ok(owned) => owned,
+            Err(MessageFault::NoMemory) => return Err(DriveFault::NoMemory),
+            Err(MessageFault::TooLong) => unreachable!(),
+        };
+        self.drive(pass, charge, Act::Deliver(owned, word), out)
+    }
+
+    /// The side's host goes down, and forgets everything.
+    #[tactic(auto, using(crate::proofs::Replies::crash_known))]
+    pub fn crash(&self, pass: &mut Pass, charge: &mut Charge) -> Result<Done, DriveFault>
+        requires book { (pass.old.book ≡ self.now.id) × IsChargeOf self.now.id self.now.sides charge.old }
+        ensures driven { IfOk result (DrivenSilently pass.old pass.new charge.old charge.new act.Crash) }
+        ensures right { IsRight pass.new.seen }
+        ensures busy { IfErr result (λ fault. (fault ≡ DriveFault.Busy) × (pass.new ≡ pass.old) × (charge.new ≡ charge.old)) }
+    {
+        let mut out = [0; MAX_PACKET];
+        self.drive(pass, charge, Act::Crash, &mut out)
+    }
+
+    /// The side's host is up again.
+    #[tactic(auto, using(crate::proofs::Replies::recover_known))]
+    pub fn recover(&self, pass: &mut Pass, charge: &mut Charge) -> Result<Done, DriveFault>
+        requires book { (pass.old.book ≡ self.now.id) × IsChargeOf self.now.id self.now.sides charge.old }
+        ensures driven { IfOk result (DrivenSilently pass.old pass.new charge.old charge.new act.Recover) }
+        ensures right { IsRight pass.new.seen }
+        ensures busy { IfErr result (λ fault. (fault ≡ DriveFault.Busy) × (pass.new ≡ pass.old) × (charge.new ≡ charge.old)) }
+    {
+        let mut out = [0; MAX_PACKET];
+        self.drive(pass, charge, Act::Recover, &mut out)
+    }
+
+    /// One act on the charge's side, which has it, if its gate is free.
+    fn drive(
+        &self,
+        pass: &mut Pass,
+        charge: &mut Charge,
+        act: Act,
+        out: &mut [u8; MAX_PACKET],
+    ) -> Result<Done, DriveFault>
+        requires book { (pass.old.book ≡ self.now.id) × IsChargeOf self.now.id self.now.sides charge.old }
+        requires known { (x : Automaton) → IsStateOf charge.old.side charge.old.stream x → (row x act).reply ≡ Some reply.Done }
+        ensures driven { IfOk result (Driven pass.old pass.new charge.old charge.new act out.old out.new) }
+        ensures right { IsRight pass.new.seen }
+        ensures busy { IfErr result (λ fault. (fault ≡ DriveFault.Busy) × Unchanged pass.old pass.new charge.old charge.new out.old out.new) }
+    {
+        let number = pass.number;
+        let place = charge.place;
+        let side = charge.side;
+        let stream = charge.stream;
+        let Some(mut automaton) = self.board.take(&mut pass.seat, place, side, stream) else {
+            return Err(DriveFault::Busy);
+        };
+        // No client's call changes a sender's mode, so this is never so.
+        if !is_as_held(&automaton, side, charge.mode) {
+            self.board.put_back(&mut pass.seat, place, automaton);
+            return Err(DriveFault::Busy);
+        }
+        let told = Snapshot::of(&act);
+        let Outcome {
+            reply: _,
+            handed_back: _,
+            length,
+        } = automaton.step(act, out);
+        let kind = automaton.mode();
+        let position = self.board.settle(
+            &mut pass.seat,
+            number,
+            place,
+            side,
+            stream,
+            &told,
+            &Reply::Done,
+            automaton,
+        );
+        charge.mode = kind;
+        Ok(Done {
+            position,
+            length,
+            mode: kind,
+        })
+    }
+}
+
+/// Whether a sender is in the mode that its charge holds. A receiver's charge may be behind, since gets change the mode.
+fn is_as_held(automaton: &Automaton, side: End, held: Mode) -> bool
+    ensures { result ≡ true → side ≡ end_of.Sender → mode_of automaton.now ≡ held }
+{
+    side != End::Sender || automaton.mode() == held
+}
