@@ -1,4 +1,1 @@
-pub mod Schedule
-pub mod Bench
-pub mod Transcript
-pub mod Ending
+pub mod Arguments

@@ -8,10 +8,10 @@ pub enum Settings {
     Replay(String),
 }
 
-/// Why the program's words are no settings.
+/// Why the program's arguments are no settings.
 #[derive(Debug, Drop, Error)]
-pub enum WordsFault {
-    /// A text for whoever typed them, and the status to end with: 2 for words that do not parse, 0 for asked-for help.
+pub enum ArgumentsFault {
+    /// A text for whoever typed them, and the status to end with: 2 for arguments that do not parse, 0 for asked-for help.
     #[error("{0}")]
     Text(String, u8),
     /// Memory was refused. The caller may try again later.

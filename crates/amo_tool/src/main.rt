@@ -1,32 +1,20 @@
 //! The program `amo`: replays schedules on both automata of 256 streams, and prints what they reply and emit.
 //! It opens no socket and starts no thread yet.
 //!
-//! ```text
-//!   words      the program's words            choice    what they choose
-//!   schedule   lines, and how they are read   bench     both sides of every stream, with a world beside them
-//!   runner     replay: a line for each event  transcript, tell   what is printed
-//! ```
+//! `arguments` reads the program's arguments, and `choice` is what they choose.
 #![tactic(auto)]
 
 ghost use Rattle.std.specs.Prelude.{◌≡◌, ◌<◌};
 
-mod bench;
+mod arguments;
 mod choice;
-mod outcome;
-mod runner;
-mod schedule;
-mod tell;
 #[cfg(test)]
 mod tests;
-mod transcript;
-mod words;
 
-use crate::choice::{Settings, WordsFault};
-use crate::outcome::{Ending, ToolFault};
-use crate::runner::replay;
-use crate::tell::ending;
-use crate::words::{not_text, settings};
-use amo_audit::Out;
+use crate::arguments::{not_text, settings};
+use crate::choice::{ArgumentsFault, Settings};
+use amo_replay::{Ending, ToolFault, ending, replay};
+use amo_text::Out;
 use std::io::{BufWriter, ErrorKind, Printer, Write};
 use std::marker::Brand;
 use std::process::ExitCode;
@@ -34,19 +22,19 @@ use std::rt::{Env, Files};
 use std::sync::ledger::{Blank, Ledger};
 use std::{env, fs, io};
 
-/// The status of want of memory, and of a fault of a device.
+/// The status where memory or a device failed.
 const FAILED: u8 = 4;
 
 fn main(rt: HostRuntime) -> ExitCode {
     ExitCode::from(run(&rt, rt.stderr()))
 }
 
-/// Does what the program's words ask for, and answers the status to end with.
+/// Does what the program's arguments ask for, and answers the status to end with.
 fn run<R: AllocGlobal + Env + Files + Print + Eprint, E: Write + Drop>(rt: &R, errors: E) -> u8 {
     let done = match choose(rt) {
         Ok(Settings::Replay(file)) => replay_file(rt, file.as_str(), errors),
-        Err(WordsFault::Text(text, status)) => show(rt, text.as_str(), status),
-        Err(WordsFault::NoMemory) => Err(ToolFault::NoMemory),
+        Err(ArgumentsFault::Text(text, status)) => show(rt, text.as_str(), status),
+        Err(ArgumentsFault::NoMemory) => Err(ToolFault::NoMemory),
     };
     match done {
         Ok(status) => status,
@@ -57,20 +45,20 @@ fn run<R: AllocGlobal + Env + Files + Print + Eprint, E: Write + Drop>(rt: &R, e
     }
 }
 
-/// The settings that the program's words choose.
-fn choose<R: AllocGlobal + Env>(rt: &R) -> Result<Settings, WordsFault> {
-    let words = match env::args(rt) {
-        Ok(words) => words.collect(rt.alloc()),
+/// The settings that the program's arguments choose.
+fn choose<R: AllocGlobal + Env>(rt: &R) -> Result<Settings, ArgumentsFault> {
+    let arguments = match env::args(rt) {
+        Ok(arguments) => arguments.collect(rt.alloc()),
         Err(error) if error.kind() == ErrorKind::InvalidData => return Err(not_text(rt.alloc())),
-        Err(_) => return Err(WordsFault::NoMemory),
+        Err(_) => return Err(ArgumentsFault::NoMemory),
     };
-    match words {
-        Ok(words) => settings(rt.alloc(), words),
-        Err(_) => Err(WordsFault::NoMemory),
+    match arguments {
+        Ok(arguments) => settings(rt.alloc(), arguments),
+        Err(_) => Err(ArgumentsFault::NoMemory),
     }
 }
 
-/// Shows a text about the program's words: asked-for help on standard output, all else on standard error.
+/// Shows a text about the program's arguments: asked-for help on standard output, all else on standard error.
 fn show<R: Print + Eprint>(rt: &R, text: &str, status: u8) -> Result<u8, ToolFault> {
     if status == 0 {
         match rt.print(text) {
@@ -102,7 +90,7 @@ fn read_file<R: AllocGlobal + Files>(rt: &R, file: &str) -> Result<Vec<u8>, Tool
     }
 }
 
-/// What went wrong at a device, or for want of memory.
+/// Whether a device failed, or memory ran out.
 fn fault_of(error: &io::Error) -> ToolFault {
     match error.kind() {
         ErrorKind::OutOfMemory => ToolFault::NoMemory,
@@ -132,7 +120,7 @@ fn replay_bytes<R: AllocGlobal + Print, L: Ledger>(
     }
 }
 
-/// Tells on standard error how a replay ended, and answers the status to end with.
+/// Tells how a replay ended, and answers the status to end with, which stays where standard error does not take it.
 fn tell_ending<R: AllocGlobal, E: Write + Drop, L: Ledger>(
     rt: &R,
     how: &Ending,
@@ -144,5 +132,8 @@ fn tell_ending<R: AllocGlobal, E: Write + Drop, L: Ledger>(
     requires some { 0 < L.parts }
 {
     let mut out = Out::<E, L>::new(errors, blank);
-    ending(rt.alloc(), how, &mut out)
+    match ending(rt.alloc(), how, &mut out) {
+        Err(ToolFault::Device) => Ok(how.status()),
+        told => told,
+    }
 }

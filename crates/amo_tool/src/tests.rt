@@ -1,223 +1,131 @@
-//! Schedules and what the program prints of them, its words, and a device that fails.
-ghost use Rattle.std.specs.Prelude.{◌≡◌, ◌<◌};
-
-mod stories;
-
-use crate::choice::{Settings, WordsFault};
-use crate::outcome::{Ending, ToolFault};
-use crate::runner::replay;
-use crate::tell::ending;
-use crate::words::settings;
-use amo_audit::Out;
+//! The program's arguments.
+use crate::arguments::settings;
+use crate::choice::{ArgumentsFault, Settings};
 use std::alloc::{AllocError, Global};
-use std::io::{self, ErrorKind, Write};
-use std::marker::Brand;
-use std::sync::ledger::{Blank, Ledger};
 use std::test::Fail;
 
-/// What a replay of these bytes prints, how it ended, and the line of its fault with its status.
-fn printed<L: Ledger>(
-    alloc: Global,
-    schedule: &[u8],
-    blank: Blank,
-) -> Result<(Vec<u8>, Ending), ToolFault>
-    requires name { blank.name ≡ L.name }
-    requires parts { blank.parts ≡ L.parts }
-    requires some { 0 < L.parts }
-{
-    let mut out = Out::<Vec<u8>, L>::new(Vec::new(alloc), blank);
-    let how = replay(alloc, schedule, &mut out)?;
-    Ok((out.into_inner(), how))
-}
-
-/// What is told of an ending, and the status.
-fn told<L: Ledger>(alloc: Global, how: &Ending, blank: Blank) -> Result<(Vec<u8>, u8), ToolFault>
-    requires name { blank.name ≡ L.name }
-    requires parts { blank.parts ≡ L.parts }
-    requires some { 0 < L.parts }
-{
-    let mut out = Out::<Vec<u8>, L>::new(Vec::new(alloc), blank);
-    let status = ending(alloc, how, &mut out)?;
-    Ok((out.into_inner(), status))
-}
-
-/// Client calls alone.
-#[test]
-fn replays_calls(rt: HostRuntime) -> Result<(), Fail> {
-    let rows: [(&str, &str); 7] = [
-        ("", ""),
-        ("ack 1\n", "0 yes\n"),
-        ("put 1 61\nack 1\nget 1\n", "0 ok\n1 notyet\n2 nothing\n"),
-        ("put 256 -\nput 256 6869\nack 255\n", "0 ok\n1 ok\n2 yes\n"),
-        (
-            "put 1 61\nput 1 61\nput 1 61\nput 1 61\nput 1 61\nput 1 61\nput 1 61\nput 1 61\nput 1 61\n\
-             put 1 61\nput 1 61\nput 1 61\nput 1 61\nput 1 61\nput 1 61\nput 1 61\nput 1 61\n",
-            "0 ok\n1 ok\n2 ok\n3 ok\n4 ok\n5 ok\n6 ok\n7 ok\n8 ok\n\
-             9 ok\n10 ok\n11 ok\n12 ok\n13 ok\n14 ok\n15 ok\n16 full\n",
-        ),
-        ("get 7\nget 7\n", "0 nothing\n1 nothing\n"),
-        (
-            "ack 3\nput 3 00ff\nack 3\nack 4\n",
-            "0 yes\n1 ok\n2 notyet\n3 yes\n",
-        ),
-    ];
-    for (schedule, text) in rows {
-        let (lines, how) = printed::<Brand>(rt.alloc(), schedule.as_bytes(), Blank::new(1))?;
-        assert_eq!(rt; lines.as_slice(), text.as_bytes(), "{schedule}");
-        assert_eq!(rt; how, Ending::Done, "{schedule}");
-    }
-    Ok(())
-}
-
-/// Nothing is replayed of a schedule with a line that does not read, whatever stands before it.
-#[test]
-fn replays_nothing_of_what_does_not_read(rt: HostRuntime) -> Result<(), Fail> {
-    let rows: [(&str, usize); 4] = [
-        ("\n", 1),
-        ("get 1", 1),
-        ("ack 1\nget 1\nstart 1 7\nget x\n", 4),
-        ("deliver 0 0\nget 257\n", 2),
-    ];
-    for (schedule, line) in rows {
-        let (lines, how) = printed::<Brand>(rt.alloc(), schedule.as_bytes(), Blank::new(1))?;
-        assert_eq!(rt; lines.as_slice(), b"".as_slice(), "{schedule}");
-        assert_eq!(rt; how, Ending::Malformed(line), "{schedule}");
-    }
-    Ok(())
-}
-
-#[test]
-fn tells_each_ending(rt: HostRuntime) -> Result<(), Fail> {
-    let rows = [
-        (Ending::Done, "", 0),
-        (Ending::Malformed(1), "amo: line 1: malformed\n", 2),
-        (Ending::Unsent(10), "amo: line 10: unsent\n", 3),
-        (Ending::Repeat(13), "amo: line 13: repeat\n", 3),
-    ];
-    for (how, text, status) in rows {
-        let (line, with) = told::<Brand>(rt.alloc(), &how, Blank::new(1))?;
-        assert_eq!(rt; line.as_slice(), text.as_bytes(), "{how:?}");
-        assert_eq!(rt; with, status, "{how:?}");
-    }
-    assert_eq!(rt;
-        ToolFault::NoMemory.to_string(rt.alloc())?.as_str(),
-        "amo: out of memory"
-    );
-    assert_eq!(rt;
-        ToolFault::Device.to_string(rt.alloc())?.as_str(),
-        "amo: device"
-    );
-    Ok(())
-}
-
-/// A writer that takes so many calls, and three bytes a call.
-#[derive(Drop)]
-struct Failing {
-    text: Vec<u8>,
-    calls: usize,
-}
-
-impl Write for Failing {
-    fn write(&mut self, bytes: &[u8]) -> io::Result<usize> {
-        if self.calls == 0 {
-            return Err(ErrorKind::Other.into());
-        }
-        self.calls -= 1;
-        let count = bytes.len().min(3);
-        self.text.extend_from_slice(&bytes[..count])?;
-        Ok(count)
-    }
-
-    fn flush(&mut self) -> io::Result<()> {
-        Ok(())
-    }
-}
-
-/// What a writer that takes so many calls was written of a replay, or of a fault's line, and how that ended.
-fn written<L: Ledger>(
-    alloc: Global,
-    schedule: Option<&[u8]>,
-    calls: usize,
-    blank: Blank,
-) -> (Vec<u8>, Result<(), ToolFault>)
-    requires name { blank.name ≡ L.name }
-    requires parts { blank.parts ≡ L.parts }
-    requires some { 0 < L.parts }
-{
-    let writer = Failing {
-        text: Vec::new(alloc),
-        calls,
-    };
-    let mut out = Out::<Failing, L>::new(writer, blank);
-    let how = match schedule {
-        Some(bytes) => replay(alloc, bytes, &mut out).map(|_| ()),
-        None => ending(alloc, &Ending::Malformed(12), &mut out).map(|_| ()),
-    };
-    (out.into_inner().text, how)
-}
-
-/// Of a device that fails at its k-th call, for each k: the fault is told, and a beginning stands.
-#[test]
-fn stops_where_the_device_fails(rt: HostRuntime) {
-    let rows: [(Option<&[u8]>, &[u8], usize); 2] = [
-        (
-            Some(b"put 1 61\nack 1\nget 1\n"),
-            b"0 ok\n1 notyet\n2 nothing\n",
-            9,
-        ),
-        (None, b"amo: line 12: malformed\n", 8),
-    ];
-    for (schedule, whole, enough) in rows {
-        for calls in 0..12 {
-            let (text, how) = written::<Brand>(rt.alloc(), schedule, calls, Blank::new(1));
-            let outcome = if calls < enough {
-                Err(ToolFault::Device)
-            } else {
-                Ok(())
-            };
-            assert_eq!(rt; how, outcome, "{calls} calls");
-            assert!(rt; whole.starts_with(text.as_slice()), "{calls} calls");
-            assert_eq!(rt; text.len() == whole.len(), calls >= enough, "{calls} calls");
-        }
-    }
-}
-
-/// The program's words, its name first.
-fn words(alloc: Global, texts: &[&str]) -> Result<Vec<String>, AllocError> {
-    let mut words = Vec::new(alloc);
+/// The program's arguments, its name first.
+fn arguments(alloc: Global, texts: &[&str]) -> Result<Vec<String>, AllocError> {
+    let mut arguments = Vec::new(alloc);
     for text in texts {
-        words.push(String::from_str(alloc, text)?)?;
+        arguments.push(String::from_str(alloc, text)?)?;
     }
-    Ok(words)
+    Ok(arguments)
+}
+
+const HELP: &str = "An at-most-once message service: commands that must never run twice.
+
+Usage: amo <COMMAND>
+
+Commands:
+  replay  Replays a schedule, and prints a line for each event
+  help    Print this message or the help of the given subcommand(s)
+
+Options:
+  -h, --help     Print help
+  -V, --version  Print version
+
+Example:
+  amo replay examples/handshake.schedule
+
+Status:
+  0  done
+  2  a malformed schedule, or arguments that do not parse
+  3  a premise is broken: a packet that nobody emitted, or a word used twice
+  4  out of memory, or a file or standard output that cannot be opened, read or written
+
+Faults go to standard error. `amo: device` is a file or standard output that failed,
+also where there is no such file.
+";
+
+const REPLAY_HELP: &str = "Replays a schedule, and prints a line for each event
+
+Usage: amo replay <FILE>
+
+Arguments:
+  <FILE>  The schedule
+
+Options:
+  -h, --help  Print help
+
+A schedule is a list of lines, each with one line feed at its end:
+  put S HEX       put a message on stream S, in lower-case hexadecimal, `-` for no bytes
+  get S           get a message from stream S
+  ack S           ask what became of the last put of stream S
+  start S WORD    start a handshake on the sender of stream S, under this word
+  resend s S      emit the packet of the sender's mode on stream S again; `r S` for the receiver
+  deliver K WORD  deliver the K-th packet emitted, with a word to accept under
+  crash s S       crash the sender of stream S; `r S` for the receiver
+  recover s S     recover the sender of stream S; `r S` for the receiver
+
+Output, a line for each event:
+  N REPLY               the event's number, counted from 0, and its reply
+  N REPLY -> K HEX      and the packet that it emitted, numbered from 0 over all streams
+
+Replies are ok, full, down, got HEX, nothing, yes, no, notyet and done.
+
+Limits:
+  256 streams, numbered from 1; 1,024 bytes a message; 16 messages waiting on a stream
+
+Status:
+  0  every line was replayed
+  2  `amo: line L: malformed`: line L, counted from 1, is no line; nothing was replayed
+  3  `amo: line L: unsent`: it delivers a packet that was not emitted before
+     `amo: line L: repeat`: it uses a word a second time
+  4  `amo: out of memory`
+     `amo: device`: the file or standard output failed, or there is no such file
+
+Example:
+  amo replay examples/handshake.schedule
+";
+
+const NO_FILE: &str = "error: the following required arguments were not provided:
+  <FILE>
+
+Usage: amo replay <FILE>
+
+For more information, try '--help'.
+";
+
+/// The texts that users see, whole.
+#[test]
+fn shows_its_texts(rt: HostRuntime) -> Result<(), Fail> {
+    let rows: [(&[&str], u8, &str); 6] = [
+        (&["amo"], 2, HELP),
+        (&["amo", "--help"], 0, HELP),
+        (&["amo", "-h"], 0, HELP),
+        (&["amo", "replay"], 2, NO_FILE),
+        (&["amo", "replay", "--help"], 0, REPLAY_HELP),
+        (&["amo", "--version"], 0, "amo 0.1.0\n"),
+    ];
+    for (given, status, text) in rows {
+        let refused = settings(rt.alloc(), arguments(rt.alloc(), given)?);
+        assert!(rt;
+            matches!(&refused, Err(ArgumentsFault::Text(shown, with)) if *with == status && shown.as_str() == text),
+            "{given:?}"
+        );
+    }
+    Ok(())
 }
 
 #[test]
-fn reads_the_words(rt: HostRuntime) -> Result<(), Fail> {
-    let chosen = settings(rt.alloc(), words(rt.alloc(), &["amo", "replay", "a b"])?);
+fn reads_the_arguments(rt: HostRuntime) -> Result<(), Fail> {
+    let chosen = settings(
+        rt.alloc(),
+        arguments(rt.alloc(), &["amo", "replay", "a b"])?,
+    );
     assert!(rt; matches!(&chosen, Ok(Settings::Replay(file)) if file.as_str() == "a b"));
-    let dash = settings(rt.alloc(), words(rt.alloc(), &["amo", "replay", "-"])?);
+    let dash = settings(rt.alloc(), arguments(rt.alloc(), &["amo", "replay", "-"])?);
     assert!(rt; matches!(&dash, Ok(Settings::Replay(file)) if file.as_str() == "-"));
-    let rows: [(&[&str], u8, &str); 7] = [
-        (&["amo"], 2, "Usage: amo <COMMAND>"),
+    let rows: [(&[&str], u8, &str); 3] = [
         (&["amo", "replay"], 2, "<FILE>"),
         (&["amo", "replay", "a", "b"], 2, "unexpected argument 'b'"),
         (&["amo", "audit", "a"], 2, "unrecognized subcommand 'audit'"),
-        (
-            &["amo", "--help"],
-            0,
-            "4  want of memory, or a fault of a device",
-        ),
-        (
-            &["amo", "replay", "--help"],
-            0,
-            "amo replay examples/handshake.schedule",
-        ),
-        (&["amo", "--version"], 0, "amo 0.1.0\n"),
     ];
     for (given, status, part) in rows {
-        let refused = settings(rt.alloc(), words(rt.alloc(), given)?);
+        let refused = settings(rt.alloc(), arguments(rt.alloc(), given)?);
         assert!(rt;
-            matches!(&refused, Err(WordsFault::Text(text, with)) if *with == status && text.contains(part)),
+            matches!(&refused, Err(ArgumentsFault::Text(text, with)) if *with == status && text.contains(part)),
             "{given:?}"
         );
     }

@@ -1,5 +1,0 @@
-pub mod Written
-pub mod Digits
-pub mod HexDigits
-pub mod Cuts
-pub mod Lines

@@ -1,0 +1,3 @@
+pub mod Deliveries
+pub mod Happenings
+pub mod Replays

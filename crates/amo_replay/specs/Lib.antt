@@ -1,0 +1,4 @@
+pub mod Automata
+pub mod Transcript
+pub mod Ending
+pub mod Stop

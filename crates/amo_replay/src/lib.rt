@@ -1,0 +1,25 @@
+//! Replays schedules on both automata of every stream, with a world beside them, into the bytes of a transcript.
+//! It opens no file and knows no program: the bytes are handed in, and a sink takes what is written.
+//!
+//! - [`replay`] reads a schedule whole, makes its events happen in order, and writes a line for each.
+//! - [`Ending`] is how that ended; [`ending`] writes the line of its fault and answers a status.
+//! - [`ToolFault`] is why neither came to its end.
+//!
+//! What a transcript is stands in `specs/Transcript.antt`, and how an ending is put into words in `specs/Ending.antt`.
+#![tactic(auto)]
+
+mod automata;
+mod endings;
+mod fault;
+mod hosts;
+mod runner;
+mod stop;
+mod tell;
+#[cfg(test)]
+mod tests;
+mod transcript;
+
+pub use endings::Ending;
+pub use fault::ToolFault;
+pub use runner::replay;
+pub use tell::ending;

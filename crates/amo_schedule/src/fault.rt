@@ -1,0 +1,50 @@
+//! Why bytes are no schedule.
+ghost use Rattle.std.specs.Prelude.{◌≡◌};
+
+use std::alloc::{AllocError, AllocFailed};
+use thiserror::Error;
+
+/// Why bytes are no schedule.
+#[derive(Clone, Copy, Debug, PartialEq, Eq, Error)]
+pub enum ScheduleFault {
+    /// Memory was refused. The caller may try again later.
+    #[error("out of memory")]
+    NoMemory,
+    /// This line, counted from 1, is the first that is malformed. The schedule's writer is at fault.
+    #[error("line {0} is malformed")]
+    Malformed(usize),
+}
+
+impl ScheduleFault {
+    ghost use Rattle.amo_schedule.specs.Schedule.{fault_code};
+
+    /// The number of this fault.
+    pub fn code(&self) -> u8
+        ensures { result ≡ fault_code self.now }
+    {
+        match self {
+            ScheduleFault::NoMemory => 9,
+            ScheduleFault::Malformed(_) => 63,
+        }
+    }
+}
+
+impl From<AllocError> for ScheduleFault {
+    ghost use Rattle.amo_schedule.specs.declared.fault.ScheduleFault.TheVariants.{NoMemory};
+
+    ghost from_gives = { λ _ fault. fault ≡ NoMemory };
+
+    fn from(_error: AllocError) -> ScheduleFault {
+        ScheduleFault::NoMemory
+    }
+}
+
+impl<T: Drop> From<AllocFailed<T>> for ScheduleFault {
+    ghost use Rattle.amo_schedule.specs.declared.fault.ScheduleFault.TheVariants.{NoMemory};
+
+    ghost from_gives = { λ _ fault. fault ≡ NoMemory };
+
+    fn from(_error: AllocFailed<T>) -> ScheduleFault {
+        ScheduleFault::NoMemory
+    }
+}

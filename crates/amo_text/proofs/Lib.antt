@@ -1,0 +1,6 @@
+pub mod Written
+pub mod Digits
+pub mod HexDigits
+pub mod Cuts
+pub mod Lines
+pub mod Items

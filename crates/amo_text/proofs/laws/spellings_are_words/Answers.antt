@@ -1,0 +1,14 @@
+use Rattle.amo_text.proofs.Cuts.{IsWord-decimal, IsWord-hex, Lacks-decimal, Lacks-hex}
+use Rattle.amo_text.proofs.laws.spellings_are_words.Goals as goal
+
+pub returns-clause-decimal : goal.returns-clause-decimal
+returns-clause-decimal c = IsWord-decimal
+
+pub returns-clause-hex : goal.returns-clause-hex
+returns-clause-hex c = IsWord-hex
+
+pub returns-clause-decimal_digits : goal.returns-clause-decimal_digits
+returns-clause-decimal_digits c = Lacks-decimal
+
+pub returns-clause-hex_digits : goal.returns-clause-hex_digits
+returns-clause-hex_digits c = Lacks-hex

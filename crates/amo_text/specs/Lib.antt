@@ -1,0 +1,6 @@
+pub mod Sink
+pub mod Hexadecimal
+pub mod Line
+pub mod Items
+pub mod Side
+pub mod Reply

@@ -1,0 +1,34 @@
+//! Lines of words: single spaces between the words, and a line feed at the end.
+ghost use Rattle.std.specs.Prelude.{◌≡◌, ◌<◌, ◌++◌, ◌∷◌, length, IfSome, IfNone};
+ghost use Rattle.amo_text.specs.Line.{Lacks};
+
+/// What stands before the first such byte, and what stands after it.
+pub fn cut(text: &[u8], byte: u8) -> Option<(&[u8], &[u8])>
+    ensures found { IfSome result (λ parts. (text.now ≡ parts.0.now ++ byte ∷ parts.1.now) × Lacks byte parts.0.now) }
+    ensures shorter { IfSome result (λ parts. length parts.1.now < length text.now) }
+    ensures none { IfNone result (Lacks byte text.now) }
+{
+    for i in 0..text.len() {
+        if text[i] == byte {
+            return Some((&text[..i], &text[i + 1..]));
+        }
+    }
+    None
+}
+
+/// The first line, without its end, and the lines after it.
+pub fn next_line(text: &[u8]) -> Option<(&[u8], &[u8])>
+    ensures found { IfSome result (λ parts. (text.now ≡ parts.0.now ++ 10 ∷ parts.1.now) × Lacks 10 parts.0.now) }
+    ensures shorter { IfSome result (λ parts. length parts.1.now < length text.now) }
+    ensures none { IfNone result (Lacks 10 text.now) }
+{
+    cut(text, b'\n')
+}
+
+/// The first word and what stands behind the space after it, where there is a space. A word may be empty.
+pub fn next_word(text: &[u8]) -> Option<(&[u8], &[u8])>
+    ensures found { IfSome result (λ parts. (text.now ≡ parts.0.now ++ 32 ∷ parts.1.now) × Lacks 32 parts.0.now) }
+    ensures none { IfNone result (Lacks 32 text.now) }
+{
+    cut(text, b' ')
+}

@@ -1,0 +1,18 @@
+//! The sides of a stream, as one letter each.
+ghost use Rattle.std.specs.Prelude.{◌≡◌, ◌≢◌, IfSome, IfNone};
+ghost use Rattle.amo_object.specs.declared.step.End.{End};
+ghost use Rattle.amo_text.specs.Side.{letter_of};
+
+use amo_object::End;
+
+/// The side that this word names: `s` the sender, `r` the receiver.
+pub fn read_side(word: &[u8]) -> Option<End>
+    ensures found { IfSome result (λ side. word.now ≡ letter_of side) }
+    ensures none { IfNone result ((side : End) → word.now ≢ letter_of side) }
+{
+    match word {
+        b"s" => Some(End::Sender),
+        b"r" => Some(End::Receiver),
+        _ => None,
+    }
+}

@@ -1,5 +1,0 @@
-use Rattle.amo_tool.proofs.Reading.{malformed_not_spelt, one_malformed}
-use Rattle.amo_tool.proofs.schedule.laws.malformed_is_no_schedule.Goals as goal
-
-pub returns : goal.returns
-returns c = record { none = malformed_not_spelt; one = one_malformed }

@@ -1,4 +1,0 @@
-use Rattle.amo_tool.proofs.tests.replays_nothing_of_what_does_not_read.Given as goal
-
-abbrev pub ghosts-printed : goal.ghosts-printed
-ghosts-printed g a = record { name = a.blank.name; parts = a.blank.parts }

@@ -1,0 +1,9 @@
+-- What becomes of arguments that choose nothing to do.
+use Rattle.std.specs.Prelude.{◌==◌, ◌||◌, IsTrue}
+use Rattle.amo_tool.specs.declared.choice.ArgumentsFault.{ArgumentsFault}
+use Rattle.amo_tool.specs.declared.choice.ArgumentsFault.TheVariants.{Text, NoMemory}
+
+-- a text goes with the status 2 of refused arguments, or with 0 where it was asked for
+abbrev pub HasStatus : ArgumentsFault → Type 0
+HasStatus (Text text status) = IsTrue (status == 0 || status == 2)
+HasStatus NoMemory = Unit {0}
