@@ -75,8 +75,8 @@ messages_got-Yes s (y ∷ front) m (Get x ∷ later) waits last quiet run got =
     let other : (0 + 1 == length s.messages) ≡ false = ne_eqb 1 (length s.messages) (λ e. let n = ap length last in absurd (omega (arith, length-append front (m ∷ [])))) in
     let found = messages_got-Yes (after s (Get x)) front m later (settled-other _ s.status Yes other ∙ waits) (ap (λ (messages : List (List ℕ)). remove messages 0) last) quiet run.1 got in
     (x ∷ found.0, ap (λ (rest : List (List ℕ)). x ∷ rest) found.1)
-messages_got-Yes s front m (Ack true ∷ later) waits last quiet run got = let told = run.0.1 in absurd cc
-messages_got-Yes s front m (Ack false ∷ later) waits last quiet run got = let told = run.0.1 in absurd cc
+messages_got-Yes s front m (Ack true ∷ later) waits last quiet run got = let status = run.0.1 in absurd cc
+messages_got-Yes s front m (Ack false ∷ later) waits last quiet run got = let status = run.0.1 in absurd cc
 messages_got-Yes s front m (Crash side ∷ later) waits last quiet run got =
     messages_got-Yes (after s (Crash side)) front m later (status-set_down s side true ∙ waits) (sym (messages-set_down s side true) ∙ last) quiet run.1 got
 messages_got-Yes s front m (Recover side ∷ later) waits last quiet run got =
