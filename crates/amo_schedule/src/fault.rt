@@ -1,7 +1,7 @@
 //! Why bytes are no schedule.
 ghost use Rattle.std.specs.Prelude.{◌≡◌};
 
-use std::alloc::{AllocError, AllocFailed};
+use amo_text::LinesFault;
 use thiserror::Error;
 
 /// Why bytes are no schedule.
@@ -29,22 +29,15 @@ impl ScheduleFault {
     }
 }
 
-impl From<AllocError> for ScheduleFault {
-    ghost use Rattle.amo_schedule.specs.declared.fault.ScheduleFault.TheVariants.{NoMemory};
+impl From<LinesFault> for ScheduleFault {
+    ghost use Rattle.amo_schedule.specs.Schedule.{fault_of};
 
-    ghost from_gives = { λ _ fault. fault ≡ NoMemory };
+    ghost from_gives = { λ lines fault. fault ≡ fault_of lines };
 
-    fn from(_error: AllocError) -> ScheduleFault {
-        ScheduleFault::NoMemory
-    }
-}
-
-impl<T: Drop> From<AllocFailed<T>> for ScheduleFault {
-    ghost use Rattle.amo_schedule.specs.declared.fault.ScheduleFault.TheVariants.{NoMemory};
-
-    ghost from_gives = { λ _ fault. fault ≡ NoMemory };
-
-    fn from(_error: AllocFailed<T>) -> ScheduleFault {
-        ScheduleFault::NoMemory
+    fn from(fault: LinesFault) -> ScheduleFault {
+        match fault {
+            LinesFault::NoMemory => ScheduleFault::NoMemory,
+            LinesFault::Malformed(line) => ScheduleFault::Malformed(line),
+        }
     }
 }

@@ -1,124 +1,152 @@
 //! Reads a line.
-ghost use Rattle.std.specs.Prelude.{◌≡◌, ◌≢◌, ℕ, ◌∷◌, ◌++◌, ◌<◌, ◌≤◌, ◌^◌, List, length, codes, IfOk, IfErr, IfSome, IfNone};
+ghost use Rattle.std.specs.Prelude.{◌≡◌, ◌≢◌, ℕ, ◌∷◌, ◌++◌, List, codes, IfSome, IfNone};
 ghost use Rattle.std.specs.Fmt.{decimal};
-ghost use Rattle.hex.specs.Hex.{IsBytes};
-ghost use Rattle.amo_text.specs.Hexadecimal.{hex};
 ghost use Rattle.amo_object.specs.declared.step.End.{End};
-ghost use Rattle.amo_text.specs.Side.{letter_of};
-ghost use Rattle.amo_schedule.specs.Schedule.{ReadsAs};
 ghost use Rattle.amo_packet.specs.Stream.{IsStream};
+ghost use Rattle.amo_text.specs.Side.{letter_of};
+ghost use Rattle.amo_schedule.specs.Schedule.{ReadsAs, Parses};
 
 use crate::ScheduleLine;
 use amo_object::End;
-use amo_packet::{MAX_MESSAGE, Message, MessageFault};
-use amo_text::{next_word, read_decimal, read_hex, read_side, read_stream};
+use amo_text::{
+    ActName, CheckedItem, LineItem, is_message, next_field, read_act_name, read_decimal,
+    read_message, read_side, read_stream,
+};
 use std::alloc::{AllocError, Global};
 
-/// The message that this word spells.
-fn read_message(alloc: Global, word: &[u8]) -> Result<Option<Message>, AllocError>
-    ensures found { IfOk result (λ read. IfSome read (λ m. (length m ≤ 1024) × IsBytes m × (word.now ≡ hex m))) }
-    ensures none { IfOk result (λ read. IfNone read ((m : List ℕ) → length m ≤ 1024 → IsBytes m → word.now ≢ hex m)) }
-{
-    let mut room = [0; MAX_MESSAGE];
-    let Some(count) = read_hex(word, &mut room) else {
-        return Ok(None);
-    };
-    match Message::copy(alloc, &room[..count]) {
-        Ok(message) => Ok(Some(message)),
-        Err(MessageFault::NoMemory) => Err(AllocError),
-        Err(MessageFault::TooLong) => Ok(None),
-    }
+/// A line as its text has it: the message of a put is still in HEX. It holds no memory.
+#[derive(Drop)]
+pub(crate) enum LineText<'a> {
+    Put(u32, &'a [u8]),
+    Other(ScheduleLine),
 }
 
-/// The side and the stream that these words name.
-fn read_side_of_stream(words: &[u8]) -> Option<(End, u32)>
-    ensures found { IfSome result (λ at. IsStream at.1 × (words.now ≡ letter_of at.0 ++ 32 ∷ decimal at.1)) }
-    ensures none { IfNone result ((side : End) (stream : ℕ) → IsStream stream → words.now ≢ letter_of side ++ 32 ∷ decimal stream) }
+/// The side and the stream that these fields name.
+fn read_side_of_stream(fields: &[u8]) -> Option<(End, u32)>
+    ensures found { IfSome result (λ at. IsStream at.1 × (fields.now ≡ letter_of at.0 ++ 32 ∷ decimal at.1)) }
+    ensures none { IfNone result ((side : End) (stream : ℕ) → IsStream stream → fields.now ≢ letter_of side ++ 32 ∷ decimal stream) }
 {
-    let (side, stream) = next_word(words)?;
+    let (side, stream) = next_field(fields)?;
     Some((read_side(side)?, read_stream(stream)?))
 }
 
-/// The put of which these are the words after the first.
-fn read_put(alloc: Global, words: &[u8]) -> Result<Option<ScheduleLine>, AllocError>
-    ensures { IfOk result (λ read. ReadsAs (codes "put" ++ 32 ∷ words.now) read) }
+/// The put of which these are the fields after the first, its message still in HEX.
+fn read_put(fields: &[u8]) -> Option<LineText<'_>>
+    ensures { Parses (codes "put" ++ 32 ∷ fields.now) result }
 {
-    let Some((stream, message)) = next_word(words) else {
-        return Ok(None);
-    };
-    let Some(stream) = read_stream(stream) else {
-        return Ok(None);
-    };
-    let Some(message) = read_message(alloc, message)? else {
-        return Ok(None);
-    };
-    Ok(Some(ScheduleLine::Put(stream, message)))
+    let (stream, digits) = next_field(fields)?;
+    let stream = read_stream(stream)?;
+    if is_message(digits) {
+        Some(LineText::Put(stream, digits))
+    } else {
+        None
+    }
 }
 
-/// The start of which these are the words after the first.
-fn read_start(words: &[u8]) -> Option<ScheduleLine>
-    ensures { ReadsAs (codes "start" ++ 32 ∷ words.now) result }
+/// The get of which this is the field after the first.
+fn read_get(field: &[u8]) -> Option<ScheduleLine>
+    ensures { ReadsAs (codes "get" ++ 32 ∷ field.now) result }
 {
-    let (stream, word) = next_word(words)?;
+    Some(ScheduleLine::Get(read_stream(field)?))
+}
+
+/// The ack of which this is the field after the first.
+fn read_ack(field: &[u8]) -> Option<ScheduleLine>
+    ensures { ReadsAs (codes "ack" ++ 32 ∷ field.now) result }
+{
+    Some(ScheduleLine::Ack(read_stream(field)?))
+}
+
+/// The start of which these are the fields after the first.
+fn read_start(fields: &[u8]) -> Option<ScheduleLine>
+    ensures { ReadsAs (codes "start" ++ 32 ∷ fields.now) result }
+{
+    let (stream, word) = next_field(fields)?;
     Some(ScheduleLine::Start(read_stream(stream)?, read_decimal(word)?))
 }
 
-/// The delivery of which these are the words after the first.
-fn read_deliver(words: &[u8]) -> Option<ScheduleLine>
-    ensures { ReadsAs (codes "deliver" ++ 32 ∷ words.now) result }
+/// The delivery of which these are the fields after the first.
+fn read_deliver(fields: &[u8]) -> Option<ScheduleLine>
+    ensures { ReadsAs (codes "deliver" ++ 32 ∷ fields.now) result }
 {
-    let (number, word) = next_word(words)?;
+    let (number, word) = next_field(fields)?;
     Some(ScheduleLine::Deliver(read_decimal(number)?, read_decimal(word)?))
 }
 
-/// The resending of which these are the words after the first.
-fn read_resend(words: &[u8]) -> Option<ScheduleLine>
-    ensures { ReadsAs (codes "resend" ++ 32 ∷ words.now) result }
+/// The resending of which these are the fields after the first.
+fn read_resend(fields: &[u8]) -> Option<ScheduleLine>
+    ensures { ReadsAs (codes "resend" ++ 32 ∷ fields.now) result }
 {
-    let (side, stream) = read_side_of_stream(words)?;
+    let (side, stream) = read_side_of_stream(fields)?;
     Some(ScheduleLine::Resend(side, stream))
 }
 
-/// The crash of which these are the words after the first.
-fn read_crash(words: &[u8]) -> Option<ScheduleLine>
-    ensures { ReadsAs (codes "crash" ++ 32 ∷ words.now) result }
+/// The crash of which these are the fields after the first.
+fn read_crash(fields: &[u8]) -> Option<ScheduleLine>
+    ensures { ReadsAs (codes "crash" ++ 32 ∷ fields.now) result }
 {
-    let (side, stream) = read_side_of_stream(words)?;
+    let (side, stream) = read_side_of_stream(fields)?;
     Some(ScheduleLine::Crash(side, stream))
 }
 
-/// The recovery of which these are the words after the first.
-fn read_recover(words: &[u8]) -> Option<ScheduleLine>
-    ensures { ReadsAs (codes "recover" ++ 32 ∷ words.now) result }
+/// The recovery of which these are the fields after the first.
+fn read_recover(fields: &[u8]) -> Option<ScheduleLine>
+    ensures { ReadsAs (codes "recover" ++ 32 ∷ fields.now) result }
 {
-    let (side, stream) = read_side_of_stream(words)?;
+    let (side, stream) = read_side_of_stream(fields)?;
     Some(ScheduleLine::Recover(side, stream))
 }
 
-/// The line of which this is the text, without its end.
-pub(crate) fn read_line(alloc: Global, text: &[u8]) -> Result<Option<ScheduleLine>, AllocError>
-    ensures { IfOk result (λ read. ReadsAs text.now read) }
+/// A line that is no put, as its text has it.
+fn other<'a>(line: Option<ScheduleLine>) -> Option<LineText<'a>>
+    ensures { (text : List ℕ) → ReadsAs text line → Parses text result }
 {
-    let Some((command, words)) = next_word(text) else {
-        return Ok(None);
-    };
-    if command == b"put".as_slice() {
-        read_put(alloc, words)
-    } else if command == b"get".as_slice() {
-        Ok(read_stream(words).map(ScheduleLine::Get))
-    } else if command == b"ack".as_slice() {
-        Ok(read_stream(words).map(ScheduleLine::Ack))
-    } else if command == b"start".as_slice() {
-        Ok(read_start(words))
-    } else if command == b"resend".as_slice() {
-        Ok(read_resend(words))
-    } else if command == b"deliver".as_slice() {
-        Ok(read_deliver(words))
-    } else if command == b"crash".as_slice() {
-        Ok(read_crash(words))
-    } else if command == b"recover".as_slice() {
-        Ok(read_recover(words))
-    } else {
-        Ok(None)
+    match line {
+        Some(line) => Some(LineText::Other(line)),
+        None => None,
+    }
+}
+
+/// The line of which this is the text, without its end.
+fn parse(text: &[u8]) -> Option<LineText<'_>>
+    ensures { Parses text.now result }
+{
+    let (name, fields) = next_field(text)?;
+    match read_act_name(name)? {
+        ActName::Put => read_put(fields),
+        ActName::Get => other(read_get(fields)),
+        ActName::Ack => other(read_ack(fields)),
+        ActName::Start => other(read_start(fields)),
+        ActName::Resend => other(read_resend(fields)),
+        ActName::Deliver => other(read_deliver(fields)),
+        ActName::Crash => other(read_crash(fields)),
+        ActName::Recover => other(read_recover(fields)),
+    }
+}
+
+impl LineItem for ScheduleLine {
+    ghost use Rattle.amo_schedule.specs.Schedule as schedule;
+
+    ghost fields_of = { schedule.fields_of };
+
+    ghost InRange = { schedule.InRange };
+
+    fn read(alloc: Global, text: &[u8]) -> Result<Option<ScheduleLine>, AllocError> {
+        match parse(text) {
+            Some(LineText::Put(stream, digits)) => match read_message(alloc, digits)? {
+                Some(message) => Ok(Some(ScheduleLine::Put(stream, message))),
+                None => Ok(None),
+            },
+            Some(LineText::Other(line)) => Ok(Some(line)),
+            None => Ok(None),
+        }
+    }
+
+    fn fields_are_a_line() {}
+}
+
+impl CheckedItem for ScheduleLine {
+    fn is_line(text: &[u8]) -> bool {
+        parse(text).is_some()
     }
 }

@@ -9,7 +9,7 @@ use Rattle.std.proofs.lemmas.Fmt.{decimal_is_IsNumeral}
 use Rattle.std.proofs.lemmas.Bool.{and_parts}
 use Rattle.hex.specs.Hex.{IsBytes, encode_lower}
 use Rattle.amo_text.specs.Hexadecimal.{hex, is_hex_digit}
-use Rattle.amo_text.specs.Line.{Lacks, IsWord}
+use Rattle.amo_text.specs.Line.{Lacks, IsField}
 use Rattle.amo_text.proofs.HexDigits.{encode_lower-digits}
 
 pub Lacks-append : (byte : ℕ) (xs ys : List ℕ) → Lacks byte xs → Lacks byte ys → Lacks byte (xs ++ ys)
@@ -53,8 +53,8 @@ pub Lacks-hex : (byte : ℕ) (m : List ℕ) → IsBytes m → is_hex_digit byte 
 Lacks-hex byte [] bytes other dash = (λ same. dash (sym same), tt)
 Lacks-hex byte (b ∷ m) bytes other dash = Lacks-hex_digits byte (encode_lower (b ∷ m)) other (encode_lower-digits (b ∷ m) bytes)
 
-pub IsWord-decimal : (n : ℕ) → n < 2 ^ 64 → IsWord (decimal n)
-IsWord-decimal n small = (Lacks-decimal 32 n small (λ digit. omega arith), Lacks-decimal 10 n small (λ digit. omega arith))
+pub IsField-decimal : (n : ℕ) → n < 2 ^ 64 → IsField (decimal n)
+IsField-decimal n small = (Lacks-decimal 32 n small (λ digit. omega arith), Lacks-decimal 10 n small (λ digit. omega arith))
 
-pub IsWord-hex : (m : List ℕ) → IsBytes m → IsWord (hex m)
-IsWord-hex m bytes = (Lacks-hex 32 m bytes refl (λ dash. omega arith), Lacks-hex 10 m bytes refl (λ dash. omega arith))
+pub IsField-hex : (m : List ℕ) → IsBytes m → IsField (hex m)
+IsField-hex m bytes = (Lacks-hex 32 m bytes refl (λ dash. omega arith), Lacks-hex 10 m bytes refl (λ dash. omega arith))

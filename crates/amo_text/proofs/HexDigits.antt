@@ -62,16 +62,23 @@ hex-nonempty : (m : List ℕ) → 0 < length m → hex m ≡ encode_lower m
 hex-nonempty [] some = absurd (omega arith)
 hex-nonempty (b ∷ m) some = refl
 
--- pairs of digits are decoded to the bytes that they spell
-pub spells_decoded : (text out rest : List ℕ) (n : ℕ) (r : Result Unit FromHexError) → IsPairs text → n ≡ length text / 2
-    → MatchResult (decode_sized text n) (λ bytes. (r ≡ Ok tt) × (out ≡ bytes)) (λ e. r ≡ Err e) → text ≡ hex (take n (out ++ rest))
-spells_decoded text out rest n r pairs half answer =
+-- pairs of digits spell half as many bytes
+pub spelt_by_pairs : (text : List ℕ) → IsPairs text → (m : List ℕ) × IsBytes m × (text ≡ hex m) × (length text / 2 ≡ length m)
+spelt_by_pairs text pairs =
     let (m, bytes, spelt) = bytes_of_pairs text pairs.even pairs.digits in
     let long = sym (ap length spelt) ∙ length-encode_with lower_digits m in
     let some = pairs.some in
-    let read : decode_sized text n ≡ Ok m = decode_sized-twice text n (omega arith) ∙ ap decode_of (sym spelt) ∙ decode_of-encode_lower m bytes in
+    (m, bytes, sym (hex-nonempty m (omega arith) ∙ spelt), omega arith)
+
+-- the HEX of some bytes is decoded to them
+pub spells_decoded : (text m out rest : List ℕ) (n : ℕ) (r : Result Unit FromHexError) → IsBytes m → text ≡ hex m → n ≡ length m → 0 < n
+    → MatchResult (decode_sized text n) (λ bytes. (r ≡ Ok tt) × (out ≡ bytes)) (λ e. r ≡ Err e) → text ≡ hex (take n (out ++ rest))
+spells_decoded text m out rest n r bytes spelt count some answer =
+    let same : text ≡ encode_lower m = spelt ∙ hex-nonempty m (omega arith) in
+    let long = ap length same ∙ length-encode_with lower_digits m in
+    let read : decode_sized text n ≡ Ok m = decode_sized-twice text n (omega arith) ∙ ap decode_of same ∙ decode_of-encode_lower m bytes in
     let written = MatchResult-at_ok _ _ m read answer in
-    rw (written.1, take_at m rest n (omega arith), hex-nonempty m (omega arith)) (sym spelt)
+    rw (written.1, take_at m rest n (omega arith)) spelt
 
 -- a text that is no dash and spells bytes is two digits for each
 pub IsPairs-hex : (text m : List ℕ) → IsBytes m → text ≢ codes "-" → text ≡ hex m → IsPairs text × (length text ≡ 2 * length m)
@@ -92,3 +99,7 @@ hex-injective [] (c ∷ n) first second e = cc
 hex-injective (b ∷ m) [] first second e = cc
 hex-injective (b ∷ m) (c ∷ n) first second e =
     decode_of-same (encode_lower (b ∷ m)) (b ∷ m) (c ∷ n) (decode_of-encode_lower (b ∷ m) first) (ap decode_of e ∙ decode_of-encode_lower (c ∷ n) second)
+
+-- bytes of one spelling are as many
+pub same_length : (text m n : List ℕ) → IsBytes m → IsBytes n → text ≡ hex m → text ≡ hex n → length m ≡ length n
+same_length text m n first second e f = ap length (hex-injective m n first second (sym e ∙ f))

@@ -3,4 +3,5 @@ pub mod Digits
 pub mod HexDigits
 pub mod Cuts
 pub mod Lines
-pub mod Items
+pub mod Readings
+pub mod Fields

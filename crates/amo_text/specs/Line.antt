@@ -1,4 +1,4 @@
--- Lines of words.
+-- Lines of fields.
 use Rattle.std.specs.Prelude.{ℕ, ◌≢◌, List, [], ◌∷◌, ◌++◌}
 use Rattle.std.specs.List.{AllByRecursion, join_with_byte}
 
@@ -7,17 +7,17 @@ abbrev pub Lacks : ℕ → List ℕ → Type 0
 Lacks byte xs = AllByRecursion (λ x. x ≢ byte) xs
 
 -- no space and no line feed
-abbrev pub IsWord : List ℕ → Type 0
-IsWord word = Lacks 32 word × Lacks 10 word
+abbrev pub IsField : List ℕ → Type 0
+IsField field = Lacks 32 field × Lacks 10 field
 
--- words, one at least
+-- fields, one at least
 abbrev pub IsLine : List (List ℕ) → Type 0
-IsLine words = (words ≢ []) × AllByRecursion IsWord words
+IsLine fields = (fields ≢ []) × AllByRecursion IsField fields
 
--- the words with single spaces between them
+-- the fields with single spaces between them
 abbrev pub text_of : List (List ℕ) → List ℕ
-text_of words = join_with_byte 32 words
+text_of fields = join_with_byte 32 fields
 
 -- that, and a line feed
 abbrev pub line_of : List (List ℕ) → List ℕ
-line_of words = text_of words ++ 10 ∷ []
+line_of fields = text_of fields ++ 10 ∷ []

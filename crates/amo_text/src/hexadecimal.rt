@@ -17,16 +17,29 @@ pub fn read_hex(text: &[u8], room: &mut [u8]) -> Option<usize>
     ensures none { IfNone result ((m : List ℕ) → IsBytes m → length m ≤ length room.old → text.now ≢ hex m) }
     ensures same { IfNone result (room.new ≡ room.old) }
 {
+    let count = hex_length(text)?;
+    if count > room.len() {
+        return None;
+    }
+    if count > 0 {
+        // It is pairs of digits, and so does not fail.
+        let _ = hex::decode_to_slice(text, &mut room[..count]);
+    }
+    Some(count)
+}
+
+/// How many bytes this text spells; none where it is no HEX. Nothing is read, and no memory taken.
+pub fn hex_length(text: &[u8]) -> Option<usize>
+    ensures found { IfSome result (λ n. (m : List ℕ) × IsBytes m × (text.now ≡ hex m) × (n ≡ length m)) }
+    ensures none { IfNone result ((m : List ℕ) → IsBytes m → text.now ≢ hex m) }
+{
     if text == b"-".as_slice() {
         return Some(0);
     }
-    let count = text.len() / 2;
-    if count > room.len() || !are_pairs(text) {
+    if !are_pairs(text) {
         return None;
     }
-    // It is pairs of digits, and so does not fail.
-    let _ = hex::decode_to_slice(text, &mut room[..count]);
-    Some(count)
+    Some(text.len() / 2)
 }
 
 /// Whether it is pairs of digits, and one pair at least.

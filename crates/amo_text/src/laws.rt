@@ -1,4 +1,4 @@
-//! Laws of the text: a number, some bytes, and a line of words have one spelling each, and what a fault leaves
+//! Laws of the text: a number, some bytes, and a line of fields have one spelling each, and what a fault leaves
 //! of some bytes is a beginning of them.
 //!
 //! These functions do nothing. Their contracts are facts about the definitions, which callers may use.
@@ -9,7 +9,7 @@ ghost use Rattle.std.specs.List.{AllByRecursion, flat_map};
 ghost use Rattle.hex.specs.Hex.{IsBytes};
 ghost use Rattle.amo_text.specs.Hexadecimal.{hex, is_hex_digit};
 ghost use Rattle.amo_text.specs.Sink.{AppendsFront};
-ghost use Rattle.amo_text.specs.Line.{Lacks, IsWord, IsLine, text_of, line_of};
+ghost use Rattle.amo_text.specs.Line.{Lacks, IsField, IsLine, text_of, line_of};
 
 /// Two numbers have two decimals.
 pub fn decimal_is_injective()
@@ -21,10 +21,10 @@ pub fn hex_is_injective()
     ensures { (m n : List ℕ) → IsBytes m → IsBytes n → hex m ≡ hex n → m ≡ n }
 {}
 
-/// A decimal is made of digits, and HEX of its digits and the dash: each is a word.
-pub fn spellings_are_words()
-    ensures decimal { (n : ℕ) → n < 2 ^ 64 → IsWord (decimal n) }
-    ensures hex { (m : List ℕ) → IsBytes m → IsWord (hex m) }
+/// A decimal is made of digits, and HEX of its digits and the dash: each is a field.
+pub fn spellings_are_fields()
+    ensures decimal { (n : ℕ) → n < 2 ^ 64 → IsField (decimal n) }
+    ensures hex { (m : List ℕ) → IsBytes m → IsField (hex m) }
     ensures decimal_digits { (byte n : ℕ) → n < 2 ^ 64 → ¬ (IsInRange 48 57 byte) → Lacks byte (decimal n) }
     ensures hex_digits { (byte : ℕ) (m : List ℕ) → IsBytes m → is_hex_digit byte ≡ false → byte ≢ 45 → Lacks byte (hex m) }
 {}
@@ -36,7 +36,7 @@ pub fn first_cut_is_unique()
     ensures none { (byte : ℕ) (xs b y : List ℕ) → Lacks byte xs → xs ≢ b ++ byte ∷ y }
 {}
 
-/// A line has one list of words and one end, and a text is the lines of one list at most.
+/// A line has one list of fields and one end, and a text is the lines of one list at most.
 pub fn line_is_injective()
     ensures one { (us vs : List (List ℕ)) → IsLine us → IsLine vs → line_of us ≡ line_of vs → us ≡ vs }
     ensures first { (us vs : List (List ℕ)) (x y : List ℕ) → IsLine us → IsLine vs

@@ -1,4 +1,4 @@
-//! Lines of words: single spaces between the words, and a line feed at the end.
+//! Lines of fields: single spaces between the fields, and a line feed at the end.
 ghost use Rattle.std.specs.Prelude.{◌≡◌, ◌<◌, ◌++◌, ◌∷◌, length, IfSome, IfNone};
 ghost use Rattle.amo_text.specs.Line.{Lacks};
 
@@ -25,8 +25,8 @@ pub fn next_line(text: &[u8]) -> Option<(&[u8], &[u8])>
     cut(text, b'\n')
 }
 
-/// The first word and what stands behind the space after it, where there is a space. A word may be empty.
-pub fn next_word(text: &[u8]) -> Option<(&[u8], &[u8])>
+/// The first field and what stands behind the space after it, where there is a space. A field may be empty.
+pub fn next_field(text: &[u8]) -> Option<(&[u8], &[u8])>
     ensures found { IfSome result (λ parts. (text.now ≡ parts.0.now ++ 32 ∷ parts.1.now) × Lacks 32 parts.0.now) }
     ensures none { IfNone result (Lacks 32 text.now) }
 {

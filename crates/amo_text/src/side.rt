@@ -5,12 +5,12 @@ ghost use Rattle.amo_text.specs.Side.{letter_of};
 
 use amo_object::End;
 
-/// The side that this word names: `s` the sender, `r` the receiver.
-pub fn read_side(word: &[u8]) -> Option<End>
-    ensures found { IfSome result (λ side. word.now ≡ letter_of side) }
-    ensures none { IfNone result ((side : End) → word.now ≢ letter_of side) }
+/// The side that this field names: `s` the sender, `r` the receiver.
+pub fn read_side(field: &[u8]) -> Option<End>
+    ensures found { IfSome result (λ side. field.now ≡ letter_of side) }
+    ensures none { IfNone result ((side : End) → field.now ≢ letter_of side) }
 {
-    match word {
+    match field {
         b"s" => Some(End::Sender),
         b"r" => Some(End::Receiver),
         _ => None,

@@ -6,12 +6,12 @@ ghost use Rattle.amo_packet.specs.Stream.{IsStream};
 use crate::read_decimal;
 use amo_packet::STREAMS;
 
-/// The stream that this word names, from 1 to [`STREAMS`].
-pub fn read_stream(word: &[u8]) -> Option<u32>
-    ensures found { IfSome result (λ stream. IsStream stream × (word.now ≡ decimal stream)) }
-    ensures none { IfNone result ((stream : ℕ) → IsStream stream → word.now ≢ decimal stream) }
+/// The stream that this field names, from 1 to [`STREAMS`].
+pub fn read_stream(field: &[u8]) -> Option<u32>
+    ensures found { IfSome result (λ stream. IsStream stream × (field.now ≡ decimal stream)) }
+    ensures none { IfNone result ((stream : ℕ) → IsStream stream → field.now ≢ decimal stream) }
 {
-    match read_decimal(word) {
+    match read_decimal(field) {
         Some(number) if 1 <= number && number <= STREAMS as u64 => Some(number as u32),
         _ => None,
     }

@@ -65,18 +65,18 @@ fn reads_hex(rt: HostRuntime) {
 }
 
 #[test]
-fn cuts_lines_and_words(rt: HostRuntime) -> Result<(), Fail> {
+fn cuts_lines_and_fields(rt: HostRuntime) -> Result<(), Fail> {
     let (line, lines) = next_line(b"put 1 61\n\nget 1").ok_or("a line")?;
     assert_eq!(rt; line, b"put 1 61".as_slice());
     assert_eq!(rt; lines, b"\nget 1".as_slice());
-    let (word, words) = next_word(line).ok_or("a word")?;
-    assert_eq!(rt; word, b"put".as_slice());
-    assert_eq!(rt; words, b"1 61".as_slice());
+    let (field, fields) = next_field(line).ok_or("a field")?;
+    assert_eq!(rt; field, b"put".as_slice());
+    assert_eq!(rt; fields, b"1 61".as_slice());
     let (none, rest) = cut(lines, b'\n').ok_or("an empty line")?;
     assert_eq!(rt; none, b"".as_slice());
     assert_eq!(rt; rest, b"get 1".as_slice());
     assert!(rt; next_line(rest).is_none());
-    assert!(rt; next_word(b"").is_none());
+    assert!(rt; next_field(b"").is_none());
     Ok(())
 }
 
@@ -120,9 +120,61 @@ fn names_the_sides(rt: HostRuntime) {
         (b"sr", None),
         (b"x", None),
     ];
-    for (word, side) in rows {
-        assert_eq!(rt; read_side(word), side, "{word:?}");
+    for (field, side) in rows {
+        assert_eq!(rt; read_side(field), side, "{field:?}");
     }
+}
+
+#[test]
+fn names_the_acts(rt: HostRuntime) {
+    let rows = [
+        (ActName::Put, "put"),
+        (ActName::Get, "get"),
+        (ActName::Ack, "ack"),
+        (ActName::Start, "start"),
+        (ActName::Resend, "resend"),
+        (ActName::Deliver, "deliver"),
+        (ActName::Crash, "crash"),
+        (ActName::Recover, "recover"),
+    ];
+    for (name, field) in rows {
+        assert_eq!(rt; name.field(), field);
+        assert_eq!(rt; read_act_name(field.as_bytes()), Some(name));
+    }
+    assert_eq!(rt; read_act_name(b"gets"), None);
+    assert_eq!(rt; read_act_name(b""), None);
+}
+
+#[test]
+fn tells_faults_of_lines(rt: HostRuntime) -> Result<(), Fail> {
+    let rows = [
+        (LinesFault::NoMemory, "out of memory"),
+        (LinesFault::Malformed(12), "line 12 is malformed"),
+    ];
+    for (fault, text) in rows {
+        assert_eq!(rt; fault.to_string(rt.alloc())?.as_str(), text);
+    }
+    Ok(())
+}
+
+#[test]
+fn reads_messages(rt: HostRuntime) -> Result<(), Fail> {
+    let longest = vec![in rt.alloc(); b'6'; 2048]?;
+    let longer = vec![in rt.alloc(); b'6'; 2050]?;
+    let rows: [(&[u8], Option<usize>); 5] = [
+        (b"-", Some(0)),
+        (b"00ff", Some(2)),
+        (longest.as_slice(), Some(1024)),
+        (longer.as_slice(), None),
+        (b"6", None),
+    ];
+    for (field, length) in rows {
+        let message = read_message(rt.alloc(), field)?;
+        assert_eq!(rt; message.map(|m| m.bytes().len()), length);
+        assert_eq!(rt; is_message(field), length.is_some());
+    }
+    assert_eq!(rt; hex_length(longer.as_slice()), Some(1025));
+    Ok(())
 }
 
 #[test]
@@ -140,10 +192,10 @@ fn spells_replies(rt: HostRuntime) -> Result<(), Fail> {
         (Reply::NotYet, "notyet"),
         (Reply::Done, "done"),
     ];
-    for (reply, words) in rows {
+    for (reply, spelling) in rows {
         let mut text = Vec::new(rt.alloc());
         push_reply(&mut text, &reply)?;
-        assert_eq!(rt; text.as_slice(), words.as_bytes(), "{words}");
+        assert_eq!(rt; text.as_slice(), spelling.as_bytes(), "{spelling}");
     }
     Ok(())
 }

@@ -5,17 +5,19 @@ use Rattle.amo_text.proofs.Cuts.{no_cut}
 use Rattle.amo_schedule.proofs.Reading.{no_put, after_number}
 use Rattle.amo_schedule.proofs.reader.read_put.Goals as goal
 
-pub returns-in_default : goal.returns-in_default
-returns-in_default c = no_put c.args.words.now (λ s m p small bytes e. no_cut 32 c.args.words.now (decimal s) (hex m) c.in_default.ensures.none e)
+pub returns-in_err-stream : goal.returns-in_err-stream
+returns-in_err-stream c =
+    rw c.from_residual.ensures (no_put c.args.fields.now (λ s m p message e. no_cut 32 c.args.fields.now (decimal s) (hex m) c.in_err-stream.ensures.none e))
 
-pub returns-in_default-read_stream : goal.returns-in_default-read_stream
-returns-in_default-read_stream c =
-    let cut = c.in-Some.ensures.found in
-    no_put c.args.words.now (λ s m p small bytes e.
-    c.in_default-read_stream.ensures.none s p (after_number s (hex m) c.args.words.now _ _ (omega arith) cut.0 cut.1 e).0)
+pub returns-in_err-stream-2 : goal.returns-in_err-stream-2
+returns-in_err-stream-2 c =
+    let cut = c.in_ok-stream.ensures.found in
+    rw c.from_residual-in_err-stream-2.ensures (no_put c.args.fields.now (λ s m p message e.
+    c.in_err-stream-2.ensures.none s p (after_number s (hex m) c.args.fields.now _ _ (omega arith) cut.0 cut.1 e).0))
 
-pub returns-in_default-2 : goal.returns-in_default-2
-returns-in_default-2 c =
-    let cut = c.in-Some.ensures.found in
-    no_put c.args.words.now (λ s m p small bytes e.
-    (rw c.in_default-2.is at c.in_ok-message.ensures.none) m small bytes (after_number s (hex m) c.args.words.now _ _ (omega arith) cut.0 cut.1 e).1)
+pub returns-else-is_message : goal.returns-else-is_message
+returns-else-is_message c =
+    let cut = c.in_ok-stream.ensures.found in
+    no_put c.args.fields.now (λ s m p message e.
+    let is = c.is_message.ensures.1 (m, message, (after_number s (hex m) c.args.fields.now _ _ (omega arith) cut.0 cut.1 e).1) in
+    cc (is, c.if-is_message.false))

@@ -6,4 +6,4 @@ pub returns-in_err-read_side-clause-none : goal.returns-in_err-read_side-clause-
 returns-in_err-read_side-clause-none c =
     let cut = c.in_ok-side.ensures.found in
     rw c.from_residual-in_err-read_side.ensures (λ side stream known e.
-    c.in_err-read_side.ensures.none side (after_side side (decimal stream) c.args.words.now _ _ cut.0 cut.1 e).0)
+    c.in_err-read_side.ensures.none side (after_side side (decimal stream) c.args.fields.now _ _ cut.0 cut.1 e).0)

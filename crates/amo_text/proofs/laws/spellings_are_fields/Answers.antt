@@ -1,11 +1,11 @@
-use Rattle.amo_text.proofs.Cuts.{IsWord-decimal, IsWord-hex, Lacks-decimal, Lacks-hex}
-use Rattle.amo_text.proofs.laws.spellings_are_words.Goals as goal
+use Rattle.amo_text.proofs.Cuts.{IsField-decimal, IsField-hex, Lacks-decimal, Lacks-hex}
+use Rattle.amo_text.proofs.laws.spellings_are_fields.Goals as goal
 
 pub returns-clause-decimal : goal.returns-clause-decimal
-returns-clause-decimal c = IsWord-decimal
+returns-clause-decimal c = IsField-decimal
 
 pub returns-clause-hex : goal.returns-clause-hex
-returns-clause-hex c = IsWord-hex
+returns-clause-hex c = IsField-hex
 
 pub returns-clause-decimal_digits : goal.returns-clause-decimal_digits
 returns-clause-decimal_digits c = Lacks-decimal
