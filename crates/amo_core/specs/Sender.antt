@@ -11,6 +11,7 @@ use Rattle.amo_core.specs.declared.mode.Mode.{Mode}
 use Rattle.amo_core.specs.declared.mode.Mode.TheVariants as kind_of
 use Rattle.amo_core.specs.declared.sender.SenderMode.{SenderMode}
 use Rattle.amo_core.specs.declared.sender.SenderMode.TheVariants.{Quiet, NeedId, Send, Down}
+use Rattle.amo_core.specs.declared.sender.TheConstants.{MAX_WAITING}
 use Rattle.amo_core.specs.Row.{Row, silent, done, unknown}
 pub mod Replies
 
@@ -39,11 +40,11 @@ quietly s = done s None
 abbrev pub emitting : SenderState → OwnedBody → Row SenderState
 emitting s body = done s (Some (record { stream = s.stream; body = body }))
 
--- the message goes last on the waiting list, unless sixteen wait
+-- the message goes last on the waiting list, unless as many wait as may
 abbrev pub put : SenderState → SenderMode → List ℕ → Row SenderState
 put s Down m = silent s reply.Down
 put s _ m =
-    if length s.waiting == 16 then silent s reply.Full else silent (record s { waiting = s.waiting ++ m ∷ [] }) reply.Ok
+    if length s.waiting == MAX_WAITING then silent s reply.Full else silent (record s { waiting = s.waiting ++ m ∷ [] }) reply.Ok
 
 -- what is known of the last message put
 abbrev pub get_ack : SenderState → SenderMode → List (List ℕ) → Row SenderState

@@ -18,13 +18,14 @@ use Rattle.amo_core.specs.Automaton.{row, used_word}
 use Rattle.amo_world.specs.declared.emission.Emission.{Emission}
 use Rattle.amo_world.specs.declared.emission.Emitted.{Emitted}
 use Rattle.amo_world.specs.declared.emission.Emitted.TheVariants.{Nothing, Again, First}
+use Rattle.amo_world.specs.declared.index.Index.{Index}
 use Rattle.amo_world.specs.declared.key.Key.{Key}
 use Rattle.amo_world.specs.declared.kept_side.KeptSide.{KeptSide}
-use Rattle.amo_world.specs.Key.{key_of, order}
+use Rattle.amo_world.specs.Key.{key_of, order, with_place}
 use Rattle.amo_world.specs.Log.{first_of}
-use Rattle.amo_world.specs.KeptSide.{Represents, place_at, with_place, IsIndexed, IsPlaced, IsSame, IsEmission, IsNoted}
+use Rattle.amo_world.specs.KeptSide.{Represents, place_at, IsIndexed, IsPlaced, IsSame, IsEmission, IsNoted}
 use Rattle.amo_world.proofs.Lists.{some_injective, contains_cases, contains_first, contains_other, slice_get-longer, slice_get-end}
-use Rattle.amo_world.proofs.Keys.{same_key, key_at_itself}
+use Rattle.amo_world.proofs.KeyTies.{same_key, key_at_itself}
 
 abbrev pub emission_by : End → OwnedPacket → Emission
 emission_by side packet = record { side = side; packet = packet }
@@ -201,12 +202,12 @@ denoted_side was side stored a emitted act (First p) (is, absent) keeps known = 
 
 -- the act is made after its emission was noted
 pub advanced_side : (mid now : KeptSide) (side : End) (stored : List Emission) (a : Automaton) (emitted : List OwnedPacket) (act : Act)
-    → now.automaton ≡ (row mid.automaton act).state → now.places ≡ mid.places → Represents mid side stored a emitted → Represents now side stored (row a act).state emitted
-advanced_side mid now side stored a emitted act state places keeps = record {
+    → now.automaton ≡ (row mid.automaton act).state → now.index ≡ mid.index → Represents mid side stored a emitted → Represents now side stored (row a act).state emitted
+advanced_side mid now side stored a emitted act state index keeps = record {
   state = state ∙ ap (λ (x : Automaton). (row x act).state) keeps.state;
   indexed = λ p c. let (place, at, is) = keeps.indexed p c in (place, same (key_of p.body) ∙ at, is);
   placed = λ key place at. keeps.placed key place (sym (same key) ∙ at);
 }
   where
     same : (key : Key) → place_at now key ≡ place_at mid key
-    same key = ap (λ m. get order m key) places
+    same key = ap (λ (i : Index). get order i.places key) index

@@ -1,16 +1,9 @@
 -- Keys. A key tells a packet from the others that its side emitted, in each history that is honest and fresh; and the words that a side
 -- used up are those whose keys its packets have.
 use Rattle.std.proofs.Common.{◌≡◌, ℕ, ◌==◌, Bool, true, false, eqb, if◌then◌else◌, Option, None, Some, List, [], ◌∷◌, ◌++◌, length, inl, inr, refl, sym, ◌∙◌, ap, subst}
-use Rattle.std.specs.declared.cmp.Ordering.{Ordering}
-use Rattle.std.specs.declared.cmp.Ordering.TheVariants.{Less, Equal, Greater}
-use Rattle.std.specs.Ordering.{ordering_then, bool_cmp}
 use Rattle.std.specs.List.{Contains}
 use Rattle.std.specs.Option.{IfSome, option_to_list, option_map, unwrap_or}
-use Rattle.std.specs.Cmp.{Equal-is}
-use Rattle.std.specs.BTreeMap.{is_at}
-use Rattle.std.proofs.lemmas.Cmp.{tied_itself}
 use Rattle.std.proofs.lemmas.Bool.{eq-eqb}
-use Rattle.std.proofs.lemmas.Map.Lookups.{exact_unsigned}
 use Rattle.amo_object.specs.declared.step.End.{End}
 use Rattle.amo_object.specs.declared.step.End.TheVariants.{Sender, Receiver}
 use Rattle.amo_packet.specs.declared.packet.OwnedPacket.{OwnedPacket}
@@ -29,9 +22,8 @@ use Rattle.amo_core.specs.Sender as sender
 use Rattle.amo_core.specs.Receiver as receiver
 use Rattle.amo_world.specs.declared.event.Event.{Event}
 use Rattle.amo_world.specs.declared.key.Key.{Key}
-use Rattle.amo_world.specs.declared.key.Key.TheVariants.{NeedUid, Accept, Send, Ack, Cleanup}
-use Rattle.amo_world.specs.contracts.key.KeyOrd.TheImpl.Laws.{total-law}
-use Rattle.amo_world.specs.Key.{key_of, key_of_word, order}
+use Rattle.amo_world.specs.declared.key.Kind.TheVariants.{NeedUid, Accept}
+use Rattle.amo_world.specs.Key.{key, key_of, key_of_word}
 use Rattle.amo_world.specs.Stream.{Stream, after, word_of, emission_of, emitted_by, words_of}
 use Rattle.amo_world.specs.History.{stream_after, stream_before, after_if, IsHonest, IsFresh}
 use Rattle.amo_world.proofs.Lists.{contains_nothing, contains_cases, contains_first, contains_other}
@@ -40,71 +32,15 @@ use Rattle.amo_world.proofs.Invariant.{Invariant, PacketFacts}
 use Rattle.amo_world.proofs.Emitted.{event_bears}
 use Rattle.amo_world.proofs.Serving.{stream_facts}
 
--- keys that tie are one
+-- what one key says
 
-less : Less ≡ Equal → ⊥
-less e = cc
+identifiers : (j k : Key) → j ≡ k → j.identifier ≡ k.identifier
+identifiers j k e = ap (λ (x : Key). x.identifier) e
 
-greater : Greater ≡ Equal → ⊥
-greater e = cc
-
-both_tie : (a b : Ordering) → ordering_then a b ≡ Equal → (a ≡ Equal) × (b ≡ Equal)
-both_tie Less b e = absurd (less e)
-both_tie Equal b e = (refl, e)
-both_tie Greater b e = absurd (greater e)
-
-flags_tie : (x y : Bool) → bool_cmp x y ≡ Equal → x ≡ y
-flags_tie false false e = refl
-flags_tie false true e = absurd (less e)
-flags_tie true false e = absurd (greater e)
-flags_tie true true e = refl
-
-keys_tie : (j k : Key) → order j k ≡ Equal → j ≡ k
-keys_tie (NeedUid a) (NeedUid b) e = ap (λ (x : ℕ). NeedUid x) (exact_unsigned a b e)
-keys_tie (NeedUid a) (Accept b) e = absurd (less e)
-keys_tie (NeedUid a) (Send b) e = absurd (less e)
-keys_tie (NeedUid a) (Ack b g) e = absurd (less e)
-keys_tie (NeedUid a) (Cleanup b) e = absurd (less e)
-keys_tie (Accept a) (NeedUid b) e = absurd (greater e)
-keys_tie (Accept a) (Accept b) e = ap (λ (x : ℕ). Accept x) (exact_unsigned a b e)
-keys_tie (Accept a) (Send b) e = absurd (less e)
-keys_tie (Accept a) (Ack b g) e = absurd (less e)
-keys_tie (Accept a) (Cleanup b) e = absurd (less e)
-keys_tie (Send a) (NeedUid b) e = absurd (greater e)
-keys_tie (Send a) (Accept b) e = absurd (greater e)
-keys_tie (Send a) (Send b) e = ap (λ (x : ℕ). Send x) (exact_unsigned a b e)
-keys_tie (Send a) (Ack b g) e = absurd (less e)
-keys_tie (Send a) (Cleanup b) e = absurd (less e)
-keys_tie (Ack a f) (NeedUid b) e = absurd (greater e)
-keys_tie (Ack a f) (Accept b) e = absurd (greater e)
-keys_tie (Ack a f) (Send b) e = absurd (greater e)
-keys_tie (Ack a f) (Ack b g) e =
-    let both = both_tie _ _ e in ap (λ (x : ℕ). Ack x f) (exact_unsigned a b both.0) ∙ ap (λ (x : Bool). Ack b x) (flags_tie f g both.1)
-keys_tie (Ack a f) (Cleanup b) e = absurd (less e)
-keys_tie (Cleanup a) (NeedUid b) e = absurd (greater e)
-keys_tie (Cleanup a) (Accept b) e = absurd (greater e)
-keys_tie (Cleanup a) (Send b) e = absurd (greater e)
-keys_tie (Cleanup a) (Ack b g) e = absurd (greater e)
-keys_tie (Cleanup a) (Cleanup b) e = ap (λ (x : ℕ). Cleanup x) (exact_unsigned a b e)
-
-pub same_key : (j k : Key) → is_at (order j) k ≡ true → j ≡ k
-same_key j k e = keys_tie j k ((Equal-is (order j k)).0 e)
-
-pub key_at_itself : (k : Key) → is_at (order k) k ≡ true
-key_at_itself k = (Equal-is (order k k)).1 (tied_itself total-law k)
-
--- two keys of one identifier
-
-accepts_one : (a b : ℕ) → Accept a ≡ Accept b → a ≡ b
-accepts_one a b e = cc
-
-sends_one : (a b : ℕ) → Send a ≡ Send b → a ≡ b
-sends_one a b e = cc
+kinds : (j k : Key) → j ≡ k → j.kind ≡ k.kind
+kinds j k e = ap (λ (x : Key). x.kind) e
 
 -- what two packets of one key say is one, where an identifier is accepted for one needuid and one message is sent under it
-abbrev AreOne : OwnedBody → OwnedBody → Type 0
-AreOne b c = key_of b ≡ key_of c → b ≡ c
-
 module _ (from_sender from_receiver : List OwnedPacket) (facts : PacketFacts from_sender from_receiver) where
   one_accept : (p q : OwnedPacket) (jd asked a b : ℕ) → Contains from_receiver p → Contains from_receiver q → p.body ≡ packet.Accept jd a → q.body ≡ packet.Accept asked b
       → a ≡ b → packet.Accept jd a ≡ packet.Accept asked b
@@ -125,32 +61,32 @@ module _ (from_sender from_receiver : List OwnedPacket) (facts : PacketFacts fro
 alike : (p q : OwnedPacket) (b c : OwnedBody) → p.body ≡ b → q.body ≡ c
     → ((jd asked a x : ℕ) → p.body ≡ packet.Accept jd a → q.body ≡ packet.Accept asked x → a ≡ x → packet.Accept jd a ≡ packet.Accept asked x)
     → ((a x : ℕ) (m n : List ℕ) → p.body ≡ packet.Send a m → q.body ≡ packet.Send x n → a ≡ x → packet.Send a m ≡ packet.Send x n)
-    → key_of b ≡ key_of c → b ≡ c
-alike p q (packet.NeedUid a) (packet.NeedUid x) is_p is_q accepts sends e = cc
-alike p q (packet.NeedUid a) (packet.Accept jd x) is_p is_q accepts sends e = absurd cc
-alike p q (packet.NeedUid a) (packet.Send x n) is_p is_q accepts sends e = absurd cc
-alike p q (packet.NeedUid a) (packet.Ack x g) is_p is_q accepts sends e = absurd cc
-alike p q (packet.NeedUid a) (packet.Cleanup x) is_p is_q accepts sends e = absurd cc
-alike p q (packet.Accept jd a) (packet.NeedUid x) is_p is_q accepts sends e = absurd cc
-alike p q (packet.Accept jd a) (packet.Accept asked x) is_p is_q accepts sends e = accepts jd asked a x is_p is_q (accepts_one a x e)
-alike p q (packet.Accept jd a) (packet.Send x n) is_p is_q accepts sends e = absurd cc
-alike p q (packet.Accept jd a) (packet.Ack x g) is_p is_q accepts sends e = absurd cc
-alike p q (packet.Accept jd a) (packet.Cleanup x) is_p is_q accepts sends e = absurd cc
-alike p q (packet.Send a m) (packet.NeedUid x) is_p is_q accepts sends e = absurd cc
-alike p q (packet.Send a m) (packet.Accept jd x) is_p is_q accepts sends e = absurd cc
-alike p q (packet.Send a m) (packet.Send x n) is_p is_q accepts sends e = sends a x m n is_p is_q (sends_one a x e)
-alike p q (packet.Send a m) (packet.Ack x g) is_p is_q accepts sends e = absurd cc
-alike p q (packet.Send a m) (packet.Cleanup x) is_p is_q accepts sends e = absurd cc
-alike p q (packet.Ack a f) (packet.NeedUid x) is_p is_q accepts sends e = absurd cc
-alike p q (packet.Ack a f) (packet.Accept jd x) is_p is_q accepts sends e = absurd cc
-alike p q (packet.Ack a f) (packet.Send x n) is_p is_q accepts sends e = absurd cc
-alike p q (packet.Ack a f) (packet.Ack x g) is_p is_q accepts sends e = cc
-alike p q (packet.Ack a f) (packet.Cleanup x) is_p is_q accepts sends e = absurd cc
-alike p q (packet.Cleanup a) (packet.NeedUid x) is_p is_q accepts sends e = absurd cc
-alike p q (packet.Cleanup a) (packet.Accept jd x) is_p is_q accepts sends e = absurd cc
-alike p q (packet.Cleanup a) (packet.Send x n) is_p is_q accepts sends e = absurd cc
-alike p q (packet.Cleanup a) (packet.Ack x g) is_p is_q accepts sends e = absurd cc
-alike p q (packet.Cleanup a) (packet.Cleanup x) is_p is_q accepts sends e = cc
+    → (key_of b).identifier ≡ (key_of c).identifier → (key_of b).kind ≡ (key_of c).kind → b ≡ c
+alike p q (packet.NeedUid a) (packet.NeedUid x) is_p is_q accepts sends same kinds = cc
+alike p q (packet.NeedUid a) (packet.Accept jd x) is_p is_q accepts sends same kinds = absurd cc
+alike p q (packet.NeedUid a) (packet.Send x n) is_p is_q accepts sends same kinds = absurd cc
+alike p q (packet.NeedUid a) (packet.Ack x g) is_p is_q accepts sends same kinds = absurd cc
+alike p q (packet.NeedUid a) (packet.Cleanup x) is_p is_q accepts sends same kinds = absurd cc
+alike p q (packet.Accept jd a) (packet.NeedUid x) is_p is_q accepts sends same kinds = absurd cc
+alike p q (packet.Accept jd a) (packet.Accept asked x) is_p is_q accepts sends same kinds = accepts jd asked a x is_p is_q same
+alike p q (packet.Accept jd a) (packet.Send x n) is_p is_q accepts sends same kinds = absurd cc
+alike p q (packet.Accept jd a) (packet.Ack x g) is_p is_q accepts sends same kinds = absurd cc
+alike p q (packet.Accept jd a) (packet.Cleanup x) is_p is_q accepts sends same kinds = absurd cc
+alike p q (packet.Send a m) (packet.NeedUid x) is_p is_q accepts sends same kinds = absurd cc
+alike p q (packet.Send a m) (packet.Accept jd x) is_p is_q accepts sends same kinds = absurd cc
+alike p q (packet.Send a m) (packet.Send x n) is_p is_q accepts sends same kinds = sends a x m n is_p is_q same
+alike p q (packet.Send a m) (packet.Ack x g) is_p is_q accepts sends same kinds = absurd cc
+alike p q (packet.Send a m) (packet.Cleanup x) is_p is_q accepts sends same kinds = absurd cc
+alike p q (packet.Ack a f) (packet.NeedUid x) is_p is_q accepts sends same kinds = absurd cc
+alike p q (packet.Ack a f) (packet.Accept jd x) is_p is_q accepts sends same kinds = absurd cc
+alike p q (packet.Ack a f) (packet.Send x n) is_p is_q accepts sends same kinds = absurd cc
+alike p q (packet.Ack a f) (packet.Ack x g) is_p is_q accepts sends same kinds = cc
+alike p q (packet.Ack a f) (packet.Cleanup x) is_p is_q accepts sends same kinds = absurd cc
+alike p q (packet.Cleanup a) (packet.NeedUid x) is_p is_q accepts sends same kinds = absurd cc
+alike p q (packet.Cleanup a) (packet.Accept jd x) is_p is_q accepts sends same kinds = absurd cc
+alike p q (packet.Cleanup a) (packet.Send x n) is_p is_q accepts sends same kinds = absurd cc
+alike p q (packet.Cleanup a) (packet.Ack x g) is_p is_q accepts sends same kinds = absurd cc
+alike p q (packet.Cleanup a) (packet.Cleanup x) is_p is_q accepts sends same kinds = cc
 
 -- a sender emits no accept, and a receiver no send
 
@@ -319,7 +255,8 @@ emission_alike s Sender a p q facts is c same =
     let of_sender : IsOfSender p.body = subst (λ (o : Option OwnedPacket). IfSome o (λ x. IsOfSender x.body)) is (emits_as_sender s.sender.state a) in
     alike q p q.body p.body refl refl
     (λ jd asked x y is_q is_p e. absurd (subst IsOfSender is_p of_sender))
-    (λ x y m n is_q is_p e. one_send from_sender s.receiver.emitted facts.packets q p x y m n before now is_q is_p e) same
+    (λ x y m n is_q is_p e. one_send from_sender s.receiver.emitted facts.packets q p x y m n before now is_q is_p e)
+    (identifiers _ _ same) (kinds _ _ same)
 emission_alike s Receiver a p q facts is c same =
     let from_receiver = option_to_list (receiver.row s.receiver.state a).emitted ++ s.receiver.emitted in
     let list : p ∷ s.receiver.emitted ≡ from_receiver = ap (λ (o : Option OwnedPacket). option_to_list o ++ s.receiver.emitted) (sym is) in
@@ -328,23 +265,24 @@ emission_alike s Receiver a p q facts is c same =
     let of_receiver : IsOfReceiver p.body = subst (λ (o : Option OwnedPacket). IfSome o (λ x. IsOfReceiver x.body)) is (emits_as_receiver s.receiver.state a) in
     alike q p q.body p.body refl refl
     (λ jd asked x y is_q is_p e. one_accept s.sender.emitted from_receiver facts.packets q p jd asked x y before now is_q is_p e)
-    (λ x y m n is_q is_p e. absurd (subst IsOfReceiver is_p of_receiver)) same
+    (λ x y m n is_q is_p e. absurd (subst IsOfReceiver is_p of_receiver))
+    (identifiers _ _ same) (kinds _ _ same)
 
 -- an act that uses up a word emits a packet with the key of that word
 
 start_emits : (s : sender.SenderState) (mode : SenderMode) (waiting : List (List ℕ)) (word w : ℕ) → option_map (λ (p : OwnedPacket). word) (sender.start s mode waiting word).emitted ≡ Some w
-    → (p : OwnedPacket) × ((sender.start s mode waiting word).emitted ≡ Some p) × (key_of p.body ≡ NeedUid w)
+    → (p : OwnedPacket) × ((sender.start s mode waiting word).emitted ≡ Some p) × (key_of p.body ≡ key NeedUid w)
 start_emits s (sending.Quiet got) [] word w is = absurd cc
 start_emits s (sending.Quiet got) (m ∷ rest) word w is =
-    (record { stream = s.stream; body = packet.NeedUid word }, refl, ap (λ (o : Option ℕ). NeedUid (unwrap_or o 0)) is)
+    (record { stream = s.stream; body = packet.NeedUid word }, refl, ap (λ (o : Option ℕ). key NeedUid (unwrap_or o 0)) is)
 start_emits s (sending.NeedId jd m) waiting word w is = absurd cc
 start_emits s (sending.Send id m) waiting word w is = absurd cc
 start_emits s sending.Down waiting word w is = absurd cc
 
 needuid_emits : (s : receiver.ReceiverState) (mode : ReceiverMode) (body : OwnedBody) (word w : ℕ) → s.mode ≡ mode → receiver.accepted_word mode body word ≡ Some w
-    → (p : OwnedPacket) × ((receiver.deliver s body word).emitted ≡ Some p) × (key_of p.body ≡ Accept w)
+    → (p : OwnedPacket) × ((receiver.deliver s body word).emitted ≡ Some p) × (key_of p.body ≡ key Accept w)
 needuid_emits s receiving.Idle (packet.NeedUid jd) word w at is =
-    (record { stream = s.stream; body = packet.Accept jd word }, ap (λ (mode : ReceiverMode). (receiver.needuid s mode jd word).emitted) at, ap (λ (o : Option ℕ). Accept (unwrap_or o 0)) is)
+    (record { stream = s.stream; body = packet.Accept jd word }, ap (λ (mode : ReceiverMode). (receiver.needuid s mode jd word).emitted) at, ap (λ (o : Option ℕ). key Accept (unwrap_or o 0)) is)
 needuid_emits s receiving.Idle (packet.Accept jd id) word w at is = absurd cc
 needuid_emits s receiving.Idle (packet.Send id m) word w at is = absurd cc
 needuid_emits s receiving.Idle (packet.Ack id got) word w at is = absurd cc
@@ -416,23 +354,23 @@ words_emitted number [] Receiver w c = absurd (contains_nothing w c)
 words_emitted number (e ∷ past) side w c = all_if (eqb number e.stream) (stream_after number past) e (words_emitted number past) side w c
 
 -- and no other words
-is_needuid : (b : OwnedBody) (w : ℕ) → key_of b ≡ NeedUid w → IsNeeduid w b
-is_needuid (packet.NeedUid jd) w e = cc
-is_needuid (packet.Accept jd id) w e = absurd cc
-is_needuid (packet.Send id m) w e = absurd cc
-is_needuid (packet.Ack id got) w e = absurd cc
-is_needuid (packet.Cleanup id) w e = absurd cc
+is_needuid : (b : OwnedBody) (w : ℕ) → (key_of b).identifier ≡ w → (key_of b).kind ≡ NeedUid → IsNeeduid w b
+is_needuid (packet.NeedUid jd) w same kind = same
+is_needuid (packet.Accept jd id) w same kind = absurd cc
+is_needuid (packet.Send id m) w same kind = absurd cc
+is_needuid (packet.Ack id got) w same kind = absurd cc
+is_needuid (packet.Cleanup id) w same kind = absurd cc
 
-is_accept : (b : OwnedBody) (w : ℕ) → key_of b ≡ Accept w → IsAccept w b
-is_accept (packet.NeedUid jd) w e = absurd cc
-is_accept (packet.Accept jd id) w e = cc
-is_accept (packet.Send id m) w e = absurd cc
-is_accept (packet.Ack id got) w e = absurd cc
-is_accept (packet.Cleanup id) w e = absurd cc
+is_accept : (b : OwnedBody) (w : ℕ) → (key_of b).identifier ≡ w → (key_of b).kind ≡ Accept → IsAccept w b
+is_accept (packet.NeedUid jd) w same kind = absurd cc
+is_accept (packet.Accept jd id) w same kind = same
+is_accept (packet.Send id m) w same kind = absurd cc
+is_accept (packet.Ack id got) w same kind = absurd cc
+is_accept (packet.Cleanup id) w same kind = absurd cc
 
 pub word_used : (s : Stream) (side : End) (w : ℕ) → Invariant s → HasWord (emitted_by s side) side w → Contains (words_of s side) w
-word_used s Sender w facts (p, c, key) = facts.needuid_words w (any-contains (IsNeeduid w) s.sender.emitted p c (is_needuid p.body w key))
-word_used s Receiver w facts (p, c, key) = facts.accept_words w (any-contains (IsAccept w) s.receiver.emitted p c (is_accept p.body w key))
+word_used s Sender w facts (p, c, same) = facts.needuid_words w (any-contains (IsNeeduid w) s.sender.emitted p c (is_needuid p.body w (identifiers _ _ same) (kinds _ _ same)))
+word_used s Receiver w facts (p, c, same) = facts.accept_words w (any-contains (IsAccept w) s.receiver.emitted p c (is_accept p.body w (identifiers _ _ same) (kinds _ _ same)))
 
 -- what a side emitted bears the number of its stream
 

@@ -2,12 +2,15 @@ pub mod Consequences
 pub mod Order
 pub mod Lists
 pub mod Keys
+mod KeyTies
 pub mod Kept
 pub mod Worlds
 pub mod Emitted
 pub mod Extensions
 pub mod Picks
 pub mod Replies
+pub mod RepliesByMode
+pub mod Held
 pub mod Moving
 pub mod Unmarking
 pub mod Marking

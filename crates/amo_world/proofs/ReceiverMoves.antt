@@ -14,7 +14,7 @@ use Rattle.amo_core.specs.declared.sender.SenderMode.TheVariants as sending
 use Rattle.amo_core.specs.declared.receiver.ReceiverMode.{ReceiverMode}
 use Rattle.amo_core.specs.declared.receiver.ReceiverMode.TheVariants as receiving
 use Rattle.amo_core.specs.Sender as sender
-use Rattle.amo_world.specs.Doubt.{Entry, entry, MovesUnmarking, settled_before}
+use Rattle.amo_world.specs.Doubt.{Entry, entry, DoubtState, MovesUnmarking, settled_before}
 use Rattle.amo_core.specs.Receiver.{is_holding, is_acking}
 use Rattle.amo_world.specs.View.{entries, carried, is_lost_accept, may_meet_lost_accept, received, current, known, is_known_in_doubt, is_receiver_down, view_of}
 use Rattle.amo_world.proofs.Moving.{state-eq}
@@ -37,84 +37,9 @@ known_fewer (sending.Quiet got) waiting untaken a b fewer is = is
 known_fewer (sending.NeedId jd m) waiting untaken a b fewer is = is
 known_fewer sending.Down waiting untaken a b fewer is = is
 
-module _ (mode : SenderMode) (waiting : List (List ℕ)) (from_sender : List OwnedPacket) (untaken : List (List ℕ)) where
-  -- less is in doubt from now on
-  doubts_less : (a b : ReceiverMode) (from_receiver more : List OwnedPacket)
-      → HasFewerMarks (received mode a from_sender) (received mode b from_sender) → DoubtsNoMore mode a b from_receiver more
-      → GivesNoMore mode a b → is_receiver_down a ≡ is_receiver_down b
-      → MovesUnmarking (view_of mode waiting a from_sender from_receiver untaken) [] (view_of mode waiting b from_sender more untaken)
-  doubts_less a b from_receiver more first doubts gives down =
-      fewer_marks _ _
-      (fewer-append _ _ _ _ first
-      (fewer-append _ _ _ _ (current_fewer mode a b from_receiver more untaken doubts) (fewer-refl (entries false waiting))))
-      refl (known_fewer mode waiting untaken a b gives) refl down
-
-  -- nothing changes
-  same_view : (at : ReceiverMode) (from_receiver more : List OwnedPacket)
-      → ((jd : ℕ) → may_meet_lost_accept at jd more ≡ may_meet_lost_accept at jd from_receiver)
-      → view_of mode waiting at from_sender from_receiver untaken ≡ view_of mode waiting at from_sender more untaken
-  same_view at from_receiver more same =
-      state-eq _ _
-      (ap (λ (es : List Entry). received mode at from_sender ++ (es ++ entries false waiting)) (same_current mode)) refl refl refl refl
-    where
-      same_current : (mode : SenderMode) → current mode at from_receiver untaken ≡ current mode at more untaken
-      same_current (sending.Quiet got) = refl
-      same_current (sending.NeedId jd m) = ap (λ (b : Bool). entry b m ∷ []) (sym (same jd))
-      same_current (sending.Send id m) = refl
-      same_current sending.Down = refl
-
 -- what the receiver has accepted and still has is not lost
 own_accept : (jd id asked : ℕ) → is_lost_accept (receiving.Accept jd id) asked (packet.Accept jd id) ≡ false
 own_accept jd id asked = and_right (eqb jd asked) (not (eqb id id)) (rw (eqb_same id) refl)
-
--- an accept that is emitted again changes nothing
-pub accepts_again : (mode : SenderMode) (waiting : List (List ℕ)) (from_sender from_receiver : List OwnedPacket) (untaken : List (List ℕ))
-    (n jd id : ℕ)
-    → MovesUnmarking (view_of mode waiting (receiving.Accept jd id) from_sender from_receiver untaken) []
-    (view_of mode waiting (receiving.Accept jd id) from_sender (record { stream = n; body = packet.Accept jd id } ∷ from_receiver) untaken)
-accepts_again mode waiting from_sender from_receiver untaken n jd id =
-    moves-to (stays _)
-    (same_view mode waiting from_sender untaken (receiving.Accept jd id) from_receiver
-    (record { stream = n; body = packet.Accept jd id } ∷ from_receiver)
-    (λ asked. rw (own_accept jd id asked) refl))
-
--- nor does an ack
-pub acks_with : (mode : SenderMode) (waiting : List (List ℕ)) (at : ReceiverMode) (from_sender from_receiver : List OwnedPacket)
-    (untaken : List (List ℕ)) (n id : ℕ) (got : Bool)
-    → MovesUnmarking (view_of mode waiting at from_sender from_receiver untaken) []
-    (view_of mode waiting at from_sender (record { stream = n; body = packet.Ack id got } ∷ from_receiver) untaken)
-acks_with mode waiting at from_sender from_receiver untaken n id got =
-    moves-to (stays _)
-    (same_view mode waiting from_sender untaken at from_receiver (record { stream = n; body = packet.Ack id got } ∷ from_receiver)
-    (λ asked. refl))
-
--- a receiver at rest accepts an identifier that no packet of the sender bears
-pub accepts_first : (mode : SenderMode) (waiting : List (List ℕ)) (from_sender from_receiver : List OwnedPacket) (untaken : List (List ℕ))
-    (n jd id : ℕ) → (Any (IsPastAccept id) from_sender → ⊥)
-    → MovesUnmarking (view_of mode waiting receiving.Idle from_sender from_receiver untaken) []
-    (view_of mode waiting (receiving.Accept jd id) from_sender (record { stream = n; body = packet.Accept jd id } ∷ from_receiver) untaken)
-accepts_first mode waiting from_sender from_receiver untaken n jd id unnamed =
-    doubts_less mode waiting from_sender untaken receiving.Idle (receiving.Accept jd id) from_receiver
-    (record { stream = n; body = packet.Accept jd id } ∷ from_receiver)
-    (subst (λ (es : List Entry). HasFewerMarks [] es) (sym nothing) tt) (no_more mode) (gives_no_more mode) refl
-  where
-    nothing : received mode (receiving.Accept jd id) from_sender ≡ []
-    nothing = rw (carried_none from_sender id unnamed) (same_either_way (sender.is_sending mode id) [])
-
-    no_more : (mode : SenderMode)
-        → DoubtsNoMore mode receiving.Idle (receiving.Accept jd id) from_receiver
-        (record { stream = n; body = packet.Accept jd id } ∷ from_receiver)
-    no_more (sending.Quiet got) = tt
-    no_more (sending.NeedId asked m) =
-        λ is. lost_fewer receiving.Idle (receiving.Accept jd id) asked from_receiver (λ x o e. refl) (rw (own_accept jd id asked) at is)
-    no_more (sending.Send x m) = (refl, λ e. refl)
-    no_more sending.Down = tt
-
-    gives_no_more : (mode : SenderMode) → GivesNoMore mode receiving.Idle (receiving.Accept jd id)
-    gives_no_more (sending.Quiet got) = tt
-    gives_no_more (sending.NeedId asked m) = tt
-    gives_no_more (sending.Send x m) = λ e. refl
-    gives_no_more sending.Down = tt
 
 -- the mark is gone where a message is not taken yet
 known_while_untaken : (mode : SenderMode) (waiting : List (List ℕ)) (m : List ℕ) (untaken : List (List ℕ)) (at : ReceiverMode)
@@ -124,50 +49,6 @@ known_while_untaken (sending.Send id n) (w ∷ waiting) m untaken at = refl
 known_while_untaken (sending.Quiet got) waiting m untaken at = refl
 known_while_untaken (sending.NeedId jd n) waiting m untaken at = refl
 known_while_untaken sending.Down waiting m untaken at = refl
-
--- a message that the sender sent comes, under the identifier that is accepted: where it does not send it any more
-pub takes_forgotten : (mode : SenderMode) (waiting : List (List ℕ)) (from_sender from_receiver : List OwnedPacket)
-    (untaken : List (List ℕ)) (jd id : ℕ) (m : List ℕ)
-    → sender.is_sending mode id ≡ false → carried from_sender id ≡ m ∷ []
-    → MovesUnmarking (view_of mode waiting (receiving.Accept jd id) from_sender from_receiver untaken) []
-    (view_of mode waiting (receiving.Rcvd id m) from_sender from_receiver untaken)
-takes_forgotten mode waiting from_sender from_receiver untaken jd id m forgotten carries =
-    doubts_less mode waiting from_sender untaken (receiving.Accept jd id) (receiving.Rcvd id m) from_receiver from_receiver
-    (rw (forgotten, carries) (refl, (λ e. refl), tt)) (no_more mode forgotten) (gives_no_more mode) refl
-  where
-    no_more : (mode : SenderMode) → sender.is_sending mode id ≡ false
-        → DoubtsNoMore mode (receiving.Accept jd id) (receiving.Rcvd id m) from_receiver from_receiver
-    no_more (sending.Quiet got) f = tt
-    no_more (sending.NeedId asked n) f = λ is. lost_fewer (receiving.Accept jd id) (receiving.Rcvd id m) asked from_receiver (λ x o e. e) is
-    no_more (sending.Send x n) f = (eqb_swap id x ∙ f, λ e. e)
-    no_more sending.Down f = tt
-
-    gives_no_more : (mode : SenderMode) → GivesNoMore mode (receiving.Accept jd id) (receiving.Rcvd id m)
-    gives_no_more (sending.Quiet got) = tt
-    gives_no_more (sending.NeedId asked n) = tt
-    gives_no_more (sending.Send x n) = λ e. refl
-    gives_no_more sending.Down = tt
-
--- and where it does
-pub takes_sent : (waiting : List (List ℕ)) (from_sender from_receiver : List OwnedPacket) (untaken : List (List ℕ)) (jd id under : ℕ)
-    (m : List ℕ)
-    → eqb under id ≡ true → untaken ≡ m ∷ []
-    → MovesUnmarking (view_of (sending.Send under m) waiting (receiving.Accept jd id) from_sender from_receiver untaken) []
-    (view_of (sending.Send under m) waiting (receiving.Rcvd id m) from_sender from_receiver untaken)
-takes_sent waiting from_sender from_receiver untaken jd id under m same is =
-    let back : eqb id under ≡ true = eqb_swap id under ∙ same in
-    subst
-    (λ (u : List (List ℕ)). MovesUnmarking
-    (view_of (sending.Send under m) waiting (receiving.Accept jd id) from_sender from_receiver u) []
-    (view_of (sending.Send under m) waiting (receiving.Rcvd id m) from_sender from_receiver u))
-    (sym is)
-    (moves-to (stays _) (state-eq _ _
-    (rw (same, back) refl)
-    refl
-    (known_while_untaken (sending.Send under m) waiting m [] (receiving.Accept jd id) ∙ sym
-    (known_while_untaken (sending.Send under m) waiting m [] (receiving.Rcvd id m)))
-    refl
-    refl))
 
 -- the status of a queue that is not empty stays where messages leave before others
 settled_before_some : (es fs : List Entry) (f : Entry) (status to : Status) → settled_before (es ++ f ∷ fs) status to ≡ status
@@ -239,65 +120,6 @@ away_not_sending id (sending.NeedId asked m) from_receiver away = refl
 away_not_sending id (sending.Quiet got) from_receiver away = refl
 away_not_sending id sending.Down from_receiver away = refl
 
--- an accept is forgotten, with the message that might still have come under it
-pub forgets_accept : (mode : SenderMode) (waiting : List (List ℕ)) (from_sender from_receiver : List OwnedPacket)
-    (untaken : List (List ℕ)) (jd id : ℕ) → IsAwayFrom id mode from_receiver
-    → MovesUnmarking (view_of mode waiting (receiving.Accept jd id) from_sender from_receiver untaken) []
-    (view_of mode waiting receiving.Idle from_sender from_receiver untaken)
-forgets_accept mode waiting from_sender from_receiver untaken jd id away =
-    let v = view_of mode waiting (receiving.Accept jd id) from_sender from_receiver untaken in
-    let group = entries true (carried from_sender id) in
-    let later = current mode (receiving.Accept jd id) from_receiver untaken ++ entries false waiting in
-    quietly_then
-    (leaves v [] group later (entries_doubted (carried from_sender id)) (rw (away_not_sending id mode from_receiver away) refl))
-    (moves-to
-    (unmarks (record v { entries = later; status = settled_without group later v.status })
-    (current mode receiving.Idle from_receiver untaken ++ entries false waiting)
-    (is_known_in_doubt mode waiting untaken receiving.Idle)
-    (fewer-append _ _ _ _
-    (current_fewer mode (receiving.Accept jd id) receiving.Idle from_receiver from_receiver untaken (no_more mode away))
-    (fewer-refl (entries false waiting)))
-    (known_fewer mode waiting untaken (receiving.Accept jd id) receiving.Idle (gives_no_more mode)))
-    (state-eq _ _ refl
-    (stays_known_without mode waiting (receiving.Accept jd id) from_receiver untaken group
-    (listed mode (receiving.Accept jd id) tt)) refl refl refl))
-  where
-    no_more : (mode : SenderMode) → IsAwayFrom id mode from_receiver
-        → DoubtsNoMore mode (receiving.Accept jd id) receiving.Idle from_receiver from_receiver
-    no_more (sending.Send x m) far = (refl, λ e. eqb_swap id x ∙ far)
-    no_more (sending.NeedId asked m) far =
-        λ is. lost_fewer (receiving.Accept jd id) receiving.Idle asked from_receiver (λ x o e. far x o) is
-    no_more (sending.Quiet got) far = tt
-    no_more sending.Down far = tt
-
-    gives_no_more : (mode : SenderMode) → GivesNoMore mode (receiving.Accept jd id) receiving.Idle
-    gives_no_more (sending.Send x m) = λ e. refl
-    gives_no_more (sending.NeedId asked m) = tt
-    gives_no_more (sending.Quiet got) = tt
-    gives_no_more sending.Down = tt
-
--- an identifier under which a message was given away is forgotten
-pub forgets_given : (mode : SenderMode) (waiting : List (List ℕ)) (from_sender from_receiver : List OwnedPacket) (untaken : List (List ℕ))
-    (id : ℕ) → IsAwayFrom id mode from_receiver
-    → MovesUnmarking (view_of mode waiting (receiving.Ack id) from_sender from_receiver untaken) []
-    (view_of mode waiting receiving.Idle from_sender from_receiver untaken)
-forgets_given mode waiting from_sender from_receiver untaken id away =
-    doubts_less mode waiting from_sender untaken (receiving.Ack id) receiving.Idle from_receiver from_receiver tt (no_more mode away)
-    (gives_no_more mode away) refl
-  where
-    no_more : (mode : SenderMode) → IsAwayFrom id mode from_receiver
-        → DoubtsNoMore mode (receiving.Ack id) receiving.Idle from_receiver from_receiver
-    no_more (sending.Send x m) far = (refl, λ e. eqb_swap id x ∙ far)
-    no_more (sending.NeedId asked m) far = λ is. lost_fewer (receiving.Ack id) receiving.Idle asked from_receiver (λ x o e. far x o) is
-    no_more (sending.Quiet got) far = tt
-    no_more sending.Down far = tt
-
-    gives_no_more : (mode : SenderMode) → IsAwayFrom id mode from_receiver → GivesNoMore mode (receiving.Ack id) receiving.Idle
-    gives_no_more (sending.Send x m) far = λ e. eqb_swap id x ∙ far
-    gives_no_more (sending.NeedId asked m) far = tt
-    gives_no_more (sending.Quiet got) far = tt
-    gives_no_more sending.Down far = tt
-
 -- the mark of the status depends on what the receiver gave away
 same_known : (waiting untaken : List (List ℕ)) (id : ℕ) (m : List ℕ) (a b : ReceiverMode) → is_acking a id ≡ is_acking b id
     → is_known_in_doubt (sending.Send id m) waiting untaken a ≡ is_known_in_doubt (sending.Send id m) waiting untaken b
@@ -305,36 +127,26 @@ same_known [] [] id m a b same = ap (λ (h : Bool). not h) same
 same_known [] (n ∷ untaken) id m a b same = refl
 same_known (w ∷ waiting) untaken id m a b same = refl
 
--- the client takes the message, whose sender knows nothing of it any more
-pub gives_away : (mode : SenderMode) (waiting : List (List ℕ)) (from_sender from_receiver : List OwnedPacket) (untaken : List (List ℕ))
-    (id : ℕ) (m : List ℕ)
-    → IsListed mode (receiving.Rcvd id m)
-    → MovesUnmarking (view_of mode waiting (receiving.Rcvd id m) from_sender from_receiver untaken) (step.Get m ∷ [])
-    (view_of mode waiting (receiving.Ack id) from_sender from_receiver untaken)
-gives_away mode waiting from_sender from_receiver untaken id m listed =
-    moves-to
-    (calls (view_of mode waiting (receiving.Rcvd id m) from_sender from_receiver untaken) (step.Get m) (refl, refl))
-    (state-eq _ _
-    (ap (λ (es : List Entry). es ++ entries false waiting) (same_current mode listed))
-    (stays_known mode waiting (receiving.Rcvd id m) from_receiver untaken Yes listed)
-    (same_doubt mode listed)
+-- a message that the sender sends comes, under the identifier that is accepted
+pub takes_sent : (waiting : List (List ℕ)) (from_sender from_receiver : List OwnedPacket) (untaken : List (List ℕ)) (jd id under : ℕ)
+    (m : List ℕ)
+    → eqb under id ≡ true → untaken ≡ m ∷ []
+    → MovesUnmarking (view_of (sending.Send under m) waiting (receiving.Accept jd id) from_sender from_receiver untaken) []
+    (view_of (sending.Send under m) waiting (receiving.Rcvd id m) from_sender from_receiver untaken)
+takes_sent waiting from_sender from_receiver untaken jd id under m same is =
+    let back : eqb id under ≡ true = eqb_swap id under ∙ same in
+    subst
+    (λ (u : List (List ℕ)). MovesUnmarking
+    (view_of (sending.Send under m) waiting (receiving.Accept jd id) from_sender from_receiver u) []
+    (view_of (sending.Send under m) waiting (receiving.Rcvd id m) from_sender from_receiver u))
+    (sym is)
+    (moves-to (stays _) (state-eq _ _
+    (rw (same, back) refl)
     refl
-    refl)
-  where
-    same_current : (mode : SenderMode) → IsListed mode (receiving.Rcvd id m)
-        → current mode (receiving.Rcvd id m) from_receiver untaken ≡ current mode (receiving.Ack id) from_receiver untaken
-    same_current (sending.Quiet got) is = refl
-    same_current (sending.NeedId jd n) is =
-        ap (λ (b : Bool). entry b n ∷ []) (lost_same (receiving.Rcvd id m) (receiving.Ack id) jd from_receiver (λ x. refl))
-    same_current (sending.Send x n) is = rw is refl
-    same_current sending.Down is = refl
-
-    same_doubt : (mode : SenderMode) → IsListed mode (receiving.Rcvd id m)
-        → is_known_in_doubt mode waiting untaken (receiving.Rcvd id m) ≡ is_known_in_doubt mode waiting untaken (receiving.Ack id)
-    same_doubt (sending.Quiet got) is = refl
-    same_doubt (sending.NeedId jd n) is = refl
-    same_doubt (sending.Send x n) is = same_known waiting untaken x n (receiving.Rcvd id m) (receiving.Ack id) (sym is)
-    same_doubt sending.Down is = refl
+    (known_while_untaken (sending.Send under m) waiting m [] (receiving.Accept jd id) ∙ sym
+    (known_while_untaken (sending.Send under m) waiting m [] (receiving.Rcvd id m)))
+    refl
+    refl))
 
 -- the client takes the message that the sender sends
 pub gives_sent : (waiting : List (List ℕ)) (from_sender from_receiver : List OwnedPacket) (untaken : List (List ℕ)) (id x : ℕ)
@@ -364,26 +176,195 @@ gives_sent waiting from_sender from_receiver untaken id x m n same is =
     in_doubt [] = rw same refl
     in_doubt (w ∷ waiting) = refl
 
--- a receiver is up again
-pub rises : (mode : SenderMode) (waiting : List (List ℕ)) (from_sender from_receiver : List OwnedPacket) (untaken : List (List ℕ))
-    → MovesUnmarking (view_of mode waiting receiving.Down from_sender from_receiver untaken) (step.Recover Receiver ∷ [])
-    (view_of mode waiting receiving.Idle from_sender from_receiver untaken)
-rises mode waiting from_sender from_receiver untaken =
-    moves-to
-    (calls (view_of mode waiting receiving.Down from_sender from_receiver untaken) (step.Recover Receiver) tt)
-    (state-eq _ _ (ap (λ (es : List Entry). es ++ entries false waiting) (same_current mode)) refl (same_doubt mode) refl refl)
-  where
-    same_current : (mode : SenderMode)
-        → current mode receiving.Down from_receiver untaken ≡ current mode receiving.Idle from_receiver untaken
-    same_current (sending.Quiet got) = refl
-    same_current (sending.NeedId jd m) =
-        ap (λ (b : Bool). entry b m ∷ []) (lost_same receiving.Down receiving.Idle jd from_receiver (λ x. refl))
-    same_current (sending.Send x m) = refl
-    same_current sending.Down = refl
+-- while the sender is in one mode, both sides emitted what they did, and this was not taken
+module _ (mode : SenderMode) (waiting : List (List ℕ)) (from_sender from_receiver : List OwnedPacket) (untaken : List (List ℕ)) where
+  -- the stream as a queue in doubt, while the receiver is in this mode
+  abbrev At : ReceiverMode → DoubtState
+  At at = view_of mode waiting at from_sender from_receiver untaken
 
-    same_doubt : (mode : SenderMode)
-        → is_known_in_doubt mode waiting untaken receiving.Down ≡ is_known_in_doubt mode waiting untaken receiving.Idle
-    same_doubt (sending.Quiet got) = refl
-    same_doubt (sending.NeedId jd m) = refl
-    same_doubt (sending.Send x m) = same_known waiting untaken x m receiving.Down receiving.Idle refl
-    same_doubt sending.Down = refl
+  -- and once it emitted one packet more
+  abbrev With : OwnedPacket → ReceiverMode → DoubtState
+  With p at = view_of mode waiting at from_sender (p ∷ from_receiver) untaken
+
+  -- less is in doubt from now on
+  doubts_less : (a b : ReceiverMode) (more : List OwnedPacket)
+      → HasFewerMarks (received mode a from_sender) (received mode b from_sender) → DoubtsNoMore mode a b from_receiver more
+      → GivesNoMore mode a b → is_receiver_down a ≡ is_receiver_down b
+      → MovesUnmarking (At a) [] (view_of mode waiting b from_sender more untaken)
+  doubts_less a b more first doubts gives down =
+      fewer_marks _ _
+      (fewer-append _ _ _ _ first
+      (fewer-append _ _ _ _ (current_fewer mode a b from_receiver more untaken doubts) (fewer-refl (entries false waiting))))
+      refl (known_fewer mode waiting untaken a b gives) refl down
+
+  -- nothing changes
+  same_view : (at : ReceiverMode) (p : OwnedPacket)
+      → ((jd : ℕ) → may_meet_lost_accept at jd (p ∷ from_receiver) ≡ may_meet_lost_accept at jd from_receiver)
+      → At at ≡ With p at
+  same_view at p same =
+      state-eq _ _
+      (ap (λ (es : List Entry). received mode at from_sender ++ (es ++ entries false waiting)) (same_current mode)) refl refl refl refl
+    where
+      same_current : (mode : SenderMode) → current mode at from_receiver untaken ≡ current mode at (p ∷ from_receiver) untaken
+      same_current (sending.Quiet got) = refl
+      same_current (sending.NeedId jd m) = ap (λ (b : Bool). entry b m ∷ []) (sym (same jd))
+      same_current (sending.Send id m) = refl
+      same_current sending.Down = refl
+
+  -- an accept that is emitted again changes nothing
+  pub accepts_again : (n jd id : ℕ)
+      → MovesUnmarking (At (receiving.Accept jd id)) [] (With (record { stream = n; body = packet.Accept jd id }) (receiving.Accept jd id))
+  accepts_again n jd id =
+      moves-to (stays _)
+      (same_view (receiving.Accept jd id) (record { stream = n; body = packet.Accept jd id }) (λ asked. rw (own_accept jd id asked) refl))
+
+  -- nor does an ack
+  pub acks_with : (at : ReceiverMode) (n id : ℕ) (got : Bool)
+      → MovesUnmarking (At at) [] (With (record { stream = n; body = packet.Ack id got }) at)
+  acks_with at n id got = moves-to (stays _) (same_view at (record { stream = n; body = packet.Ack id got }) (λ asked. refl))
+
+  -- a receiver at rest accepts an identifier that no packet of the sender bears
+  pub accepts_first : (n jd id : ℕ) → (Any (IsPastAccept id) from_sender → ⊥)
+      → MovesUnmarking (At receiving.Idle) [] (With (record { stream = n; body = packet.Accept jd id }) (receiving.Accept jd id))
+  accepts_first n jd id unnamed =
+      doubts_less receiving.Idle (receiving.Accept jd id) (record { stream = n; body = packet.Accept jd id } ∷ from_receiver)
+      (subst (λ (es : List Entry). HasFewerMarks [] es) (sym nothing) tt) (no_more mode) (gives_no_more mode) refl
+    where
+      nothing : received mode (receiving.Accept jd id) from_sender ≡ []
+      nothing = rw (carried_none from_sender id unnamed) (same_either_way (sender.is_sending mode id) [])
+
+      no_more : (mode : SenderMode)
+          → DoubtsNoMore mode receiving.Idle (receiving.Accept jd id) from_receiver
+          (record { stream = n; body = packet.Accept jd id } ∷ from_receiver)
+      no_more (sending.Quiet got) = tt
+      no_more (sending.NeedId asked m) =
+          λ is. lost_fewer receiving.Idle (receiving.Accept jd id) asked from_receiver (λ x o e. refl) (rw (own_accept jd id asked) at is)
+      no_more (sending.Send x m) = (refl, λ e. refl)
+      no_more sending.Down = tt
+
+      gives_no_more : (mode : SenderMode) → GivesNoMore mode receiving.Idle (receiving.Accept jd id)
+      gives_no_more (sending.Quiet got) = tt
+      gives_no_more (sending.NeedId asked m) = tt
+      gives_no_more (sending.Send x m) = λ e. refl
+      gives_no_more sending.Down = tt
+
+  -- a message that the sender sent comes, under the identifier that is accepted: where it does not send it any more
+  pub takes_forgotten : (jd id : ℕ) (m : List ℕ) → sender.is_sending mode id ≡ false → carried from_sender id ≡ m ∷ []
+      → MovesUnmarking (At (receiving.Accept jd id)) [] (At (receiving.Rcvd id m))
+  takes_forgotten jd id m forgotten carries =
+      doubts_less (receiving.Accept jd id) (receiving.Rcvd id m) from_receiver
+      (rw (forgotten, carries) (refl, (λ e. refl), tt)) (no_more mode forgotten) (gives_no_more mode) refl
+    where
+      no_more : (mode : SenderMode) → sender.is_sending mode id ≡ false
+          → DoubtsNoMore mode (receiving.Accept jd id) (receiving.Rcvd id m) from_receiver from_receiver
+      no_more (sending.Quiet got) f = tt
+      no_more (sending.NeedId asked n) f = λ is. lost_fewer (receiving.Accept jd id) (receiving.Rcvd id m) asked from_receiver (λ x o e. e) is
+      no_more (sending.Send x n) f = (eqb_swap id x ∙ f, λ e. e)
+      no_more sending.Down f = tt
+
+      gives_no_more : (mode : SenderMode) → GivesNoMore mode (receiving.Accept jd id) (receiving.Rcvd id m)
+      gives_no_more (sending.Quiet got) = tt
+      gives_no_more (sending.NeedId asked n) = tt
+      gives_no_more (sending.Send x n) = λ e. refl
+      gives_no_more sending.Down = tt
+
+  -- an accept is forgotten, with the message that might still have come under it
+  pub forgets_accept : (jd id : ℕ) → IsAwayFrom id mode from_receiver → MovesUnmarking (At (receiving.Accept jd id)) [] (At receiving.Idle)
+  forgets_accept jd id away =
+      let v = At (receiving.Accept jd id) in
+      let group = entries true (carried from_sender id) in
+      let later = current mode (receiving.Accept jd id) from_receiver untaken ++ entries false waiting in
+      quietly_then
+      (leaves v [] group later (entries_doubted (carried from_sender id)) (rw (away_not_sending id mode from_receiver away) refl))
+      (moves-to
+      (unmarks (record v { entries = later; status = settled_without group later v.status })
+      (current mode receiving.Idle from_receiver untaken ++ entries false waiting)
+      (is_known_in_doubt mode waiting untaken receiving.Idle)
+      (fewer-append _ _ _ _
+      (current_fewer mode (receiving.Accept jd id) receiving.Idle from_receiver from_receiver untaken (no_more mode away))
+      (fewer-refl (entries false waiting)))
+      (known_fewer mode waiting untaken (receiving.Accept jd id) receiving.Idle (gives_no_more mode)))
+      (state-eq _ _ refl
+      (stays_known_without mode waiting (receiving.Accept jd id) from_receiver untaken group
+      (listed mode (receiving.Accept jd id) tt)) refl refl refl))
+    where
+      no_more : (mode : SenderMode) → IsAwayFrom id mode from_receiver
+          → DoubtsNoMore mode (receiving.Accept jd id) receiving.Idle from_receiver from_receiver
+      no_more (sending.Send x m) far = (refl, λ e. eqb_swap id x ∙ far)
+      no_more (sending.NeedId asked m) far =
+          λ is. lost_fewer (receiving.Accept jd id) receiving.Idle asked from_receiver (λ x o e. far x o) is
+      no_more (sending.Quiet got) far = tt
+      no_more sending.Down far = tt
+
+      gives_no_more : (mode : SenderMode) → GivesNoMore mode (receiving.Accept jd id) receiving.Idle
+      gives_no_more (sending.Send x m) = λ e. refl
+      gives_no_more (sending.NeedId asked m) = tt
+      gives_no_more (sending.Quiet got) = tt
+      gives_no_more sending.Down = tt
+
+  -- an identifier under which a message was given away is forgotten
+  pub forgets_given : (id : ℕ) → IsAwayFrom id mode from_receiver → MovesUnmarking (At (receiving.Ack id)) [] (At receiving.Idle)
+  forgets_given id away = doubts_less (receiving.Ack id) receiving.Idle from_receiver tt (no_more mode away) (gives_no_more mode away) refl
+    where
+      no_more : (mode : SenderMode) → IsAwayFrom id mode from_receiver
+          → DoubtsNoMore mode (receiving.Ack id) receiving.Idle from_receiver from_receiver
+      no_more (sending.Send x m) far = (refl, λ e. eqb_swap id x ∙ far)
+      no_more (sending.NeedId asked m) far = λ is. lost_fewer (receiving.Ack id) receiving.Idle asked from_receiver (λ x o e. far x o) is
+      no_more (sending.Quiet got) far = tt
+      no_more sending.Down far = tt
+
+      gives_no_more : (mode : SenderMode) → IsAwayFrom id mode from_receiver → GivesNoMore mode (receiving.Ack id) receiving.Idle
+      gives_no_more (sending.Send x m) far = λ e. eqb_swap id x ∙ far
+      gives_no_more (sending.NeedId asked m) far = tt
+      gives_no_more (sending.Quiet got) far = tt
+      gives_no_more sending.Down far = tt
+
+  -- the client takes the message, whose sender knows nothing of it any more
+  pub gives_away : (id : ℕ) (m : List ℕ) → IsListed mode (receiving.Rcvd id m)
+      → MovesUnmarking (At (receiving.Rcvd id m)) (step.Get m ∷ []) (At (receiving.Ack id))
+  gives_away id m listed =
+      moves-to
+      (calls (At (receiving.Rcvd id m)) (step.Get m) (refl, refl))
+      (state-eq _ _
+      (ap (λ (es : List Entry). es ++ entries false waiting) (same_current mode listed))
+      (stays_known mode waiting (receiving.Rcvd id m) from_receiver untaken Yes listed)
+      (same_doubt mode listed)
+      refl
+      refl)
+    where
+      same_current : (mode : SenderMode) → IsListed mode (receiving.Rcvd id m)
+          → current mode (receiving.Rcvd id m) from_receiver untaken ≡ current mode (receiving.Ack id) from_receiver untaken
+      same_current (sending.Quiet got) is = refl
+      same_current (sending.NeedId jd n) is =
+          ap (λ (b : Bool). entry b n ∷ []) (lost_same (receiving.Rcvd id m) (receiving.Ack id) jd from_receiver (λ x. refl))
+      same_current (sending.Send x n) is = rw is refl
+      same_current sending.Down is = refl
+
+      same_doubt : (mode : SenderMode) → IsListed mode (receiving.Rcvd id m)
+          → is_known_in_doubt mode waiting untaken (receiving.Rcvd id m) ≡ is_known_in_doubt mode waiting untaken (receiving.Ack id)
+      same_doubt (sending.Quiet got) is = refl
+      same_doubt (sending.NeedId jd n) is = refl
+      same_doubt (sending.Send x n) is = same_known waiting untaken x n (receiving.Rcvd id m) (receiving.Ack id) (sym is)
+      same_doubt sending.Down is = refl
+
+  -- a receiver is up again
+  pub rises : MovesUnmarking (At receiving.Down) (step.Recover Receiver ∷ []) (At receiving.Idle)
+  rises =
+      moves-to
+      (calls (At receiving.Down) (step.Recover Receiver) tt)
+      (state-eq _ _ (ap (λ (es : List Entry). es ++ entries false waiting) (same_current mode)) refl (same_doubt mode) refl refl)
+    where
+      same_current : (mode : SenderMode)
+          → current mode receiving.Down from_receiver untaken ≡ current mode receiving.Idle from_receiver untaken
+      same_current (sending.Quiet got) = refl
+      same_current (sending.NeedId jd m) =
+          ap (λ (b : Bool). entry b m ∷ []) (lost_same receiving.Down receiving.Idle jd from_receiver (λ x. refl))
+      same_current (sending.Send x m) = refl
+      same_current sending.Down = refl
+
+      same_doubt : (mode : SenderMode)
+          → is_known_in_doubt mode waiting untaken receiving.Down ≡ is_known_in_doubt mode waiting untaken receiving.Idle
+      same_doubt (sending.Quiet got) = refl
+      same_doubt (sending.NeedId jd m) = refl
+      same_doubt (sending.Send x m) = same_known waiting untaken x m receiving.Down receiving.Idle refl
+      same_doubt sending.Down = refl

@@ -121,20 +121,20 @@ module _ (n : ℕ) (mode : SenderMode) (waiting : List (List ℕ)) (from_sender 
   -- a send is delivered
   send_row : (at : ReceiverMode) (id : ℕ) (m : List ℕ) → Before mode at → Any (IsSend id m) from_sender
       → Goes at (receiver.send (record { stream = n; mode = at }) at id m) untaken []
-  send_row receiving.Idle id m f a = acks_with mode waiting receiving.Idle from_sender from_receiver untaken n id false
+  send_row receiving.Idle id m f a = acks_with mode waiting from_sender from_receiver untaken receiving.Idle n id false
   send_row (receiving.Accept jd accepted) id m f a = elim (eqb_tells accepted id) [
     | inl h ↦ rw h.0
         (subst (λ (x : ℕ). MovesUnmarking (At mode (receiving.Accept jd x)) [] (At mode (receiving.Rcvd id m))) (sym h.1)
         (takes jd id m
         (subst (λ (x : ℕ). Before mode (receiving.Accept jd x)) h.1 f) a))
-    | inr h ↦ rw h.0 (acks_with mode waiting (receiving.Accept jd accepted) from_sender from_receiver untaken n id false)
+    | inr h ↦ rw h.0 (acks_with mode waiting from_sender from_receiver untaken (receiving.Accept jd accepted) n id false)
   ]
   send_row (receiving.Rcvd under held) id m f a = elim (eqb_tells under id) [
     | inl h ↦ rw h.0 (stays _)
-    | inr h ↦ rw h.0 (acks_with mode waiting (receiving.Rcvd under held) from_sender from_receiver untaken n id false)
+    | inr h ↦ rw h.0 (acks_with mode waiting from_sender from_receiver untaken (receiving.Rcvd under held) n id false)
   ]
   send_row (receiving.Ack under) id m f a =
-      acks_with mode waiting (receiving.Ack under) from_sender from_receiver untaken n id (eqb under id)
+      acks_with mode waiting from_sender from_receiver untaken (receiving.Ack under) n id (eqb under id)
   send_row receiving.Down id m f a = stays _
 
   -- a cleanup is delivered
@@ -173,7 +173,7 @@ module _ (n : ℕ) (mode : SenderMode) (waiting : List (List ℕ)) (from_sender 
   resend_row receiving.Idle = stays _
   resend_row (receiving.Accept jd id) = accepts_again mode waiting from_sender from_receiver untaken n jd id
   resend_row (receiving.Rcvd id m) = stays _
-  resend_row (receiving.Ack id) = acks_with mode waiting (receiving.Ack id) from_sender from_receiver untaken n id true
+  resend_row (receiving.Ack id) = acks_with mode waiting from_sender from_receiver untaken (receiving.Ack id) n id true
   resend_row receiving.Down = stays _
 
   -- the client asks for a message: there is none

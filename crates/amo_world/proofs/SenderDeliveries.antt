@@ -89,47 +89,6 @@ known_in_no_doubt : (id : ℕ) (m : List ℕ) (waiting : List (List ℕ)) (at : 
 known_in_no_doubt id m [] at e = cc
 known_in_no_doubt id m (w ∷ waiting) at e = cc
 
--- the first accept for the needuid comes: the message is sent under it
-sends : (n jd id : ℕ) (m : List ℕ) (waiting : List (List ℕ)) (at : ReceiverMode) (from_sender from_receiver : List OwnedPacket)
-    (untaken : List (List ℕ))
-    → Any (IsAcceptFor jd id) from_receiver → IsUntouched id at from_sender from_receiver
-    → MovesUnmarking (view_of (sending.NeedId jd m) waiting at from_sender from_receiver untaken) []
-    (view_of (sending.Send id m) waiting at (record { stream = n; body = packet.Send id m } ∷ from_sender) from_receiver (m ∷ []))
-sends n jd id m waiting at from_sender from_receiver untaken accept untouched =
-    let more : List OwnedPacket = record { stream = n; body = packet.Send id m } ∷ from_sender in
-    fewer_marks _ _
-    (fewer-append (received (sending.NeedId jd m) at from_sender)
-    (current (sending.NeedId jd m) at from_receiver untaken ++ entries false waiting)
-    (received (sending.Send id m) at more) (current (sending.Send id m) at from_receiver (m ∷ []) ++ entries false waiting)
-    (subst (λ (es : List Entry). HasFewerMarks (received (sending.NeedId jd m) at from_sender) es)
-    (received_once_sent n jd id m at from_sender untouched.sender_not_past) (fewer-refl _))
-    (fewer-append (current (sending.NeedId jd m) at from_receiver untaken) (entries false waiting)
-    (current (sending.Send id m) at from_receiver (m ∷ [])) (entries false waiting)
-    (current_once_sent jd id m at from_receiver untaken accept untouched.not_taken) (fewer-refl _)))
-    (known_once_sent jd id m waiting untaken)
-    (λ e. absurd (known_in_no_doubt id m waiting at e))
-    refl refl
-
--- an accept comes
-pub accepts : (n : ℕ) (mode : SenderMode) (waiting : List (List ℕ)) (at : ReceiverMode) (from_sender from_receiver : List OwnedPacket)
-    (untaken : List (List ℕ)) (jd id : ℕ)
-    → SenderFacts mode waiting at from_sender from_receiver untaken → Any (IsAcceptFor jd id) from_receiver
-    → MovesUnmarking (view_of mode waiting at from_sender from_receiver untaken) []
-    (left_by (sender.accept (record { stream = n; mode = mode; waiting = waiting }) mode jd id) mode at from_sender from_receiver untaken)
-accepts n (sending.NeedId asked m) waiting at from_sender from_receiver untaken jd id facts accept = elim (eqb_tells asked jd) [
-  | inl h ↦
-      let here : Any (IsAcceptFor asked id) from_receiver = subst (λ (x : ℕ). Any (IsAcceptFor x id) from_receiver) (sym h.1) accept in
-      rw h.0 (sends n asked id m waiting at from_sender from_receiver untaken here (facts.untouched id here))
-  | inr h ↦ rw h.0 (emits (sending.NeedId asked m) waiting at from_sender _ from_receiver untaken (λ i. refl))
-]
-accepts n (sending.Send under m) waiting at from_sender from_receiver untaken jd id facts accept = elim (eqb_tells under id) [
-  | inl h ↦ rw h.0 (stays _)
-  | inr h ↦ rw h.0 (emits (sending.Send under m) waiting at from_sender _ from_receiver untaken (λ i. refl))
-]
-accepts n (sending.Quiet got) waiting at from_sender from_receiver untaken jd id facts accept =
-    emits (sending.Quiet got) waiting at from_sender _ from_receiver untaken (λ i. refl)
-accepts n sending.Down waiting at from_sender from_receiver untaken jd id facts accept = stays _
-
 -- the receiver accepts this identifier
 abbrev IsAccepting : ReceiverMode → ℕ → Type 0
 IsAccepting (receiving.Accept jd accepted) id = accepted ≡ id
@@ -257,49 +216,85 @@ acks_lost id m waiting at from_sender from_receiver (n ∷ untaken) lost =
     (entries_doubted (n ∷ untaken)) (list_once_lost id m waiting at from_sender from_receiver (n ∷ untaken) lost))
     (state-eq _ _ refl (settled_once_lost id m n waiting untaken) (known_in_no_more_doubt id m n waiting untaken at) refl refl)
 
--- an ack to a sender that sends, under its identifier
-acks_own : (n id : ℕ) (m : List ℕ) (got : Bool) (waiting : List (List ℕ)) (at : ReceiverMode)
-    (from_sender from_receiver : List OwnedPacket) (untaken : List (List ℕ))
-    → SendingFacts id m at from_sender from_receiver untaken → Any (IsAck id got) from_receiver
-    → MovesUnmarking (view_of (sending.Send id m) waiting at from_sender from_receiver untaken) []
-    (left_by (sender.cleaning_up (record { stream = n; mode = sending.Quiet got; waiting = waiting }) id got)
-    (sending.Send id m) at from_sender from_receiver untaken)
-acks_own n id m true waiting at from_sender from_receiver untaken facts ack =
-    quietly_then
-    (subst (λ (ms : List (List ℕ)). MovesUnmarking (view_of (sending.Send id m) waiting at from_sender from_receiver ms) []
-    (view_of (sending.Quiet true) waiting at from_sender from_receiver ms)) (sym (facts.if_got ack))
-    (acks_got id m waiting at from_sender from_receiver
-    (subst (λ (ms : List (List ℕ)). Untaken at id m ms) (facts.if_got ack) facts.untaken_is)))
-    (emits (sending.Quiet true) waiting at from_sender _ from_receiver untaken (λ i. refl))
-acks_own n id m false waiting at from_sender from_receiver untaken facts ack =
-    acks_lost id m waiting at from_sender from_receiver untaken (facts.if_lost ack)
+-- while the receiver is in one mode, both sides emitted what they did, and this was not taken
+module _ (n : ℕ) (at : ReceiverMode) (from_sender from_receiver : List OwnedPacket) (untaken : List (List ℕ)) where
+  -- a sender in this mode, where these messages wait
+  abbrev of : SenderMode → List (List ℕ) → sender.SenderState
+  of mode waiting = record { stream = n; mode = mode; waiting = waiting }
 
--- an ack that is not for what the sender sends
-acks_another : (n : ℕ) (mode : SenderMode) (waiting : List (List ℕ)) (at : ReceiverMode) (from_sender from_receiver : List OwnedPacket)
-    (untaken : List (List ℕ)) (id : ℕ) (got : Bool)
-    → MovesUnmarking (view_of mode waiting at from_sender from_receiver untaken) []
-    (left_by (sender.cleaning_up (record { stream = n; mode = mode; waiting = waiting }) id got) mode at from_sender from_receiver untaken)
-acks_another n mode waiting at from_sender from_receiver untaken id true =
-    rw (untaken_unless_sent mode untaken) (emits mode waiting at from_sender _ from_receiver untaken (λ i. refl))
-acks_another n mode waiting at from_sender from_receiver untaken id false = rw (untaken_unless_sent mode untaken) (stays _)
+  -- the stream as a queue in doubt
+  abbrev At : SenderMode → List (List ℕ) → DoubtState
+  At mode waiting = view_of mode waiting at from_sender from_receiver untaken
 
--- an ack comes
-pub acks : (n : ℕ) (mode : SenderMode) (waiting : List (List ℕ)) (at : ReceiverMode) (from_sender from_receiver : List OwnedPacket)
-    (untaken : List (List ℕ)) (id : ℕ) (got : Bool)
-    → SenderFacts mode waiting at from_sender from_receiver untaken → Any (IsAck id got) from_receiver
-    → MovesUnmarking (view_of mode waiting at from_sender from_receiver untaken) []
-    (left_by (sender.ack (record { stream = n; mode = mode; waiting = waiting }) mode id got) mode at from_sender from_receiver untaken)
-acks n (sending.Send under m) waiting at from_sender from_receiver untaken id got facts ack = elim (eqb_tells under id) [
-  | inl h ↦
-      rw h.0 (subst (λ (x : ℕ). MovesUnmarking (view_of (sending.Send under m) waiting at from_sender from_receiver untaken) []
-      (left_by (sender.cleaning_up (record { stream = n; mode = sending.Quiet got; waiting = waiting }) x got)
-      (sending.Send under m) at from_sender from_receiver untaken)) h.1
-      (acks_own n under m got waiting at from_sender from_receiver untaken facts
-      (subst (λ (x : ℕ). Any (IsAck x got) from_receiver) (sym h.1) ack)))
-  | inr h ↦ rw h.0 (acks_another n (sending.Send under m) waiting at from_sender from_receiver untaken id got)
-]
-acks n (sending.NeedId asked m) waiting at from_sender from_receiver untaken id got facts ack =
-    acks_another n (sending.NeedId asked m) waiting at from_sender from_receiver untaken id got
-acks n (sending.Quiet b) waiting at from_sender from_receiver untaken id got facts ack =
-    acks_another n (sending.Quiet b) waiting at from_sender from_receiver untaken id got
-acks n sending.Down waiting at from_sender from_receiver untaken id got facts ack = stays _
+  -- a row of the sender changes of the queue in doubt no more than what a client does not see
+  abbrev GoesQuietly : SenderMode → List (List ℕ) → Row sender.SenderState → Type 0
+  GoesQuietly mode waiting row = MovesUnmarking (At mode waiting) [] (left_by row mode at from_sender from_receiver untaken)
+
+  -- the first accept for the needuid comes: the message is sent under it
+  sends : (jd id : ℕ) (m : List ℕ) (waiting : List (List ℕ)) → Any (IsAcceptFor jd id) from_receiver → IsUntouched id at from_sender from_receiver
+      → MovesUnmarking (At (sending.NeedId jd m) waiting) []
+      (view_of (sending.Send id m) waiting at (record { stream = n; body = packet.Send id m } ∷ from_sender) from_receiver (m ∷ []))
+  sends jd id m waiting accept untouched =
+      let more : List OwnedPacket = record { stream = n; body = packet.Send id m } ∷ from_sender in
+      fewer_marks _ _
+      (fewer-append (received (sending.NeedId jd m) at from_sender)
+      (current (sending.NeedId jd m) at from_receiver untaken ++ entries false waiting)
+      (received (sending.Send id m) at more) (current (sending.Send id m) at from_receiver (m ∷ []) ++ entries false waiting)
+      (subst (λ (es : List Entry). HasFewerMarks (received (sending.NeedId jd m) at from_sender) es)
+      (received_once_sent n jd id m at from_sender untouched.sender_not_past) (fewer-refl _))
+      (fewer-append (current (sending.NeedId jd m) at from_receiver untaken) (entries false waiting)
+      (current (sending.Send id m) at from_receiver (m ∷ [])) (entries false waiting)
+      (current_once_sent jd id m at from_receiver untaken accept untouched.not_taken) (fewer-refl _)))
+      (known_once_sent jd id m waiting untaken)
+      (λ e. absurd (known_in_no_doubt id m waiting at e))
+      refl refl
+
+  -- an accept comes
+  pub accepts : (mode : SenderMode) (waiting : List (List ℕ)) (jd id : ℕ) → SenderFacts mode waiting at from_sender from_receiver untaken
+      → Any (IsAcceptFor jd id) from_receiver → GoesQuietly mode waiting (sender.accept (of mode waiting) mode jd id)
+  accepts (sending.NeedId asked m) waiting jd id facts accept = elim (eqb_tells asked jd) [
+    | inl h ↦
+        let here : Any (IsAcceptFor asked id) from_receiver = subst (λ (x : ℕ). Any (IsAcceptFor x id) from_receiver) (sym h.1) accept in
+        rw h.0 (sends asked id m waiting here (facts.untouched id here))
+    | inr h ↦ rw h.0 (emits (sending.NeedId asked m) waiting at from_sender _ from_receiver untaken (λ i. refl))
+  ]
+  accepts (sending.Send under m) waiting jd id facts accept = elim (eqb_tells under id) [
+    | inl h ↦ rw h.0 (stays _)
+    | inr h ↦ rw h.0 (emits (sending.Send under m) waiting at from_sender _ from_receiver untaken (λ i. refl))
+  ]
+  accepts (sending.Quiet got) waiting jd id facts accept =
+      emits (sending.Quiet got) waiting at from_sender _ from_receiver untaken (λ i. refl)
+  accepts sending.Down waiting jd id facts accept = stays _
+
+  -- an ack to a sender that sends, under its identifier
+  acks_own : (id : ℕ) (m : List ℕ) (got : Bool) (waiting : List (List ℕ)) → SendingFacts id m at from_sender from_receiver untaken
+      → Any (IsAck id got) from_receiver
+      → GoesQuietly (sending.Send id m) waiting (sender.cleaning_up (of (sending.Quiet got) waiting) id got)
+  acks_own id m true waiting facts ack =
+      quietly_then
+      (subst (λ (ms : List (List ℕ)). MovesUnmarking (view_of (sending.Send id m) waiting at from_sender from_receiver ms) []
+      (view_of (sending.Quiet true) waiting at from_sender from_receiver ms)) (sym (facts.if_got ack))
+      (acks_got id m waiting at from_sender from_receiver
+      (subst (λ (ms : List (List ℕ)). Untaken at id m ms) (facts.if_got ack) facts.untaken_is)))
+      (emits (sending.Quiet true) waiting at from_sender _ from_receiver untaken (λ i. refl))
+  acks_own id m false waiting facts ack = acks_lost id m waiting at from_sender from_receiver untaken (facts.if_lost ack)
+
+  -- an ack that is not for what the sender sends
+  acks_another : (mode : SenderMode) (waiting : List (List ℕ)) (id : ℕ) (got : Bool)
+      → GoesQuietly mode waiting (sender.cleaning_up (of mode waiting) id got)
+  acks_another mode waiting id true =
+      rw (untaken_unless_sent mode untaken) (emits mode waiting at from_sender _ from_receiver untaken (λ i. refl))
+  acks_another mode waiting id false = rw (untaken_unless_sent mode untaken) (stays _)
+
+  -- an ack comes
+  pub acks : (mode : SenderMode) (waiting : List (List ℕ)) (id : ℕ) (got : Bool) → SenderFacts mode waiting at from_sender from_receiver untaken
+      → Any (IsAck id got) from_receiver → GoesQuietly mode waiting (sender.ack (of mode waiting) mode id got)
+  acks (sending.Send under m) waiting id got facts ack = elim (eqb_tells under id) [
+    | inl h ↦
+        rw h.0 (subst (λ (x : ℕ). GoesQuietly (sending.Send under m) waiting (sender.cleaning_up (of (sending.Quiet got) waiting) x got)) h.1
+        (acks_own under m got waiting facts (subst (λ (x : ℕ). Any (IsAck x got) from_receiver) (sym h.1) ack)))
+    | inr h ↦ rw h.0 (acks_another (sending.Send under m) waiting id got)
+  ]
+  acks (sending.NeedId asked m) waiting id got facts ack = acks_another (sending.NeedId asked m) waiting id got
+  acks (sending.Quiet b) waiting id got facts ack = acks_another (sending.Quiet b) waiting id got
+  acks sending.Down waiting id got facts ack = stays _

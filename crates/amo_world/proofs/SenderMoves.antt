@@ -61,20 +61,6 @@ list_once_put xs ys waiting m =
     ∙ ap (λ (es : List Entry). xs ++ es) (append_assoc ys (entries false waiting) (entry false m ∷ []))
     ∙ ap (λ (es : List Entry). xs ++ (ys ++ es)) (sym (entries-append false waiting (m ∷ [])))
 
--- a message is put
-adds : (mode : SenderMode) (waiting : List (List ℕ)) (at : ReceiverMode) (from_sender from_receiver : List OwnedPacket)
-    (untaken : List (List ℕ)) (m : List ℕ) → sender.is_down mode ≡ false
-    → MovesUnmarking (view_of mode waiting at from_sender from_receiver untaken) (step.Put m ∷ [])
-    (view_of mode (waiting ++ m ∷ []) at from_sender from_receiver untaken)
-adds mode waiting at from_sender from_receiver untaken m up =
-    moves-to
-    (calls (view_of mode waiting at from_sender from_receiver untaken) (step.Put m) up)
-    (state-eq _ _
-    (list_once_put (received mode at from_sender) (current mode at from_receiver untaken) waiting m)
-    (sym (known_once_put mode waiting untaken m up))
-    (sym (known_for_sure_once_put mode waiting untaken m at))
-    refl refl)
-
 -- the steps of the queue that a client sees in an act of a sender
 abbrev steps_of : Act → Reply → List Step
 steps_of a r = option_to_list (call_of Sender a r)
@@ -83,57 +69,6 @@ steps_of a r = option_to_list (call_of Sender a r)
 with_reply : (a : Act) (v w : DoubtState) (given r : Reply) → Some given ≡ Some r → MovesUnmarking v (steps_of a given) w
     → MovesUnmarking v (steps_of a r) w
 with_reply a v w given r is m = let same : given ≡ r = cc in subst (λ (x : Reply). MovesUnmarking v (steps_of a x) w) same m
-
--- a message is put, unless the sender is full
-puts_unless : (full : Bool) (n : ℕ) (mode : SenderMode) (waiting : List (List ℕ)) (at : ReceiverMode)
-    (from_sender from_receiver : List OwnedPacket) (untaken : List (List ℕ)) (m : List ℕ) (r : Reply)
-    → sender.is_down mode ≡ false
-    → let s : sender.SenderState = record { stream = n; mode = mode; waiting = waiting } in
-    let row : Row sender.SenderState = if full then silent s reply.Full else silent (record s { waiting = waiting ++ m ∷ [] }) reply.Ok in
-    row.reply ≡ Some r → MovesUnmarking (view_of mode waiting at from_sender from_receiver untaken) (steps_of (act.Put m) r)
-    (left_by row mode at from_sender from_receiver untaken)
-puts_unless true n mode waiting at from_sender from_receiver untaken m r up is =
-    with_reply (act.Put m) _ _ reply.Full r is (rw (untaken_unless_sent mode untaken) (stays _))
-puts_unless false n mode waiting at from_sender from_receiver untaken m r up is =
-    with_reply (act.Put m) _ _ reply.Ok r is
-    (rw (untaken_unless_sent mode untaken) (adds mode waiting at from_sender from_receiver untaken m up))
-
--- the client puts a message
-puts : (n : ℕ) (mode : SenderMode) (waiting : List (List ℕ)) (at : ReceiverMode) (from_sender from_receiver : List OwnedPacket)
-    (untaken : List (List ℕ)) (m : List ℕ) (r : Reply)
-    → let row : Row sender.SenderState = sender.put (record { stream = n; mode = mode; waiting = waiting }) mode m in
-    row.reply ≡ Some r → MovesUnmarking (view_of mode waiting at from_sender from_receiver untaken) (steps_of (act.Put m) r)
-    (left_by row mode at from_sender from_receiver untaken)
-puts n (sending.Quiet got) waiting at from_sender from_receiver untaken m r is =
-    puts_unless (eqb (length waiting) 16) n (sending.Quiet got) waiting at from_sender from_receiver untaken m r refl is
-puts n (sending.NeedId jd c) waiting at from_sender from_receiver untaken m r is =
-    puts_unless (eqb (length waiting) 16) n (sending.NeedId jd c) waiting at from_sender from_receiver untaken m r refl is
-puts n (sending.Send id c) waiting at from_sender from_receiver untaken m r is =
-    puts_unless (eqb (length waiting) 16) n (sending.Send id c) waiting at from_sender from_receiver untaken m r refl is
-puts n sending.Down waiting at from_sender from_receiver untaken m r is =
-    with_reply (act.Put m) _ _ reply.Down r is
-    (calls (view_of sending.Down waiting at from_sender from_receiver untaken) (step.DownReply Sender) refl)
-
--- the client asks what is known of the last message put
-gets_ack : (n : ℕ) (mode : SenderMode) (waiting : List (List ℕ)) (at : ReceiverMode) (from_sender from_receiver : List OwnedPacket)
-    (untaken : List (List ℕ)) (r : Reply)
-    → let row : Row sender.SenderState = sender.get_ack (record { stream = n; mode = mode; waiting = waiting }) mode waiting in
-    row.reply ≡ Some r → MovesUnmarking (view_of mode waiting at from_sender from_receiver untaken) (steps_of act.Ack r)
-    (left_by row mode at from_sender from_receiver untaken)
-gets_ack n (sending.Quiet true) [] at from_sender from_receiver untaken r is =
-    with_reply act.Ack _ _ reply.Yes r is
-    (calls (view_of (sending.Quiet true) [] at from_sender from_receiver untaken) (step.Ack true) (refl, refl, refl))
-gets_ack n (sending.Quiet false) [] at from_sender from_receiver untaken r is =
-    with_reply act.Ack _ _ reply.No r is
-    (calls (view_of (sending.Quiet false) [] at from_sender from_receiver untaken) (step.Ack false) (refl, refl, refl))
-gets_ack n (sending.Quiet true) (m ∷ waiting) at from_sender from_receiver untaken r is = with_reply act.Ack _ _ reply.NotYet r is (stays _)
-gets_ack n (sending.Quiet false) (m ∷ waiting) at from_sender from_receiver untaken r is =
-    with_reply act.Ack _ _ reply.NotYet r is (stays _)
-gets_ack n (sending.NeedId jd m) waiting at from_sender from_receiver untaken r is = with_reply act.Ack _ _ reply.NotYet r is (stays _)
-gets_ack n (sending.Send id m) waiting at from_sender from_receiver untaken r is = with_reply act.Ack _ _ reply.NotYet r is (stays _)
-gets_ack n sending.Down waiting at from_sender from_receiver untaken r is =
-    with_reply act.Ack _ _ reply.Down r is
-    (calls (view_of sending.Down waiting at from_sender from_receiver untaken) (step.DownReply Sender) refl)
 
 -- the status is open while a message waits, and open once it is about to be sent
 known_once_started : (got : Bool) (m : List ℕ) (waiting untaken : List (List ℕ)) (word : ℕ)
@@ -151,36 +86,6 @@ received_once_started n got word m (receiving.Ack under) from_sender = refl
 received_once_started n got word m receiving.Idle from_sender = refl
 received_once_started n got word m receiving.Down from_sender = refl
 
--- a handshake begins under a word for which nothing was accepted
-starts_fresh : (n : ℕ) (got : Bool) (m : List ℕ) (waiting : List (List ℕ)) (at : ReceiverMode)
-    (from_sender from_receiver : List OwnedPacket) (untaken : List (List ℕ)) (word : ℕ)
-    → ((id : ℕ) → Any (IsAcceptFor word id) from_receiver → ⊥)
-    → MovesUnmarking (view_of (sending.Quiet got) (m ∷ waiting) at from_sender from_receiver untaken) []
-    (view_of (sending.NeedId word m) waiting at (record { stream = n; body = packet.NeedUid word } ∷ from_sender) from_receiver untaken)
-starts_fresh n got m waiting at from_sender from_receiver untaken word none =
-    same_parts _ _
-    (rw (none_lost at word from_receiver (λ id accept. absurd (none id accept)))
-    (ap (λ (es : List Entry). es ++ (entry false m ∷ entries false waiting)) (received_once_started n got word m at from_sender)))
-    (known_once_started got m waiting untaken word)
-    refl refl refl
-
--- a handshake begins, if a message waits and the sender is at rest
-starts : (n : ℕ) (mode : SenderMode) (waiting : List (List ℕ)) (at : ReceiverMode) (from_sender from_receiver : List OwnedPacket)
-    (untaken : List (List ℕ)) (sender_words : List ℕ) (word : ℕ)
-    → PacketFacts from_sender from_receiver → ((jd : ℕ) → Any (IsNeeduid jd) from_sender → Contains sender_words jd)
-    → IfSome (sender.used_word (record { stream = n; mode = mode; waiting = waiting }) (act.Start word))
-    (λ jd. ¬ (Contains sender_words jd))
-    → MovesUnmarking (view_of mode waiting at from_sender from_receiver untaken) []
-    (left_by (sender.start (record { stream = n; mode = mode; waiting = waiting }) mode waiting word) mode at from_sender from_receiver
-    untaken)
-starts n (sending.Quiet got) (m ∷ waiting) at from_sender from_receiver untaken sender_words word packets needuid_words new =
-    starts_fresh n got m waiting at from_sender from_receiver untaken word
-    (λ id accept. new (needuid_words word (packets.asked word id accept)))
-starts n (sending.Quiet got) [] at from_sender from_receiver untaken sender_words word packets needuid_words new = stays _
-starts n (sending.NeedId jd m) waiting at from_sender from_receiver untaken sender_words word packets needuid_words new = stays _
-starts n (sending.Send id m) waiting at from_sender from_receiver untaken sender_words word packets needuid_words new = stays _
-starts n sending.Down waiting at from_sender from_receiver untaken sender_words word packets needuid_words new = stays _
-
 -- a message that was sent is carried as before once it is sent again
 carried_again : (n id : ℕ) (m : List ℕ) (from_sender : List OwnedPacket) → carried from_sender id ≡ m ∷ [] → (other : ℕ)
     → carried (record { stream = n; body = packet.Send id m } ∷ from_sender) other ≡ carried from_sender other
@@ -189,78 +94,143 @@ carried_again n id m from_sender is other = elim (eqb_tells id other) [
   | inr h ↦ rw h.0 refl
 ]
 
--- the packet of the mode is said again
-resends : (n : ℕ) (mode : SenderMode) (waiting : List (List ℕ)) (at : ReceiverMode) (from_sender from_receiver : List OwnedPacket)
-    (untaken : List (List ℕ)) → PacketFacts from_sender from_receiver
-    → SenderFacts mode waiting at from_sender from_receiver untaken
-    → MovesUnmarking (view_of mode waiting at from_sender from_receiver untaken) []
-    (left_by (sender.resend (record { stream = n; mode = mode; waiting = waiting }) mode) mode at from_sender from_receiver untaken)
-resends n (sending.NeedId jd m) waiting at from_sender from_receiver untaken packets facts =
-    emits (sending.NeedId jd m) waiting at from_sender _ from_receiver untaken (λ i. refl)
-resends n (sending.Send id m) waiting at from_sender from_receiver untaken packets facts =
-    emits (sending.Send id m) waiting at from_sender _ from_receiver untaken
-    (carried_again n id m from_sender (carried_is from_sender id m facts.was_sent (λ x s. packets.one_message id x m s facts.was_sent)))
-resends n (sending.Quiet got) waiting at from_sender from_receiver untaken packets facts = stays _
-resends n sending.Down waiting at from_sender from_receiver untaken packets facts = stays _
+-- while the receiver is in one mode, both sides emitted what they did, and this was not taken
+module _ (n : ℕ) (at : ReceiverMode) (from_sender from_receiver : List OwnedPacket) (untaken : List (List ℕ)) where
+  -- a sender in this mode, where these messages wait
+  abbrev of : SenderMode → List (List ℕ) → sender.SenderState
+  of mode waiting = record { stream = n; mode = mode; waiting = waiting }
 
--- the sender is up again
-recovers : (n : ℕ) (mode : SenderMode) (waiting : List (List ℕ)) (at : ReceiverMode) (from_sender from_receiver : List OwnedPacket)
-    (untaken : List (List ℕ))
-    → SenderFacts mode waiting at from_sender from_receiver untaken
-    → MovesUnmarking (view_of mode waiting at from_sender from_receiver untaken) (step.Recover Sender ∷ [])
-    (left_by (sender.recover (record { stream = n; mode = mode; waiting = waiting }) mode) mode at from_sender from_receiver untaken)
-recovers n sending.Down waiting at from_sender from_receiver untaken none =
-    moves-to
-    (calls (view_of sending.Down waiting at from_sender from_receiver untaken) (step.Recover Sender) tt)
-    (state-eq _ _ (rw (none, received_unless_sending (sending.Quiet false) at from_sender (λ id. refl)) refl) refl refl refl refl)
-recovers n (sending.Quiet got) waiting at from_sender from_receiver untaken facts =
-    calls (view_of (sending.Quiet got) waiting at from_sender from_receiver untaken) (step.Recover Sender) tt
-recovers n (sending.NeedId jd m) waiting at from_sender from_receiver untaken facts =
-    calls (view_of (sending.NeedId jd m) waiting at from_sender from_receiver untaken) (step.Recover Sender) tt
-recovers n (sending.Send id m) waiting at from_sender from_receiver untaken facts =
-    calls (view_of (sending.Send id m) waiting at from_sender from_receiver untaken) (step.Recover Sender) tt
+  -- the stream as a queue in doubt
+  abbrev At : SenderMode → List (List ℕ) → DoubtState
+  At mode waiting = view_of mode waiting at from_sender from_receiver untaken
 
--- a packet comes that the receiver emitted
-delivers : (n : ℕ) (mode : SenderMode) (waiting : List (List ℕ)) (at : ReceiverMode) (from_sender from_receiver : List OwnedPacket)
-    (untaken : List (List ℕ)) (stream : ℕ) (body : OwnedBody)
-    → SenderFacts mode waiting at from_sender from_receiver untaken → Contains from_receiver (record { stream = stream; body = body })
-    → MovesUnmarking (view_of mode waiting at from_sender from_receiver untaken) []
-    (left_by (sender.deliver (record { stream = n; mode = mode; waiting = waiting }) body) mode at from_sender from_receiver untaken)
-delivers n mode waiting at from_sender from_receiver untaken stream (packet.Accept jd id) facts among =
-    accepts n mode waiting at from_sender from_receiver untaken jd id facts
-    (any-contains (IsAcceptFor jd id) from_receiver (record { stream = stream; body = packet.Accept jd id }) among (refl, refl))
-delivers n mode waiting at from_sender from_receiver untaken stream (packet.Ack id got) facts among =
-    acks n mode waiting at from_sender from_receiver untaken id got facts
-    (any-contains (IsAck id got) from_receiver (record { stream = stream; body = packet.Ack id got }) among (refl, refl))
-delivers n mode waiting at from_sender from_receiver untaken stream (packet.NeedUid jd) facts among =
-    rw (untaken_unless_sent mode untaken) (stays _)
-delivers n mode waiting at from_sender from_receiver untaken stream (packet.Send id m) facts among =
-    rw (untaken_unless_sent mode untaken) (stays _)
-delivers n mode waiting at from_sender from_receiver untaken stream (packet.Cleanup id) facts among =
-    rw (untaken_unless_sent mode untaken) (stays _)
+  -- a row of the sender moves the queue in doubt by these steps
+  abbrev Goes : SenderMode → List (List ℕ) → Row sender.SenderState → List Step → Type 0
+  Goes mode waiting row steps = MovesUnmarking (At mode waiting) steps (left_by row mode at from_sender from_receiver untaken)
+
+  abbrev Before : SenderMode → List (List ℕ) → Type 0
+  Before mode waiting = SenderFacts mode waiting at from_sender from_receiver untaken
+
+  -- a message is put
+  adds : (mode : SenderMode) (waiting : List (List ℕ)) (m : List ℕ) → sender.is_down mode ≡ false
+      → MovesUnmarking (At mode waiting) (step.Put m ∷ []) (At mode (waiting ++ m ∷ []))
+  adds mode waiting m up =
+      moves-to
+      (calls (At mode waiting) (step.Put m) up)
+      (state-eq _ _
+      (list_once_put (received mode at from_sender) (current mode at from_receiver untaken) waiting m)
+      (sym (known_once_put mode waiting untaken m up))
+      (sym (known_for_sure_once_put mode waiting untaken m at))
+      refl refl)
+
+  -- a message is put, unless the sender is full
+  puts_unless : (full : Bool) (mode : SenderMode) (waiting : List (List ℕ)) (m : List ℕ) (r : Reply) → sender.is_down mode ≡ false
+      → let s = of mode waiting in
+      let row : Row sender.SenderState = if full then silent s reply.Full else silent (record s { waiting = waiting ++ m ∷ [] }) reply.Ok in
+      row.reply ≡ Some r → Goes mode waiting row (steps_of (act.Put m) r)
+  puts_unless true mode waiting m r up is = with_reply (act.Put m) _ _ reply.Full r is (rw (untaken_unless_sent mode untaken) (stays _))
+  puts_unless false mode waiting m r up is =
+      with_reply (act.Put m) _ _ reply.Ok r is (rw (untaken_unless_sent mode untaken) (adds mode waiting m up))
+
+  -- the client puts a message
+  puts : (mode : SenderMode) (waiting : List (List ℕ)) (m : List ℕ) (r : Reply) → (sender.put (of mode waiting) mode m).reply ≡ Some r
+      → Goes mode waiting (sender.put (of mode waiting) mode m) (steps_of (act.Put m) r)
+  puts (sending.Quiet got) waiting m r is = puts_unless (eqb (length waiting) 16) (sending.Quiet got) waiting m r refl is
+  puts (sending.NeedId jd c) waiting m r is = puts_unless (eqb (length waiting) 16) (sending.NeedId jd c) waiting m r refl is
+  puts (sending.Send id c) waiting m r is = puts_unless (eqb (length waiting) 16) (sending.Send id c) waiting m r refl is
+  puts sending.Down waiting m r is =
+      with_reply (act.Put m) _ _ reply.Down r is (calls (At sending.Down waiting) (step.DownReply Sender) refl)
+
+  -- the client asks what is known of the last message put
+  gets_ack : (mode : SenderMode) (waiting : List (List ℕ)) (r : Reply) → (sender.get_ack (of mode waiting) mode waiting).reply ≡ Some r
+      → Goes mode waiting (sender.get_ack (of mode waiting) mode waiting) (steps_of act.Ack r)
+  gets_ack (sending.Quiet true) [] r is =
+      with_reply act.Ack _ _ reply.Yes r is (calls (At (sending.Quiet true) []) (step.Ack true) (refl, refl, refl))
+  gets_ack (sending.Quiet false) [] r is =
+      with_reply act.Ack _ _ reply.No r is (calls (At (sending.Quiet false) []) (step.Ack false) (refl, refl, refl))
+  gets_ack (sending.Quiet true) (m ∷ waiting) r is = with_reply act.Ack _ _ reply.NotYet r is (stays _)
+  gets_ack (sending.Quiet false) (m ∷ waiting) r is = with_reply act.Ack _ _ reply.NotYet r is (stays _)
+  gets_ack (sending.NeedId jd m) waiting r is = with_reply act.Ack _ _ reply.NotYet r is (stays _)
+  gets_ack (sending.Send id m) waiting r is = with_reply act.Ack _ _ reply.NotYet r is (stays _)
+  gets_ack sending.Down waiting r is =
+      with_reply act.Ack _ _ reply.Down r is (calls (At sending.Down waiting) (step.DownReply Sender) refl)
+
+  -- a handshake begins under a word for which nothing was accepted
+  starts_fresh : (got : Bool) (m : List ℕ) (waiting : List (List ℕ)) (word : ℕ) → ((id : ℕ) → Any (IsAcceptFor word id) from_receiver → ⊥)
+      → Goes (sending.Quiet got) (m ∷ waiting) (sender.start (of (sending.Quiet got) (m ∷ waiting)) (sending.Quiet got) (m ∷ waiting) word) []
+  starts_fresh got m waiting word none =
+      same_parts _ _
+      (rw (none_lost at word from_receiver (λ id accept. absurd (none id accept)))
+      (ap (λ (es : List Entry). es ++ (entry false m ∷ entries false waiting)) (received_once_started n got word m at from_sender)))
+      (known_once_started got m waiting untaken word)
+      refl refl refl
+
+  -- a handshake begins, if a message waits and the sender is at rest
+  starts : (mode : SenderMode) (waiting : List (List ℕ)) (sender_words : List ℕ) (word : ℕ) → PacketFacts from_sender from_receiver
+      → ((jd : ℕ) → Any (IsNeeduid jd) from_sender → Contains sender_words jd)
+      → IfSome (sender.used_word (of mode waiting) (act.Start word)) (λ jd. ¬ (Contains sender_words jd))
+      → Goes mode waiting (sender.start (of mode waiting) mode waiting word) []
+  starts (sending.Quiet got) (m ∷ waiting) sender_words word packets needuid_words new =
+      starts_fresh got m waiting word (λ id accept. new (needuid_words word (packets.asked word id accept)))
+  starts (sending.Quiet got) [] sender_words word packets needuid_words new = stays _
+  starts (sending.NeedId jd m) waiting sender_words word packets needuid_words new = stays _
+  starts (sending.Send id m) waiting sender_words word packets needuid_words new = stays _
+  starts sending.Down waiting sender_words word packets needuid_words new = stays _
+
+  -- the packet of the mode is said again
+  resends : (mode : SenderMode) (waiting : List (List ℕ)) → PacketFacts from_sender from_receiver → Before mode waiting
+      → Goes mode waiting (sender.resend (of mode waiting) mode) []
+  resends (sending.NeedId jd m) waiting packets facts =
+      emits (sending.NeedId jd m) waiting at from_sender _ from_receiver untaken (λ i. refl)
+  resends (sending.Send id m) waiting packets facts =
+      emits (sending.Send id m) waiting at from_sender _ from_receiver untaken
+      (carried_again n id m from_sender (carried_is from_sender id m facts.was_sent (λ x s. packets.one_message id x m s facts.was_sent)))
+  resends (sending.Quiet got) waiting packets facts = stays _
+  resends sending.Down waiting packets facts = stays _
+
+  -- the sender is up again
+  recovers : (mode : SenderMode) (waiting : List (List ℕ)) → Before mode waiting
+      → Goes mode waiting (sender.recover (of mode waiting) mode) (step.Recover Sender ∷ [])
+  recovers sending.Down waiting none =
+      moves-to
+      (calls (At sending.Down waiting) (step.Recover Sender) tt)
+      (state-eq _ _ (rw (none, received_unless_sending (sending.Quiet false) at from_sender (λ id. refl)) refl) refl refl refl refl)
+  recovers (sending.Quiet got) waiting facts = calls (At (sending.Quiet got) waiting) (step.Recover Sender) tt
+  recovers (sending.NeedId jd m) waiting facts = calls (At (sending.NeedId jd m) waiting) (step.Recover Sender) tt
+  recovers (sending.Send id m) waiting facts = calls (At (sending.Send id m) waiting) (step.Recover Sender) tt
+
+  -- a packet comes that the receiver emitted
+  delivers : (mode : SenderMode) (waiting : List (List ℕ)) (stream : ℕ) (body : OwnedBody) → Before mode waiting
+      → Contains from_receiver (record { stream = stream; body = body }) → Goes mode waiting (sender.deliver (of mode waiting) body) []
+  delivers mode waiting stream (packet.Accept jd id) facts among =
+      accepts n at from_sender from_receiver untaken mode waiting jd id facts
+      (any-contains (IsAcceptFor jd id) from_receiver (record { stream = stream; body = packet.Accept jd id }) among (refl, refl))
+  delivers mode waiting stream (packet.Ack id got) facts among =
+      acks n at from_sender from_receiver untaken mode waiting id got facts
+      (any-contains (IsAck id got) from_receiver (record { stream = stream; body = packet.Ack id got }) among (refl, refl))
+  delivers mode waiting stream (packet.NeedUid jd) facts among = rw (untaken_unless_sent mode untaken) (stays _)
+  delivers mode waiting stream (packet.Send id m) facts among = rw (untaken_unless_sent mode untaken) (stays _)
+  delivers mode waiting stream (packet.Cleanup id) facts among = rw (untaken_unless_sent mode untaken) (stays _)
 
 -- each act of a sender but a crash moves the queue in doubt, with no mark set, and a client sees its call
 pub sender_moves : (s : Stream) (a : Act) (r : Reply) → a ≢ act.Crash → Invariant s → WasEmitted s Sender a → IsNewWord s Sender a
     → reply_of s Sender a ≡ Some r
     → MovesUnmarking (view s) (option_to_list (call_of Sender a r)) (view (after s Sender a))
 sender_moves s (act.Put m) r calm facts honest new is =
-    puts s.sender.state.stream s.sender.state.mode s.sender.state.waiting s.receiver.state.mode s.sender.emitted s.receiver.emitted
-    s.untaken m r is
+    puts s.sender.state.stream s.receiver.state.mode s.sender.emitted s.receiver.emitted s.untaken s.sender.state.mode s.sender.state.waiting m r is
 sender_moves s act.Get r calm facts honest new is = cc
 sender_moves s act.Ack r calm facts honest new is =
-    gets_ack s.sender.state.stream s.sender.state.mode s.sender.state.waiting s.receiver.state.mode s.sender.emitted s.receiver.emitted
-    s.untaken r is
+    gets_ack s.sender.state.stream s.receiver.state.mode s.sender.emitted s.receiver.emitted s.untaken s.sender.state.mode s.sender.state.waiting r is
 sender_moves s (act.Start word) r calm facts honest new is =
-    starts s.sender.state.stream s.sender.state.mode s.sender.state.waiting s.receiver.state.mode s.sender.emitted s.receiver.emitted
-    s.untaken s.sender.words word
-    facts.packets facts.needuid_words new
+    starts s.sender.state.stream s.receiver.state.mode s.sender.emitted s.receiver.emitted s.untaken s.sender.state.mode s.sender.state.waiting
+    s.sender.words word facts.packets facts.needuid_words new
 sender_moves s act.Resend r calm facts honest new is =
-    resends s.sender.state.stream s.sender.state.mode s.sender.state.waiting s.receiver.state.mode s.sender.emitted s.receiver.emitted
-    s.untaken facts.packets facts.sender
+    resends s.sender.state.stream s.receiver.state.mode s.sender.emitted s.receiver.emitted s.untaken s.sender.state.mode s.sender.state.waiting
+    facts.packets facts.sender
 sender_moves s (act.Deliver p word) r calm facts honest new is =
-    delivers s.sender.state.stream s.sender.state.mode s.sender.state.waiting s.receiver.state.mode s.sender.emitted s.receiver.emitted
-    s.untaken p.stream p.body facts.sender honest
+    delivers s.sender.state.stream s.receiver.state.mode s.sender.emitted s.receiver.emitted s.untaken s.sender.state.mode s.sender.state.waiting
+    p.stream p.body facts.sender honest
 sender_moves s act.Crash r calm facts honest new is = absurd (calm refl)
 sender_moves s act.Recover r calm facts honest new is =
-    recovers s.sender.state.stream s.sender.state.mode s.sender.state.waiting s.receiver.state.mode s.sender.emitted s.receiver.emitted
-    s.untaken facts.sender
+    recovers s.sender.state.stream s.receiver.state.mode s.sender.emitted s.receiver.emitted s.untaken s.sender.state.mode s.sender.state.waiting
+    facts.sender

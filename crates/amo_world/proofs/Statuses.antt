@@ -33,12 +33,12 @@ stands_some No last doubted = inl refl
 -- what stands for a status in no doubt that answers is that status
 pub known_answer : (status : Status) (last doubted : Bool) (known : Status) (answer : Bool) → status ≡ queue.status_of answer
     → doubted ≡ false → ResolvesStatus status last doubted known → known ≡ queue.status_of answer
-known_answer Open last doubted known true told sure resolved = absurd cc
-known_answer Open last doubted known false told sure resolved = absurd cc
-known_answer Yes last doubted known answer told sure (inl same) = same ∙ told
-known_answer Yes last doubted known answer told sure (inr lost) = let marked = lost.0 in absurd cc
-known_answer No last doubted known answer told sure (inl same) = same ∙ told
-known_answer No last doubted known answer told sure (inr lost) = let marked = lost.0 in absurd cc
+known_answer Open last doubted known true same_status sure resolved = absurd cc
+known_answer Open last doubted known false same_status sure resolved = absurd cc
+known_answer Yes last doubted known answer same_status sure (inl same) = same ∙ same_status
+known_answer Yes last doubted known answer same_status sure (inr lost) = let marked = lost.0 in absurd cc
+known_answer No last doubted known answer same_status sure (inl same) = same ∙ same_status
+known_answer No last doubted known answer same_status sure (inr lost) = let marked = lost.0 in absurd cc
 
 -- what stands for a status in no doubt stands for it in doubt or not
 pub stands_sure : (status : Status) (last doubted : Bool) (known : Status) → ResolvesStatus status last false known

@@ -199,10 +199,10 @@ module _ (k : KeptStream) (stored : List Emission) (past : List Event) (e : Even
 
   pub stream_advanced : IsHonest past → IsFresh past → DeliversEmitted past e → (what : Emitted) (mid now : KeptStream)
       → IsEmission at_side e.act what → IsNoted at_side (side_of mid e.side) (length stored) what → side_of mid (other e.side) ≡ side_of k (other e.side)
-      → (side_of now e.side).automaton ≡ (row (side_of mid e.side).automaton e.act).state → (side_of now e.side).places ≡ (side_of mid e.side).places
+      → (side_of now e.side).automaton ≡ (row (side_of mid e.side).automaton e.act).state → (side_of now e.side).index ≡ (side_of mid e.side).index
       → side_of now (other e.side) ≡ side_of mid (other e.side)
       → stream.Represents now (stored ++ first_of e.side what) (after (stream_before past e) e.side e.act)
-  stream_advanced honest fresh emitted what mid now is noted other_mid state places other_now end = by_end (is_same end e.side)
+  stream_advanced honest fresh emitted what mid now is noted other_mid state index other_now end = by_end (is_same end e.side)
     where
       s : Stream
       s = stream_before past e
@@ -218,7 +218,7 @@ module _ (k : KeptStream) (stored : List Emission) (past : List Event) (e : Even
           let more = noted_side at_side (side_of mid e.side) e.side stored _ _ e.act what is noted (both e.side) (known honest fresh emitted) in
           let all = subst (λ (o : Option OwnedPacket). side.Represents (side_of mid e.side) e.side (stored ++ first_of e.side what) (automaton_of (stream_before past e) e.side) (option_to_list o ++ emitted_by (stream_before past e) e.side))
           (emission_kept ∙ sym (row_at (stream_before past e) e.side e.act)) more in
-          let made = advanced_side (side_of mid e.side) (side_of now e.side) e.side (stored ++ first_of e.side what) _ _ e.act state places all in
+          let made = advanced_side (side_of mid e.side) (side_of now e.side) e.side (stored ++ first_of e.side what) _ _ e.act state index all in
           subst (λ (a : Automaton). side.Represents (side_of now e.side) e.side (stored ++ first_of e.side what) a (emitted_by (after (stream_before past e) e.side e.act) e.side)) (after_at (stream_before past e) e.side e.act)
           (subst (λ (ps : List OwnedPacket). side.Represents (side_of now e.side) e.side (stored ++ first_of e.side what) (row (automaton_of (stream_before past e) e.side) e.act).state ps) (emitted_after (stream_before past e) e.side e.act) made)
 

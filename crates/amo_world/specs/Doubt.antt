@@ -1,12 +1,12 @@
 -- The queue in doubt: the at-most-once queue with a mark on each message, and on the status, that a crash may have lost. What is
 -- marked may be lost later; what bears no mark any more stays.
-use Rattle.std.specs.Prelude.{◌≡◌, ℕ, Bool, true, false, ◌||◌, Option, None, Some, List, [], ◌∷◌, ◌++◌}
+use Rattle.std.specs.Prelude.{◌≡◌, ℕ, Bool, true, false, Option, None, Some, List, [], ◌∷◌, ◌++◌, map}
 use Rattle.amo_object.specs.declared.step.End.{End}
-use Rattle.amo_object.specs.declared.step.End.TheVariants.{Sender, Receiver}
 use Rattle.amo_object.specs.declared.status.Status.{Status}
 use Rattle.amo_object.specs.declared.status.Status.TheVariants.{Yes, No, Open}
 use Rattle.amo_object.specs.declared.step.Step.{Step}
 use Rattle.amo_object.specs.declared.step.Step.TheVariants.{Put, Get, Ack, Crash, Recover, DownReply, Lose, LoseAck}
+use Rattle.amo_object.specs.Queue as queue
 use Rattle.amo_object.specs.Queue.{settled, status_of}
 
 -- a message of the queue, and whether it is in doubt
@@ -29,19 +29,28 @@ pub record DoubtState : Type 0 where
 abbrev pub start : DoubtState
 start = record { entries = []; status = Yes; status_doubted = false; sender_down = false; receiver_down = false }
 
+-- the queue, if nothing that is in doubt was lost
+abbrev pub queue_of : DoubtState → queue.QueueState
+queue_of s = record {
+  messages = map (λ (e : Entry). e.message) s.entries;
+  status = s.status;
+  sender_down = s.sender_down;
+  receiver_down = s.receiver_down;
+}
+
 -- whether this side is down
 abbrev pub is_down : DoubtState → End → Bool
-is_down s Sender = s.sender_down
-is_down s Receiver = s.receiver_down
+is_down s side = queue.is_down (queue_of s) side
 
 -- whether some side is down
 abbrev pub is_any_down : DoubtState → Bool
-is_any_down s = s.sender_down || s.receiver_down
+is_any_down s = queue.is_any_down (queue_of s)
 
 -- this side is down from now on, or up
 abbrev pub set_down : DoubtState → End → Bool → DoubtState
-set_down s Sender down = record s { sender_down = down }
-set_down s Receiver down = record s { receiver_down = down }
+set_down s side down =
+    let q = queue.set_down (queue_of s) side down in
+    record s { sender_down = q.sender_down; receiver_down = q.receiver_down }
 
 -- the message that comes first
 abbrev pub first : List Entry → Option (List ℕ)

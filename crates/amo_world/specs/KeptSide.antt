@@ -1,8 +1,7 @@
 -- A side of a stream, as it is kept: its automaton, and an index of the packets that it emitted.
-use Rattle.std.specs.Prelude.{◌≡◌, ℕ, Option, None, Some, List, cond, IsSome, IfSome, Result, Ok, Err, slice_get}
+use Rattle.std.specs.Prelude.{◌≡◌, ℕ, Option, None, Some, List, IsSome, IfSome, Result, Ok, Err, slice_get}
 use Rattle.std.specs.List.{Contains}
-use Rattle.std.specs.Option.{unwrap_or}
-use Rattle.std.specs.BTreeMap.{get, is_at}
+use Rattle.std.specs.BTreeMap.{get}
 use Rattle.amo_object.specs.declared.step.End.{End}
 use Rattle.amo_packet.specs.declared.packet.OwnedPacket.{OwnedPacket}
 use Rattle.amo_core.specs.declared.act.Act.{Act}
@@ -15,11 +14,11 @@ use Rattle.amo_world.specs.declared.fault.WorldFault.{WorldFault}
 use Rattle.amo_world.specs.declared.fault.WorldFault.TheVariants.{NoMemory, WrongReply, Unsent, Repeat}
 use Rattle.amo_world.specs.declared.kept_side.KeptSide.{KeptSide}
 use Rattle.amo_world.specs.declared.key.Key.{Key}
-use Rattle.amo_world.specs.Key.{order, key_of}
+use Rattle.amo_world.specs.Key.{order, key_of, with_place}
 
 -- the place under a key
 abbrev pub place_at : KeptSide → Key → Option ℕ
-place_at kept key = get order kept.places key
+place_at kept key = get order kept.index.places key
 
 -- the packet stands at the place that the index tells for its key
 abbrev pub IsIndexed : KeptSide → End → List Emission → OwnedPacket → Type 0
@@ -36,10 +35,6 @@ pub record Represents (kept : KeptSide) (side : End) (stored : List Emission) (a
   pub state : kept.automaton ≡ automaton
   pub indexed : (packet : OwnedPacket) → Contains emitted packet → IsIndexed kept side stored packet
   pub placed : (key : Key) (place : ℕ) → place_at kept key ≡ Some place → IsPlaced side stored emitted key place
-
--- an index in which a place is put under a key, if none stands there
-abbrev pub with_place : (Key → Option ℕ) → Key → ℕ → Key → Option ℕ
-with_place places key next k = cond (is_at (order key) k) (Some (unwrap_or (places key) next)) (places k)
 
 -- the same state, and the same index
 pub record IsSame (was now : KeptSide) : Type 0 where

@@ -1,6 +1,7 @@
 pub mod Stream
 pub mod History
 pub mod Served
+pub mod Held
 pub mod Doubt
 pub mod Resolution
 pub mod View

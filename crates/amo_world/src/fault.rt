@@ -54,9 +54,11 @@ impl From<AllocError> for WorldFault {
 pub struct NoMemory;
 
 impl NoMemory {
+    ghost use Rattle.amo_packet.specs.Codes.{no_memory_code};
+
     /// The number of this fault.
     pub fn code(&self) -> u8
-        ensures { result ≡ 9 }
+        ensures { result ≡ no_memory_code }
     {
         9
     }

@@ -1,7 +1,6 @@
 //! A side of a stream, with all that judging its next act needs.
-ghost use Rattle.std.specs.Prelude.{◌≡◌, ◌↔◌, List, [], Some, None, length, IfOk, OnOk, OnErr, IsTrue};
+ghost use Rattle.std.specs.Prelude.{◌≡◌, ◌↔◌, List, [], length, IfOk, OnOk, IsTrue};
 ghost use Rattle.std.specs.List.{Contains};
-ghost use Rattle.std.specs.BTreeMap.{get};
 ghost use Rattle.amo_object.specs.declared.step.End.{End};
 ghost use Rattle.amo_packet.specs.declared.packet.OwnedPacket.{OwnedPacket};
 ghost use Rattle.amo_packet.specs.Packet.{packet_of, body_of};
@@ -9,26 +8,23 @@ ghost use Rattle.amo_packet.specs.Grammar.{CanBeWritten};
 ghost use Rattle.amo_core.specs.declared.automaton.Automaton.{Automaton};
 ghost use Rattle.amo_core.specs.Automaton.{row};
 ghost use Rattle.amo_world.specs.declared.emission.Emission.{Emission};
-ghost use Rattle.amo_world.specs.declared.key.Key.{Key};
-ghost use Rattle.amo_world.specs.Key.{order};
-ghost use Rattle.amo_world.specs.KeptSide.{Represents, Notes, with_place};
+ghost use Rattle.amo_world.specs.KeptSide.{Represents, Notes};
 ghost use Rattle.amo_world.specs.LogRoom.{IsSameLog, HasRoom};
 
 use crate::WorldFault;
 use crate::emission::Emitted;
-use crate::key::{Key, key_of};
+use crate::index::Index;
+use crate::key::key_of;
 use crate::log::Log;
 use amo_core::{Act, Automaton};
 use amo_packet::{OwnedPacket, Packet};
 use std::alloc::{AllocError, Global};
-use std::collections::BTreeMap;
-use std::collections::btree_map::Entry;
 
-/// One side of a stream: its automaton, and where each packet that it emitted is stored.
+/// One side of a stream: its automaton, and an index of the packets that it emitted.
 #[derive(Drop)]
 pub(crate) struct KeptSide {
     pub(crate) automaton: Automaton,
-    places: BTreeMap<Key, usize>,
+    index: Index,
 }
 
 impl KeptSide {
@@ -38,7 +34,7 @@ impl KeptSide {
     {
         KeptSide {
             automaton,
-            places: BTreeMap::new(alloc),
+            index: Index::new(alloc),
         }
     }
 
@@ -48,10 +44,10 @@ impl KeptSide {
             → Represents self.now side log.now.stored.items automaton emitted → IsTrue result ↔ Contains emitted packet.now }
     {
         let key = key_of(packet.as_packet().body);
-        let Some(place) = self.places.get(&key) else {
+        let Some(place) = self.index.get(&key) else {
             return false;
         };
-        match log.at(*place) {
+        match log.at(place) {
             Some(emission) => emission.packet == *packet,
             None => false,
         }
@@ -74,7 +70,7 @@ impl KeptSide {
             return Ok(Emitted::Nothing);
         };
         let key = key_of(packet.body);
-        if let Some(place) = place_under(&mut self.places, key, log.next_place())? {
+        if let Some(place) = self.index.place_under(key, log.next_place())? {
             if self.automaton.used_word(act).is_some() {
                 return Err(WorldFault::Repeat);
             }
@@ -84,7 +80,7 @@ impl KeptSide {
         match first(alloc, packet, log) {
             Ok(packet) => Ok(Emitted::First(packet)),
             Err(AllocError) => {
-                self.places.remove(&key);
+                self.index.remove(&key);
                 Err(WorldFault::NoMemory)
             }
         }
@@ -93,29 +89,9 @@ impl KeptSide {
     /// Makes the act, whose emission was noted.
     pub(crate) fn advance(&mut self, act: Act)
         ensures state { self.new.automaton ≡ (row self.old.automaton act).state }
-        ensures places { self.new.places ≡ self.old.places }
+        ensures index { self.new.index ≡ self.old.index }
     {
         self.automaton.advance(act);
-    }
-}
-
-/// The place that stands under the key, or none where this one is put there. Where memory runs out nothing has changed.
-fn place_under(
-    places: &mut BTreeMap<Key, usize>,
-    key: Key,
-    next: usize,
-) -> Result<Option<usize>, AllocError>
-    ensures found { IfOk result (λ place. place ≡ get order places.old key) }
-    ensures put { OnOk result ((k : Key) → get order places.new k ≡ with_place (get order places.old) key next k) }
-    ensures absent { OnErr result (get order places.old key ≡ None) }
-    ensures same { OnErr result ((k : Key) → get order places.new k ≡ get order places.old k) }
-{
-    match places.entry(key)? {
-        Entry::Occupied(entry) => Ok(Some(*entry.get())),
-        Entry::Vacant(entry) => {
-            entry.insert(next);
-            Ok(None)
-        }
     }
 }
 

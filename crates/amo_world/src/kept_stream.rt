@@ -87,7 +87,7 @@ impl KeptStream {
     /// Makes the act of an event, whose emission was noted.
     pub(crate) fn advance(&mut self, side: End, act: Act)
         ensures state { (side_of self.new side).automaton ≡ (row (side_of self.old side).automaton act).state }
-        ensures places { (side_of self.new side).places ≡ (side_of self.old side).places }
+        ensures index { (side_of self.new side).index ≡ (side_of self.old side).index }
         ensures other { side_of self.new (other side) ≡ side_of self.old (other side) }
     {
         match side {

@@ -5,26 +5,35 @@ ghost use Rattle.amo_world.specs.Key.{key_of};
 
 use amo_packet::Body;
 
-/// The kind of a packet, with one identifier. An accept is told by the identifier that it brings, since each is accepted
-/// for one needuid; a send by its identifier, since one message is sent under each.
+/// The kind of a packet, with what an ack says.
 #[derive(Clone, Copy, Debug, PartialEq, Eq, PartialOrd, Ord)]
-pub(crate) enum Key {
-    NeedUid(u64),
-    Accept(u64),
-    Send(u64),
-    Ack(u64, bool),
-    Cleanup(u64),
+pub(crate) enum Kind {
+    NeedUid,
+    Accept,
+    Send,
+    Ack(bool),
+    Cleanup,
+}
+
+/// One identifier of a packet, with the packet's kind. An accept is told by the identifier that it brings, since each is
+/// accepted for one needuid; a send by its identifier, since one message is sent under each. Identifiers are compared
+/// first: so what a side says in one handshake stands side by side in an index, and is found where memory was just read.
+#[derive(Clone, Copy, Debug, PartialEq, Eq, PartialOrd, Ord)]
+pub(crate) struct Key {
+    pub(crate) identifier: u64,
+    pub(crate) kind: Kind,
 }
 
 /// The key of a packet that says this.
 pub(crate) fn key_of(body: Body<'_>) -> Key
     ensures { result ≡ key_of (body_of body.entry) }
 {
-    match body {
-        Body::NeedUid(jd) => Key::NeedUid(jd),
-        Body::Accept(_, id) => Key::Accept(id),
-        Body::Send(id, _) => Key::Send(id),
-        Body::Ack(id, got) => Key::Ack(id, got),
-        Body::Cleanup(id) => Key::Cleanup(id),
-    }
+    let (identifier, kind) = match body {
+        Body::NeedUid(jd) => (jd, Kind::NeedUid),
+        Body::Accept(_, id) => (id, Kind::Accept),
+        Body::Send(id, _) => (id, Kind::Send),
+        Body::Ack(id, got) => (id, Kind::Ack(got)),
+        Body::Cleanup(id) => (id, Kind::Cleanup),
+    };
+    Key { identifier, kind }
 }

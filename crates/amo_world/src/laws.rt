@@ -1,5 +1,5 @@
 //! Laws of histories. Each is the contract of a function that does nothing.
-ghost use Rattle.std.specs.Prelude.{◌≡◌, ◌≢◌, ◌≤◌, ◌⊎◌, ℕ, ◌+◌, true, Some, List, [], ◌∷◌, ◌++◌, length, reverse, take, slice_get, IfSome, IsSome};
+ghost use Rattle.std.specs.Prelude.{◌≡◌, ◌≢◌, ◌≤◌, ◌⊎◌, ℕ, ◌+◌, true, false, Some, List, [], ◌∷◌, ◌++◌, length, reverse, take, slice_get, IfSome, IsSome};
 ghost use Rattle.std.specs.List.{Contains};
 ghost use Rattle.std.specs.Option.{option_to_list};
 ghost use Rattle.amo_object.specs.declared.step.Step.{Step};
@@ -12,13 +12,20 @@ ghost use Rattle.amo_object.specs.Delivery.{messages_put, messages_got, IsSubseq
 ghost use Rattle.amo_packet.specs.declared.packet.OwnedPacket.{OwnedPacket};
 ghost use Rattle.amo_core.specs.declared.act.Act.{Act};
 ghost use Rattle.amo_core.specs.declared.act.Act.TheVariants.{Put, Get, Ack, Start, Resend, Deliver, Crash, Recover};
+ghost use Rattle.amo_core.specs.declared.mode.Mode.TheVariants as mode;
+ghost use Rattle.amo_core.specs.declared.reply.Reply.TheVariants as reply;
 ghost use Rattle.amo_core.specs.declared.reply.Reply.TheVariants.{Done};
+ghost use Rattle.amo_core.specs.declared.sender.SenderMode.TheVariants as sending;
+ghost use Rattle.amo_core.specs.declared.sender.TheConstants.{MAX_WAITING};
 ghost use Rattle.amo_core.specs.Automaton.{row, used_word};
+ghost use Rattle.amo_core.specs.Sender as sender;
+ghost use Rattle.amo_core.specs.Receiver as receiver;
 ghost use Rattle.amo_world.specs.declared.emission.Emission.{Emission};
 ghost use Rattle.amo_world.specs.declared.event.Event.{Event};
 ghost use Rattle.amo_world.specs.Stream.{Stream, initial, after, automaton_of, reply_of, emission_of, word_of, emitted_by, side_of};
 ghost use Rattle.amo_world.specs.History.{stream_after, stream_before, emissions, event_emission, IsRight, IsHonest, IsFresh, Extends, events_of, events_at, side_after};
 ghost use Rattle.amo_world.specs.Served.{call_of, calls, IsServed};
+ghost use Rattle.amo_world.specs.Held.{MayChangeSender, MayChangeReceiver};
 ghost use Rattle.amo_world.specs.Doubt as doubt;
 ghost use Rattle.amo_world.specs.Doubt.{set_down, Moves, MovesUnmarking};
 ghost use Rattle.amo_world.specs.Resolution.{Resolves, Runs, Leads};
@@ -154,4 +161,34 @@ pub fn acts_have_replies()
     ensures deliver { (s : Stream) (side : End) (packet : OwnedPacket) (word : ℕ) → reply_of s side (Deliver packet word) ≡ Some Done }
     ensures crash { (s : Stream) (side : End) → reply_of s side Crash ≡ Some Done }
     ensures recover { (s : Stream) (side : End) → reply_of s side Recover ≡ Some Done }
+{}
+
+/// What a client's call replies, by the mode of its side, the message that the side holds, and the messages that wait.
+pub fn calls_reply_by_mode()
+    ensures put_while_down { (s : Stream) (m : List ℕ) → sender.kind s.sender.state.mode ≡ mode.Down → reply_of s Sender (Put m) ≡ Some reply.Down }
+    ensures put_while_full { (s : Stream) (m : List ℕ) → sender.kind s.sender.state.mode ≢ mode.Down
+        → length s.sender.state.waiting ≡ MAX_WAITING → reply_of s Sender (Put m) ≡ Some reply.Full }
+    ensures put_with_room { (s : Stream) (m : List ℕ) → sender.kind s.sender.state.mode ≢ mode.Down
+        → length s.sender.state.waiting ≢ MAX_WAITING → reply_of s Sender (Put m) ≡ Some reply.Ok }
+    ensures ack_while_down { (s : Stream) → sender.kind s.sender.state.mode ≡ mode.Down → reply_of s Sender Ack ≡ Some reply.Down }
+    ensures ack_while_waiting { (s : Stream) → sender.kind s.sender.state.mode ≢ mode.Down
+        → s.sender.state.waiting ≢ [] → reply_of s Sender Ack ≡ Some reply.NotYet }
+    ensures ack_while_held { (s : Stream) → sender.held_by s.sender.state.mode ≢ [] → reply_of s Sender Ack ≡ Some reply.NotYet }
+    ensures ack_once_got { (s : Stream) → s.sender.state.mode ≡ sending.Quiet true
+        → s.sender.state.waiting ≡ [] → reply_of s Sender Ack ≡ Some reply.Yes }
+    ensures ack_once_lost { (s : Stream) → s.sender.state.mode ≡ sending.Quiet false
+        → s.sender.state.waiting ≡ [] → reply_of s Sender Ack ≡ Some reply.No }
+    ensures get_while_down { (s : Stream) → receiver.kind s.receiver.state.mode ≡ mode.Down → reply_of s Receiver Get ≡ Some reply.Down }
+    ensures get_while_held { (s : Stream) (m : List ℕ) → receiver.held_by s.receiver.state.mode ≡ m ∷ [] → reply_of s Receiver Get ≡ Some (reply.Got m) }
+    ensures get_while_empty { (s : Stream) → receiver.kind s.receiver.state.mode ≢ mode.Down
+        → receiver.held_by s.receiver.state.mode ≡ [] → reply_of s Receiver Get ≡ Some reply.Nothing }
+{}
+
+/// What a sender holds of a handshake changes by a start, a crash, or an ack under the identifier that it sends under, and what a
+/// receiver holds by a get, a crash, or a send under the identifier that it accepted. No other act changes either.
+pub fn few_acts_change_what_is_held()
+    ensures sender { (s : Stream) (a : Act) → (¬ (MayChangeSender s.sender.state.mode a))
+        → sender.held_by (after s Sender a).sender.state.mode ≡ sender.held_by s.sender.state.mode }
+    ensures receiver { (s : Stream) (a : Act) → (¬ (MayChangeReceiver s.receiver.state.mode a))
+        → receiver.held_by (after s Receiver a).receiver.state.mode ≡ receiver.held_by s.receiver.state.mode }
 {}

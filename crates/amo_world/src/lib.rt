@@ -34,6 +34,7 @@ mod event;
 pub mod examples;
 mod fault;
 mod history;
+mod index;
 mod kept_side;
 mod kept_stream;
 mod key;

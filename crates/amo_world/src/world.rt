@@ -87,6 +87,9 @@ impl World {
     pub fn apply_emitted(&mut self, pass: usize, number: usize, word: u64) -> Result<(), WorldFault>
         ensures accepted { OnOk result (IfSome (slice_get (emissions self.old) number) (λ x. self.new ≡ delivery_of pass x word ∷ self.old)) }
         ensures sound { OnOk result (IsRight self.new × IsHonest self.new × IsFresh self.new) }
+        // A delivery is no client's call: the stream, as a queue in doubt, has moved by no visible step.
+        ensures moved { OnOk result (IfSome (slice_get (emissions self.old) number)
+            (λ x. Moves (view (stream_after x.packet.stream self.old)) [] (view (stream_after x.packet.stream self.new)))) }
         ensures served { OnOk result ((number : ℕ) → IsServed number self.new) }
         ensures wrong_reply { ¬ (IsErrOf result WorldFault.WrongReply) }
         ensures unsent { IsErrOf result WorldFault.Unsent ↔ (slice_get (emissions self.old) number ≡ None) }

@@ -12,5 +12,5 @@ returns-in_default c = λ side a emitted keeps.
 
 pub returns-in-Some-at : goal.returns-in-Some-at
 returns-in-Some-at c = λ side a emitted keeps.
-    let at : place_at c.args.self.now (key_of c.args.packet.now.body) ≡ Some c.in-Some.place.now = search rules in
-    found c.args.self.now side _ a emitted keeps c.args.packet.now c.in-Some.place.now c.in-Some-at.emission.now c.eq.result at (search rules) (c.eq.ensures ∙ matches_eq-law c.in-Some-at.emission.now.packet c.args.packet.now)
+    let at : place_at c.args.self.now (key_of c.args.packet.now.body) ≡ Some c.in-Some.place = search rules in
+    found c.args.self.now side _ a emitted keeps c.args.packet.now c.in-Some.place c.in-Some-at.emission.now c.eq.result at (search rules) (c.eq.ensures ∙ matches_eq-law c.in-Some-at.emission.now.packet c.args.packet.now)

@@ -1,11 +1,15 @@
-use Rattle.std.proofs.Common.{◌≡◌, None, Some, ◌∷◌, List, sym, ◌∙◌, subst}
+use Rattle.std.proofs.Common.{◌≡◌, Option, None, Some, [], ◌∷◌, List, sym, ◌∙◌, ap, subst}
 use Rattle.std.specs.Prelude.{slice_get}
+use Rattle.std.specs.Option.{IfSome}
+use Rattle.amo_world.specs.declared.emission.Emission.{Emission}
 use Rattle.amo_world.specs.declared.event.Event.{Event}
 use Rattle.amo_world.specs.Stream.{IsStream}
-use Rattle.amo_world.specs.History.{emissions, HasRightReply, DeliversEmitted, UsesNewWord, IsFresh}
-use Rattle.amo_world.specs.World.{IsRepeat}
+use Rattle.amo_world.specs.History.{stream_after, emissions, HasRightReply, DeliversEmitted, UsesNewWord, IsRight, IsHonest, IsFresh}
+use Rattle.amo_world.specs.World.{IsRepeat, delivery_of}
+use Rattle.amo_world.specs.Doubt.{Moves}
+use Rattle.amo_world.specs.View.{view}
 use Rattle.amo_world.proofs.Emitted.{of_stream}
-use Rattle.amo_world.proofs.Serving.{serves}
+use Rattle.amo_world.proofs.Serving.{event_moves, serves}
 use Rattle.amo_world.proofs.Worlds.{both_ok, delivers_right, never_unsent, repeat_tells, is_repeat}
 use Rattle.amo_world.proofs.world.World.apply_emitted.Goals as goal
 
@@ -21,6 +25,20 @@ commit-requires-clause-sound c =
     let at : slice_get (emissions c.args.self.now) c.args.number ≡ Some c.in-Some.emission.now = subst (λ (h : List Event). slice_get (emissions h) c.args.number ≡ Some c.in-Some.emission.now) c.self.view_is is in
     subst (λ (e : Event). HasRightReply c.args.self.now e × DeliversEmitted c.args.self.now e) (sym c.in_ok-event.ensures.event)
     (delivers_right c.args.self.now c.args.pass c.args.word c.args.number c.in-Some.emission.now at)
+
+pub returns-clause-moved : goal.returns-clause-moved
+returns-clause-moved c =
+    let past = c.args.self.now in
+    let x = c.in-Some.emission.now in
+    let e = delivery_of c.args.pass x c.args.word in
+    let is : slice_get (emissions c.self.inside.log.history) c.args.number ≡ Some x = sym (c.self.invariant.emitted c.args.number) ∙ sym c.in-Some.ensures in
+    let at : slice_get (emissions past) c.args.number ≡ Some x = subst (λ (h : List Event). slice_get (emissions h) c.args.number ≡ Some x) c.self.view_is is in
+    both_ok c.commit.result _ _ _ (λ accepted all.
+    let now : c.commit.new.self ≡ e ∷ past = accepted ∙ ap (λ (y : Event). y ∷ past) c.in_ok-event.ensures.event in
+    let sound = subst (λ (h : List Event). IsRight h × IsHonest h × IsFresh h) now all in
+    subst (λ (o : Option Emission). IfSome o (λ y. Moves (view (stream_after y.packet.stream past)) [] (view (stream_after y.packet.stream c.commit.new.self)))) (sym at)
+    (subst (λ (h : List Event). Moves (view (stream_after x.packet.stream past)) [] (view (stream_after x.packet.stream h))) (sym now)
+    (event_moves past e sound.0 sound.1 sound.2))) c.commit.ensures.accepted c.commit.ensures.sound
 
 pub returns-clause-served : goal.returns-clause-served
 returns-clause-served c = both_ok c.commit.result _ _ _ (λ sound _. λ number. serves number c.commit.new.self sound.0 sound.1 sound.2) c.commit.ensures.sound c.commit.ensures.sound

@@ -39,7 +39,7 @@ invariant_of-self-2 c =
     let few : c.push.new.self.events < 2 ^ 63 = subst (λ n. n < 2 ^ 63) (sym c.push.ensures.events) c.in_ok-emitted.ensures.room.events in
     subst (λ (p : List Event). Represents (set c.self.inside.streams.items (c.args.event.stream - 1) c.advance.new.self) c.push.new.self p) (sym (c.push.ensures.history ∙ ap (λ (p : List Event). e ∷ p) same.history))
     (world_grows _ log c.push.new.self _ e was c.advance.new.self what w c.requires.stream c.index_mut-stream.ensures.value
-    (stream_advanced was log.stored.items _ e both w.honest w.fresh honest what c.note.new.self c.advance.new.self noted.0 noted.1 c.in_ok-emitted.ensures.other c.advance.ensures.state c.advance.ensures.places c.advance.ensures.other)
+    (stream_advanced was log.stored.items _ e both w.honest w.fresh honest what c.note.new.self c.advance.new.self noted.0 noted.1 c.in_ok-emitted.ensures.other c.advance.ensures.state c.advance.ensures.index c.advance.ensures.other)
     (denoted_event was log.stored.items _ e both w.honest w.fresh honest what noted.0)
     (rw (c.push.ensures.stored, same.stored) refl) (rw (c.push.ensures.order, same.order, same.stored) refl) (rw (c.push.ensures.events, same.events) refl) few
     right honest (new_where_noted was log.stored.items _ e both what noted.0))
