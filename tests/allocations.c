@@ -2,7 +2,7 @@
 
    The variable ALLOCATION_COUNTS names a file; it holds afterwards four counts, each of 64 bits: the allocations asked for,
    the bytes asked for, the most bytes that were held at one time, and whether one was refused.
-   REFUSED_ALLOCATION is the number of the one to refuse, counted from 1. */
+   REFUSED_ALLOCATION is the number of the one to refuse, counted from 1; where REFUSED_AFTER is set, all after it are refused too. */
 #include <errno.h>
 #include <fcntl.h>
 #include <malloc.h>
@@ -27,6 +27,7 @@ struct counts {
 static struct counts before_it_began;
 static struct counts *counts = &before_it_began;
 static uint64_t wanted;
+static int all_after;
 static uint64_t held;
 
 /* Counting begins here, so what the loader allocates before the program runs is not counted.
@@ -44,12 +45,13 @@ __attribute__((constructor)) static void begin(void) {
     }
     close(file);
     wanted = number ? strtoull(number, NULL, 10) : 0;
+    all_after = getenv("REFUSED_AFTER") != NULL;
 }
 
 static int is_refused(size_t size) {
     counts->asked += 1;
     counts->bytes += size;
-    if (counts->asked != wanted) {
+    if (wanted == 0 || counts->asked < wanted || (counts->asked > wanted && !all_after)) {
         return 0;
     }
     counts->refused = 1;

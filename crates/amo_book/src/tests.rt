@@ -1,4 +1,4 @@
-//! Passes that meet, a handshake, the limits, and threads that call one book.
+//! Passes that meet, the limits, handshakes, threads that call one book, and refused memory.
 ghost use Rattle.std.specs.Prelude.{◌≡◌, IfOk, IfSome};
 ghost use Rattle.amo_book.specs.Book.{Each};
 ghost use Rattle.amo_book.specs.Charge.{IsChargeOf};
@@ -7,10 +7,19 @@ ghost use Rattle.amo_book.specs.Closed.{IsOf};
 use crate::{AckFault, Book, Charge, DriveFault, GetFault, OpenFault, Pass, PutFault};
 use amo_object::End;
 use amo_packet::{Message, MessageFault};
-use std::alloc::Global;
+use amo_world::STREAMS;
+use named::{Caller, Naming, Shared, callers_of};
+use std::alloc::{AllocError, Global};
+use std::marker::Brand;
 use std::test::Fail;
 
+mod allocations;
 mod handshake;
+mod histories;
+mod named;
+mod pair;
+mod recorder;
+mod sides;
 mod threads;
 
 /// A book of these sides. It asks again where memory was refused.
@@ -43,16 +52,6 @@ fn last(passes: &mut Vec<Pass>, book: &Book) -> Option<Pass>
     passes.pop()
 }
 
-/// The last of the book's charges.
-fn last_charge(charges: &mut Vec<Charge>, book: &Book) -> Option<Charge>
-    requires { Each (IsChargeOf book.now.id book.now.sides) charges.old.items }
-    ensures rest { Each (IsChargeOf book.now.id book.now.sides) charges.new.items }
-    ensures own { IfSome result (λ charge. IsChargeOf book.now.id book.now.sides charge) }
-{
-    let _ = book;
-    charges.pop()
-}
-
 /// A message of one byte. It asks again where memory was refused.
 fn message(alloc: Global, byte: u8) -> Result<Message, MessageFault> {
     match Message::copy(alloc, &[byte]) {
@@ -78,39 +77,92 @@ fn two_passes_meet(rt: HostRuntime) -> Result<(), Fail> {
     let ack = book.get_ack(&mut b, 1);
     assert!(rt; ack == Err(AckFault::NotYet(1)));
     let elsewhere = book.put(&mut b, 2, message(rt.alloc(), 0x62)?);
-    assert!(rt; matches!(&elsewhere, Err(PutFault::NoStream(_))));
+    let Err(PutFault::NoStream(back)) = elsewhere else {
+        return Err("a stream that the book lacks".into());
+    };
+    assert!(rt; back.bytes() == b"b".as_slice());
     let got = book.get(&mut a, 1);
     assert!(rt; matches!(&got, Err(GetFault::Nothing(2))));
     Ok(())
 }
 
-/// A book is opened within its limits alone.
+/// How many passes and charges a book of these sides has, if it may be opened.
+fn opened(alloc: Global, sides: &[(End, u32)], passes: usize) -> Result<(usize, usize), OpenFault> {
+    let (_book, passes, charges) = open(alloc, sides, passes)?;
+    Ok((passes.len(), charges.len()))
+}
+
+/// A book has 2 to 64 passes, at least one side, none twice, and streams of 1 to 256.
 #[test]
 fn opens_within_limits(rt: HostRuntime) -> Result<(), Fail> {
     let alloc = rt.alloc();
     let side = (End::Sender, 256);
     for passes in [0, 1, 65] {
-        assert!(rt; matches!(open(alloc, &[side], passes), Err(OpenFault::Limits)));
+        assert_eq!(rt; opened(alloc, &[side], passes), Err(OpenFault::Limits));
     }
     for passes in [2, 64] {
-        let (_book, numbered, _charges) = open(alloc, &[side], passes)?;
-        assert!(rt; numbered.len() == passes);
+        assert_eq!(rt; opened(alloc, &[side], passes), Ok((passes, 1)));
     }
-    assert!(rt; matches!(open(alloc, &[], 2), Err(OpenFault::Limits)));
-    assert!(rt;
-        matches!(
-            open(alloc, &[side, (End::Receiver, 1), side], 2),
-            Err(OpenFault::Limits)
-        )
-    );
+    assert_eq!(rt; opened(alloc, &[], 2), Err(OpenFault::Limits));
+    let twice = [side, (End::Receiver, 1), side];
+    assert_eq!(rt; opened(alloc, &twice, 2), Err(OpenFault::Limits));
     for stream in [0, 257] {
-        assert!(rt;
-            matches!(
-                open(alloc, &[(End::Receiver, stream)], 2),
-                Err(OpenFault::Limits)
-            )
-        );
+        let sides = [(End::Receiver, stream)];
+        assert_eq!(rt; opened(alloc, &sides, 2), Err(OpenFault::Limits));
     }
+    Ok(())
+}
+
+/// Both sides of each stream of a host.
+fn all_sides(alloc: Global) -> Result<Vec<(End, u32)>, AllocError> {
+    let mut sides = Vec::with_capacity(alloc, 512)?;
+    for stream in 1..=STREAMS {
+        sides.push((End::Receiver, stream))?;
+        sides.push((End::Sender, stream))?;
+    }
+    Ok(sides)
+}
+
+/// Whether both sides of a stream answer, the two events at this position and the next.
+fn is_answered<J: Naming>(
+    shared: &Shared<J>,
+    caller: &mut Caller<J>,
+    stream: u32,
+    position: u64,
+) -> bool {
+    if shared.get_ack(caller, stream) != Ok((true, position)) {
+        return false;
+    }
+    match shared.get(caller, stream) {
+        Err(GetFault::Nothing(next)) => next.checked_sub(1) == Some(position),
+        _ => false,
+    }
+}
+
+/// How many streams answer at both sides, one after another.
+fn answered<J: Naming>(alloc: Global, book: Book, passes: Vec<Pass>) -> Result<u64, Fail>
+    requires book { (book.id ≡ J.id) × (book.sides ≡ J.sides) }
+    requires passes { Each (IsOf J.id) passes.items }
+{
+    let shared: Shared<J> = Shared::new(book);
+    let mut callers = callers_of(alloc, passes)?;
+    let mut caller = callers.pop().ok_or("a pass")?;
+    let mut streams: u64 = 0;
+    for stream in 1..=STREAMS {
+        if is_answered(&shared, &mut caller, stream, streams.saturating_mul(2)) {
+            streams = streams.saturating_add(1);
+        }
+    }
+    Ok(streams)
+}
+
+/// A book has both sides of 256 streams at once, and each answers.
+#[test]
+fn opens_all_sides(rt: HostRuntime) -> Result<(), Fail> {
+    let sides = all_sides(rt.alloc())?;
+    let (book, passes, charges) = open(rt.alloc(), sides.as_slice(), 2)?;
+    assert_eq!(rt; (sides.len(), charges.len()), (512, 512));
+    assert_eq!(rt; answered::<Brand>(rt.alloc(), book, passes)?, 256);
     Ok(())
 }
 

@@ -1,49 +1,56 @@
 //! Threads that call one book at once.
-ghost use Rattle.std.specs.Prelude.{◌≡◌, IfSome};
+ghost use Rattle.std.specs.Prelude.{◌≡◌};
 ghost use Rattle.amo_book.specs.Book.{Each};
+ghost use Rattle.amo_book.specs.Charge.{IsChargeOf};
 ghost use Rattle.amo_book.specs.Closed.{IsOf};
 
+use super::named::{Caller, Naming, Shared, callers_of, passes_of};
 use super::{last, open};
-use crate::{AckFault, Book, GetFault, Pass};
+use crate::{AckFault, Book, Charge, CloseFault, GetFault, Pass};
 use amo_object::End;
-use std::alloc::Global;
+use std::alloc::{AllocError, Global};
+use std::marker::Brand;
+use std::sync::atomic::{AtomicU64, Ordering};
 use std::test::Fail;
-use std::thread::{Threads, join};
+use std::thread;
+use std::thread::Threads;
 
-/// What a thread does: so many get_acks or gets on one stream, each tried until it answers. It counts the tries that met
-/// a held gate.
+/// What a thread does: so many get_acks or gets on one stream, each tried until it answers.
 #[derive(Drop)]
-struct Job {
-    pass: Pass,
+struct Job<J: Naming> {
+    caller: Caller<J>,
     side: End,
     stream: u32,
     times: u32,
+    /// How many tries met a held gate.
     busy: u64,
+    /// Whether all threads were there before the first call.
+    is_at_once: bool,
 }
 
 /// Whether the call answered.
-fn call(book: &Book, job: &mut Job) -> bool
-    requires { job.old.pass.book ≡ book.now.id }
-    ensures { job.new.pass.book ≡ book.now.id }
-{
+fn is_answered<J: Naming>(shared: &Shared<J>, job: &mut Job<J>) -> bool {
     match job.side {
-        End::Sender => !matches!(book.get_ack(&mut job.pass, job.stream), Err(AckFault::Busy)),
-        End::Receiver => !matches!(book.get(&mut job.pass, job.stream), Err(GetFault::Busy)),
+        End::Sender => {
+            let answer = shared.get_ack(&mut job.caller, job.stream);
+            !matches!(answer, Err(AckFault::Busy))
+        }
+        End::Receiver => {
+            let answer = shared.get(&mut job.caller, job.stream);
+            !matches!(answer, Err(GetFault::Busy))
+        }
     }
 }
 
 /// Does the job.
-fn work(book: &Book, job: Job) -> Job
-    requires { job.pass.book ≡ book.now.id }
-    ensures { result.pass.book ≡ book.now.id }
-{
+fn work<J: Naming>(shared: &Shared<J>, job: Job<J>) -> Job<J> {
     let mut job = job;
     let mut left = job.times;
     'tries: for _ in 0..u64::MAX {
         if left == 0 {
             break;
         }
-        if call(book, &mut job) {
+        if is_answered(shared, &mut job) {
             left -= 1;
         } else {
             job.busy = job.busy.saturating_add(1);
@@ -52,157 +59,240 @@ fn work(book: &Book, job: Job) -> Job
     job
 }
 
-/// Two jobs at once.
-fn two<R: Threads + Sync>(rt: &R, book: &Book, jobs: (Job, Job)) -> (Job, Job)
-    requires { (jobs.0.pass.book ≡ book.now.id) × (jobs.1.pass.book ≡ book.now.id) }
-    ensures { (result.0.pass.book ≡ book.now.id) × (result.1.pass.book ≡ book.now.id) }
-{
-    let (one, other) = jobs;
-    join(
-        rt,
-        || -> Job
-            requires { one.pass.book ≡ book.now.id }
-            ensures { result.pass.book ≡ book.entry.now.id }
-        { work(book, one) },
-        || -> Job
-            requires { other.pass.book ≡ book.now.id }
-            ensures { result.pass.book ≡ book.entry.now.id }
-        { work(book, other) },
-    )
+/// How often a thread looks whether the others are there, before it begins without them.
+const LOOKS: u32 = 10_000_000;
+
+/// Waits until so many threads are there, and answers whether they came.
+pub fn meet_all(there: &AtomicU64, all: u64) -> bool {
+    there.fetch_add(1, Ordering::SeqCst);
+    for _ in 0..LOOKS {
+        if there.load(Ordering::SeqCst) >= all {
+            return true;
+        }
+        thread::yield_now();
+    }
+    false
 }
 
-/// The last pass, with what it does.
-fn next_job(passes: &mut Vec<Pass>, book: &Book, side: End, stream: u32, times: u32) -> Option<Job>
-    requires { Each (IsOf book.now.id) passes.old.items }
-    ensures rest { Each (IsOf book.now.id) passes.new.items }
-    ensures own { IfSome result (λ job. job.pass.book ≡ book.now.id) }
-{
-    Some(Job {
-        pass: last(passes, book)?,
-        side,
-        stream,
-        times,
-        busy: 0,
-    })
-}
-
-/// Four jobs at once.
-fn four<R: Threads + Sync>(
-    rt: &R,
-    book: &Book,
-    jobs: ((Job, Job), (Job, Job)),
-) -> ((Job, Job), (Job, Job))
-    requires left { (jobs.0.0.pass.book ≡ book.now.id) × (jobs.0.1.pass.book ≡ book.now.id) }
-    requires right { (jobs.1.0.pass.book ≡ book.now.id) × (jobs.1.1.pass.book ≡ book.now.id) }
-    ensures left { (result.0.0.pass.book ≡ book.now.id) × (result.0.1.pass.book ≡ book.now.id) }
-    ensures right { (result.1.0.pass.book ≡ book.now.id) × (result.1.1.pass.book ≡ book.now.id) }
-{
-    let (one, other) = jobs;
-    join(
-        rt,
-        || -> (Job, Job)
-            requires { (one.0.pass.book ≡ book.now.id) × (one.1.pass.book ≡ book.now.id) }
-            ensures { (result.0.pass.book ≡ book.entry.now.id) × (result.1.pass.book ≡ book.entry.now.id) }
-        { two(rt, book, one) },
-        || -> (Job, Job)
-            requires { (other.0.pass.book ≡ book.now.id) × (other.1.pass.book ≡ book.now.id) }
-            ensures { (result.0.pass.book ≡ book.entry.now.id) × (result.1.pass.book ≡ book.entry.now.id) }
-        { two(rt, book, other) },
-    )
-}
-
-/// The last two passes, with what they do.
-fn next_jobs(
-    passes: &mut Vec<Pass>,
-    book: &Book,
-    sides: ((End, u32), (End, u32)),
+/// The jobs of the callers, each at a side of its own.
+fn jobs_of<J: Naming>(
+    alloc: Global,
+    callers: Vec<Caller<J>>,
+    sides: &[(End, u32)],
     times: u32,
-) -> Option<(Job, Job)>
-    requires { Each (IsOf book.now.id) passes.old.items }
-    ensures rest { Each (IsOf book.now.id) passes.new.items }
-    ensures own { IfSome result (λ t. (t.0.pass.book ≡ book.now.id) × (t.1.pass.book ≡ book.now.id)) }
-{
-    let ((one, first), (other, second)) = sides;
-    let one = next_job(passes, book, one, first, times)?;
-    let other = next_job(passes, book, other, second, times)?;
-    Some((one, other))
+) -> Result<Vec<Job<J>>, AllocError> {
+    let mut jobs = Vec::new(alloc);
+    for (caller, at) in callers.into_iter().zip(sides) {
+        let (side, stream) = *at;
+        jobs.push(Job {
+            caller,
+            side,
+            stream,
+            times,
+            busy: 0,
+            is_at_once: false,
+        })?;
+    }
+    Ok(jobs)
 }
 
-/// How many events the book has after two jobs at once, and how many tries met a held gate.
-fn both_sides_of_one_stream<R: Threads + Sync>(rt: &R, alloc: Global) -> Result<(u64, u64), Fail> {
-    let sides = ((End::Sender, 3), (End::Receiver, 3));
-    let (book, mut passes, charges) = open(alloc, &[sides.0, sides.1], 2)?;
-    let jobs = next_jobs(&mut passes, &book, sides, 10_000).ok_or("two passes")?;
-    let (one, other) = two(rt, &book, jobs);
-    let busy = one.busy.saturating_add(other.busy);
-    let home = Vec::from_array(alloc, [one.pass, other.pass])?;
-    let closed = book.close(home, charges).ok().ok_or("closes")?;
-    Ok((closed.count(), busy))
+/// All jobs, each on a thread of its own, with a common start.
+fn run<J: Naming + Send + Sync, R: Threads + Sync>(
+    rt: &R,
+    shared: &Shared<J>,
+    jobs: Vec<Job<J>>,
+) -> Result<Vec<Job<J>>, AllocError> {
+    let there = AtomicU64::new(0);
+    let all = jobs.len() as u64;
+    thread::map_vec(
+        rt,
+        jobs,
+        &|job| {
+            let mut job = job;
+            job.is_at_once = meet_all(&there, all);
+            work(shared, job)
+        },
+    )
 }
 
-/// The sender and the receiver of one stream have gates of their own.
-#[test]
-fn both_sides(rt: HostRuntime) -> Result<(), Fail> {
-    let (count, busy) = both_sides_of_one_stream(&rt, rt.alloc())?;
-    assert_eq!(rt; count, 20_000);
-    assert_eq!(rt; busy, 0);
-    Ok(())
+/// What came of jobs that were done.
+#[derive(Clone, Copy, Debug, PartialEq, Eq)]
+struct Told {
+    busy: u64,
+    are_at_once: bool,
 }
 
-/// How many events the book has after four jobs at once, each on the sender of its stream, and how many tries met a held
-/// gate.
-fn four_at_once<R: Threads + Sync>(
+/// The callers of the jobs, and what came of these.
+fn callers_back<J: Naming>(
+    alloc: Global,
+    jobs: Vec<Job<J>>,
+) -> Result<(Vec<Caller<J>>, Told), AllocError> {
+    let mut callers = Vec::new(alloc);
+    let mut told = Told {
+        busy: 0,
+        are_at_once: true,
+    };
+    for job in jobs {
+        told.busy = told.busy.saturating_add(job.busy);
+        told.are_at_once &= job.is_at_once;
+        callers.push(job.caller)?;
+    }
+    Ok((callers, told))
+}
+
+/// How many events the book has after a thread for each pass made so many calls at the side that stands at its place.
+fn at_once<J: Naming + Send + Sync, R: Threads + Sync>(
     rt: &R,
     alloc: Global,
-    streams: [u32; 4],
+    book: Book,
+    passes: Vec<Pass>,
+    charges: Vec<Charge>,
+    sides: &[(End, u32)],
     times: u32,
-) -> Result<(u64, u64), Fail> {
-    let sides = [
-        (End::Sender, 9),
-        (End::Sender, 256),
-        (End::Sender, 1),
-        (End::Sender, 7),
-    ];
-    let (book, mut passes, charges) = open(alloc, &sides, 4)?;
-    let [a, b, c, d] = streams;
-    let right = next_jobs(
-        &mut passes,
-        &book,
-        ((End::Sender, c), (End::Sender, d)),
-        times,
-    )
-    .ok_or("two passes")?;
-    let left = next_jobs(
-        &mut passes,
-        &book,
-        ((End::Sender, a), (End::Sender, b)),
-        times,
-    )
-    .ok_or("two more")?;
-    let ((a, b), (c, d)) = four(rt, &book, (left, right));
-    let busy = a
-        .busy
-        .saturating_add(b.busy)
-        .saturating_add(c.busy)
-        .saturating_add(d.busy);
-    let home = Vec::from_array(alloc, [a.pass, b.pass, c.pass, d.pass])?;
-    let closed = book.close(home, charges).ok().ok_or("closes")?;
-    Ok((closed.count(), busy))
+) -> Result<(u64, Told), Fail>
+    requires book { (book.id ≡ J.id) × (book.sides ≡ J.sides) }
+    requires passes { Each (IsOf J.id) passes.items }
+    requires charges { Each (IsChargeOf J.id J.sides) charges.items }
+{
+    let shared: Shared<J> = Shared::new(book);
+    let callers = callers_of(alloc, passes)?;
+    let jobs = jobs_of(alloc, callers, sides, times)?;
+    let jobs = run(rt, &shared, jobs)?;
+    let (callers, told) = callers_back(alloc, jobs)?;
+    let passes = passes_of(alloc, callers)?;
+    let book = shared.into_book();
+    let closed = book.close(passes, charges).ok().ok_or("closes")?;
+    Ok((closed.count(), told))
 }
 
 /// Threads on streams of their own never meet a held gate.
 #[test]
 fn distinct_streams(rt: HostRuntime) -> Result<(), Fail> {
-    let (count, busy) = four_at_once(&rt, rt.alloc(), [7, 9, 1, 256], 10_000)?;
-    assert_eq!(rt; count, 40_000);
-    assert_eq!(rt; busy, 0);
+    let streams = [7, 9, 1, 256, 2, 128, 255, 8];
+    let sides = streams.map(|stream| (End::Sender, stream));
+    let (book, passes, charges) = open(rt.alloc(), &sides, 8)?;
+    let (count, told) = at_once::<Brand, _>(
+        &rt,
+        rt.alloc(),
+        book,
+        passes,
+        charges,
+        &sides,
+        10_000,
+    )?;
+    assert_eq!(rt; count, 80_000);
+    assert_eq!(rt;
+        told,
+        Told {
+            busy: 0,
+            are_at_once: true
+        }
+    );
     Ok(())
 }
 
-/// Threads on one stream meet held gates, and each call is tried until it has its event.
+/// The sender and the receiver of one stream have gates of their own.
 #[test]
-fn one_stream(rt: HostRuntime) -> Result<(), Fail> {
-    let (count, _busy) = four_at_once(&rt, rt.alloc(), [9, 9, 9, 9], 1_000)?;
-    assert_eq!(rt; count, 4_000);
+fn both_sides(rt: HostRuntime) -> Result<(), Fail> {
+    let sides = [(End::Sender, 3), (End::Receiver, 3)];
+    let (book, passes, charges) = open(rt.alloc(), &sides, 2)?;
+    let (count, told) = at_once::<Brand, _>(
+        &rt,
+        rt.alloc(),
+        book,
+        passes,
+        charges,
+        &sides,
+        10_000,
+    )?;
+    assert_eq!(rt; count, 20_000);
+    assert_eq!(rt;
+        told,
+        Told {
+            busy: 0,
+            are_at_once: true
+        }
+    );
+    Ok(())
+}
+
+/// So many rounds of get_acks on stream 1, in which each caller has one turn. The answer is how many were busy.
+fn take_turns<J: Naming>(shared: &Shared<J>, callers: &mut Vec<Caller<J>>, rounds: u32) -> u64 {
+    let mut busy: u64 = 0;
+    for _ in 0..rounds {
+        for caller in callers.iter_mut() {
+            if let Err(AckFault::Busy) = shared.get_ack(caller, 1) {
+                busy = busy.saturating_add(1);
+            }
+        }
+    }
+    busy
+}
+
+/// Each of the callers meets the first.
+fn meet_the_first<J: Naming>(shared: &Shared<J>, callers: &mut Vec<Caller<J>>) {
+    if let Some((first, others)) = callers.split_first_mut() {
+        for other in others.iter_mut() {
+            shared.meet(other, first);
+        }
+    }
+}
+
+/// Closes the book twice: once with a pass kept back, when all comes back, and then with all.
+fn close_at_last(book: Book, passes: Vec<Pass>, charges: Vec<Charge>) -> Result<u64, Fail>
+    requires passes { Each (IsOf book.id) passes.items }
+    requires charges { Each (IsChargeOf book.id book.sides) charges.items }
+{
+    let mut passes = passes;
+    let kept = last(&mut passes, &book).ok_or("a pass")?;
+    let lengths = (passes.len(), charges.len());
+    let Err(fault) = book.close(passes, charges) else {
+        return Err("closed without a pass".into());
+    };
+    if fault.code() != 32 || (fault.passes.len(), fault.charges.len()) != lengths {
+        return Err("all comes back".into());
+    }
+    let CloseFault {
+        book,
+        mut passes,
+        charges,
+    } = fault;
+    passes.push(kept)?;
+    let closed = book.close(passes, charges).ok().ok_or("closes")?;
+    Ok(closed.count())
+}
+
+/// How many calls were busy while four callers had turns on one thread, and how many events the book has after four threads
+/// made further calls.
+fn turns_and_threads<J: Naming + Send + Sync, R: Threads + Sync>(
+    rt: &R,
+    alloc: Global,
+    book: Book,
+    passes: Vec<Pass>,
+    charges: Vec<Charge>,
+) -> Result<(u64, u64), Fail>
+    requires book { (book.id ≡ J.id) × (book.sides ≡ J.sides) }
+    requires passes { Each (IsOf J.id) passes.items }
+    requires charges { Each (IsChargeOf J.id J.sides) charges.items }
+{
+    let shared: Shared<J> = Shared::new(book);
+    let mut callers = callers_of(alloc, passes)?;
+    let busy = take_turns(&shared, &mut callers, 2_500);
+    let jobs = jobs_of(alloc, callers, &[(End::Sender, 1); 4], 1_000)?;
+    let jobs = run(rt, &shared, jobs)?;
+    let (mut callers, _told) = callers_back(alloc, jobs)?;
+    meet_the_first(&shared, &mut callers);
+    let passes = passes_of(alloc, callers)?;
+    let count = close_at_last(shared.into_book(), passes, charges)?;
+    Ok((busy, count))
+}
+
+/// Calls on one stream: in turn none is busy, and at once each is tried until it has its event. No event is lost.
+#[test]
+fn four_threads(rt: HostRuntime) -> Result<(), Fail> {
+    let (book, passes, charges) = open(rt.alloc(), &[(End::Sender, 1)], 4)?;
+    let (busy, count) = turns_and_threads::<Brand, _>(&rt, rt.alloc(), book, passes, charges)?;
+    assert_eq!(rt; busy, 0);
+    assert_eq!(rt; count, 14_000);
     Ok(())
 }
