@@ -1,5 +1,5 @@
 -- An event is counted: the history grows by it.
-use Rattle.std.proofs.Common.{◌≡◌, ◌≢◌, ℕ, ◌+◌, ◌%◌, ◌^◌, ◌<◌, List, [], ◌∷◌, length, get_or, set, slice_index, slice_get, Option, Some, None, refl, sym, ap, ◌∙◌, subst, inl, arith, length-set, get_or-set_same, get_or-set_other}
+use Rattle.std.proofs.Common.{◌≡◌, ◌≢◌, ℕ, ◌+◌, ◌%◌, ◌^◌, ◌<◌, List, [], ◌∷◌, length, get_or, set, slice_index, slice_get, Some, refl, sym, ap, ◌∙◌, subst, inl, arith, length-set, get_or-set_same, get_or-set_other}
 use mathlib.Core.Logic.{dite}
 use mathlib.Core.Option.{some}
 use native.Mathlib.Decide.{ℕ_discrete}
@@ -16,7 +16,7 @@ use Rattle.amo_book.specs.declared.view.View.{View}
 use Rattle.amo_book.specs.declared.view.Share.{Share}
 use Rattle.amo_book.specs.Pass.{automaton_after}
 use Rattle.amo_book.specs.Book.{Apart}
-use Rattle.amo_book.specs.Rule.{Slot, share, Has, Knows, state_at}
+use Rattle.amo_book.specs.Rule.{share, Has, Knows, state_at}
 use Rattle.amo_book.specs.Plays.{Sat, view, counted}
 use Rattle.amo_book.proofs.Histories.{events_of-own, events_of-other, next_count, reply-row, state_at-is, moved, stayed}
 use Rattle.amo_book.proofs.Seats.{Whole, held_at, same_place, same_state, same_view_at, inside, has_one, each_set, Rule}

@@ -1,5 +1,5 @@
 -- A gate is tried, and opened again.
-use Rattle.std.proofs.Common.{◌≡◌, ◌≢◌, ℕ, cond, ◌+◌, ◌<◌, ◌==◌, List, [], ◌∷◌, length, get_or, set, slice_index, Option, Some, None, refl, sym, ap, ◌∙◌, subst, inl, arith, eqb, eq-eqb, ne_eqb, length-set, get_or-set_same, get_or-set_other}
+use Rattle.std.proofs.Common.{◌≡◌, ◌≢◌, ℕ, cond, ◌+◌, ◌<◌, ◌==◌, List, [], ◌∷◌, get_or, set, slice_index, Some, refl, sym, ap, ◌∙◌, subst, inl, arith, eqb, eq-eqb, ne_eqb, length-set, get_or-set_same, get_or-set_other}
 use mathlib.Core.Logic.{dite}
 use mathlib.Core.Option.{some}
 use native.Mathlib.Decide.{ℕ_discrete}

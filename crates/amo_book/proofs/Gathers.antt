@@ -1,5 +1,5 @@
 -- The passes of a book come back, one by one.
-use Rattle.std.proofs.Common.{◌≡◌, ℕ, zero, suc, ◌<◌, arith, slice_get, List, [], ◌∷◌, ◌++◌, length, map, Some, None, refl, sym, ap, ◌∙◌, subst, inl}
+use Rattle.std.proofs.Common.{◌≡◌, ℕ, zero, suc, ◌<◌, arith, slice_get, List, [], ◌∷◌, ◌++◌, length, Some, None, refl, sym, ap, ◌∙◌, subst, inl}
 use Rattle.std.proofs.lemmas.Option.{slice_get_within, slice_get-get_or, same_Some}
 use Rattle.atomic_table.specs.Seated.{TableId}
 use Rattle.amo_object.specs.declared.step.End.{End}
@@ -16,7 +16,8 @@ use Rattle.amo_book.specs.Rule.{Has, HasAll, side_at}
 use Rattle.amo_book.specs.Plays.{Sat, Looks, joined}
 use Rattle.amo_book.specs.Steps.{IsPass}
 use Rattle.amo_book.specs.Book.{BookState, Each, AreFirstCharges, first_charge}
-use Rattle.amo_book.specs.Closed.{HasTaken, AllPasses, StandsIn, Ends, Closes}
+use Rattle.amo_book.specs.Closed.{AllPasses, StandsIn, Closes}
+use Rattle.amo_book.specs.Gathering.{HasTaken, Ends}
 use Rattle.amo_book.proofs.Fills.{each-from}
 use Rattle.amo_book.proofs.Runs.{pass_of}
 use Rattle.amo_book.proofs.Sharing.{has-left, has-right}

@@ -1,12 +1,11 @@
 -- One event more: the events of a pass, and the automata of the sides.
-use Rattle.std.proofs.Common.{◌≡◌, ◌≢◌, ℕ, ◌+◌, ◌%◌, ◌^◌, ◌<◌, ◌==◌, Bool, Some, List, [], ◌∷◌, length, get_or, slice_get, refl, sym, ap, ◌∙◌, subst, eq-eqb, ne_eqb, arith}
-use Rattle.std.proofs.lemmas.Option.{slice_get-get_or, slice_get_within, get_or_from_slice_get}
+use Rattle.std.proofs.Common.{◌≡◌, ◌≢◌, ℕ, ◌+◌, ◌%◌, ◌^◌, ◌<◌, Some, List, ◌∷◌, length, slice_get, refl, sym, ap, ◌∙◌, eq-eqb, ne_eqb, arith}
+use Rattle.std.proofs.lemmas.Option.{slice_get-get_or, get_or_from_slice_get}
 use mathlib.Core.Logic.{dite}
 use native.Mathlib.Decide.{ℕ_discrete}
 use Rattle.amo_object.specs.declared.step.End.{End}
 use Rattle.amo_object.specs.declared.step.End.TheVariants.{Sender, Receiver}
 use Rattle.amo_core.specs.declared.act.Act.{Act}
-use Rattle.amo_core.specs.declared.automaton.Automaton.{Automaton}
 use Rattle.amo_core.specs.Automaton.{row}
 use Rattle.amo_world.specs.declared.event.Event.{Event}
 use Rattle.amo_world.specs.Stream.{Stream, after, automaton_of, reply_of, emission_of}

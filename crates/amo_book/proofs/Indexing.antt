@@ -30,7 +30,7 @@ same_end Receiver Sender = inr (λ e. cc)
 same_end Receiver Receiver = inl refl
 
 -- the key is the one that is added, or another
-same_key : (s side : End) (n stream : ℕ) → ((s ≡ side) × (n ≡ stream)) ⊎ (s ≡ side → n ≡ stream → ⊥)
+pub same_key : (s side : End) (n stream : ℕ) → ((s ≡ side) × (n ≡ stream)) ⊎ (s ≡ side → n ≡ stream → ⊥)
 same_key s side n stream = ⊎_elim
     (λ same. dite (ℕ_discrete n stream) (λ is. inl (same, is)) (λ other. inr (λ _ is. other is)))
     (λ other. inr (λ same _. other same))

@@ -5,6 +5,7 @@ pub mod Counting
 pub mod Fills
 pub mod Gathers
 pub mod Indexing
+pub mod Gathering
 pub mod Replies
 pub mod Sharing
 pub mod Runs

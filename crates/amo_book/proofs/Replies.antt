@@ -9,6 +9,7 @@ use Rattle.amo_core.specs.declared.act.Act.TheVariants as act
 use Rattle.amo_core.specs.declared.reply.Reply.{Reply}
 use Rattle.amo_core.specs.declared.reply.Reply.TheVariants as reply
 use Rattle.amo_core.specs.declared.automaton.Automaton.{Automaton}
+use Rattle.amo_core.specs.declared.automaton.Automaton.TheVariants as automaton
 use Rattle.amo_core.specs.declared.sender.SenderMode.{SenderMode}
 use Rattle.amo_core.specs.declared.sender.SenderMode.TheVariants as sending
 use Rattle.amo_core.specs.declared.receiver.ReceiverMode.{ReceiverMode}
@@ -164,3 +165,25 @@ crash_known at stream = done_known at stream act.Crash (λ s. crash_is_done s at
 
 pub recover_known : (at : End) (stream : ℕ) (x : Automaton) → IsStateOf at stream x → (row x act.Recover).reply ≡ Some reply.Done
 recover_known at stream = done_known at stream act.Recover (λ s. recover_is_done s at)
+
+-- a crash and a recovery emit nothing
+pub crash_is_silent : (x : Automaton) → (row x act.Crash).emitted ≡ None
+crash_is_silent (automaton.Sender s) = refl
+crash_is_silent (automaton.Receiver s) = refl
+
+sender_recovers : (s : sender.SenderState) (mode : SenderMode) → (sender.recover s mode).emitted ≡ None
+sender_recovers s (sending.Quiet got) = refl
+sender_recovers s (sending.NeedId jd m) = refl
+sender_recovers s (sending.Send id m) = refl
+sender_recovers s sending.Down = refl
+
+receiver_recovers : (s : receiver.ReceiverState) (mode : ReceiverMode) → (receiver.recover s mode).emitted ≡ None
+receiver_recovers s receiving.Idle = refl
+receiver_recovers s (receiving.Accept jd id) = refl
+receiver_recovers s (receiving.Rcvd id m) = refl
+receiver_recovers s (receiving.Ack id) = refl
+receiver_recovers s receiving.Down = refl
+
+pub recover_is_silent : (x : Automaton) → (row x act.Recover).emitted ≡ None
+recover_is_silent (automaton.Sender s) = sender_recovers s s.mode
+recover_is_silent (automaton.Receiver s) = receiver_recovers s s.mode

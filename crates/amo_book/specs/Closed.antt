@@ -1,15 +1,13 @@
 -- How a book ends.
 use Rattle.std.specs.Prelude.{◌≡◌, ℕ, ◌%◌, ◌^◌, ◌<◌, List, length, map, slice_get, Some}
 use Rattle.atomic_table.specs.Seated.{TableId}
-use Rattle.amo_object.specs.declared.step.End.{End}
 use Rattle.amo_core.specs.declared.automaton.Automaton.{Automaton}
 use Rattle.amo_world.specs.declared.event.Event.{Event}
 use Rattle.amo_world.specs.History.{IsRight, Extends, events_of}
-use Rattle.amo_book.specs.declared.view.View.{View}
 use Rattle.amo_book.specs.Pass.{PassState, mine, automaton_after, Serves}
 use Rattle.amo_book.specs.Charge.{ChargeState}
 use Rattle.amo_book.specs.Book.{BookState, Each}
-use Rattle.amo_book.specs.Rule.{AllBelow, Has}
+use Rattle.amo_book.specs.Rule.{AllBelow}
 
 -- how many events there were, modulo 2^64, and each side's last state, in the order of the book's sides
 pub record ClosedState : Type 0 where
@@ -54,17 +52,3 @@ pub record Closes (book : BookState) (passes : List PassState) (closed : ClosedS
   pub no_others : AllBelow book.passes history
   pub states : closed.states ≡ map (λ side. automaton_after side.0 side.1 history) book.sides
   pub count : closed.count ≡ length history % 2 ^ 64
-
--- the view has the pass's share, and has seen what it had seen
-abbrev pub HasTaken : View → PassState → Type 0
-HasTaken v p = Has v.shares p.number (mine p) × Extends v.seen p.seen
-
--- the history at the end, as the seat that gathered all knows it
-pub record Ends (sides : List (End × ℕ)) (passes : ℕ) (v : View) (count : ℕ) (states : List Automaton) : Type 0 where
-  pub log : List Event
-  pub right : IsRight log
-  pub ours : AllBelow passes log
-  pub seen : Extends log v.seen
-  pub owns : (p : ℕ) (m : List Event) → Has v.shares p m → events_of p log ≡ m
-  pub counted : count ≡ length log % 2 ^ 64
-  pub replays : states ≡ map (λ side. automaton_after side.0 side.1 log) sides

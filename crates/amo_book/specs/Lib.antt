@@ -4,8 +4,10 @@ pub mod Charge
 pub mod Closed
 pub mod Drive
 pub mod Fault
+pub mod Gathering
 pub mod Index
 pub mod Pass
 pub mod Plays
 pub mod Rule
+pub mod Site
 pub mod Steps

@@ -1,18 +1,23 @@
 //! The table of a book, and the steps of its calls.
-//! Word 0 is the count. Word `place + 1` is the gate of the side at that place, and the slot `place` its automaton.
+//! The atomic word 0 is the count. The atomic word `place + 1` is the gate of the side at that place, and the slot `place`
+//! holds its automaton.
 ghost use Rattle.std.specs.Prelude.{◌≡◌, ◌≢◌, ℕ, List, ◌+◌, ◌%◌, ◌^◌, ◌<◌, true, false, [], ◌∷◌, length, Some, None, IfSome, IfNone, slice_get};
 ghost use Rattle.amo_core.specs.declared.automaton.Automaton.{Automaton};
-ghost use Rattle.amo_core.specs.Automaton.{row};
+ghost use Rattle.amo_core.specs.Automaton.{row, mode_of};
+ghost use Rattle.amo_object.specs.declared.step.End.TheVariants as end_of;
 ghost use Rattle.amo_world.specs.declared.event.Event.{Event};
 ghost use Rattle.amo_book.specs.Pass.{event};
 ghost use Rattle.amo_book.specs.Rule.{share};
 ghost use Rattle.amo_book.specs.Plays.{Sat, IsAtRest, Took, Looks, Counts, view, witness, joined};
 ghost use Rattle.amo_book.specs.Steps.{IsSame, IsPass, IsStateOf, Made, holding, released};
 ghost use Rattle.amo_book.specs.Book.{Apart};
+ghost use Rattle.amo_book.specs.Site.{IsSite};
 
 use crate::plays::{Count, Counted, Free, Gather, Law, Look, Tried, Try, Witness};
+use crate::site::Site;
+use crate::slot::Housed;
 use crate::view::{Setup, View};
-use amo_core::{Act, Automaton, Reply};
+use amo_core::{Act, Mode, Reply};
 use amo_object::End;
 use atomic_table::{Seat, Table};
 use std::alloc::Global;
@@ -23,12 +28,12 @@ mod closing;
 mod opening;
 
 /// A token of the table: what a pass or a charge steps with.
-pub type Chair = Seat<Option<Automaton>, View>;
+pub type Chair = Seat<Option<Housed>, View>;
 
 /// The table, with what it was made of.
 #[derive(Drop)]
 pub struct Board {
-    pub table: Table<Option<Automaton>, View, Setup, Law, Global>,
+    pub table: Table<Option<Housed>, View, Setup, Law, Global>,
     pub setup: Setup,
     pub ghost keyed: { table.shared.key ≡ setup },
     pub ghost sized: { (table.shared.table_id.words ≡ length setup.sides.items + 1) × (table.shared.table_id.slots ≡ length setup.sides.items) },
@@ -47,25 +52,23 @@ impl Board {
     }
 
     /// Tries the gate of a side once.
-    fn try_gate<E: Tried>(&self, seat: &mut Chair, place: usize, side: End, stream: u32) -> bool
+    fn try_gate<E: Tried>(&self, seat: &mut Chair, site: Site) -> bool
         requires own { seat.old.table_id ≡ self.now.table.shared.table_id }
-        requires place { slice_get self.now.setup.sides.items place ≡ Some (side, stream) }
-        requires side { (E.side ≡ side) × (E.stream ≡ stream) }
+        requires place { IsSite self.now.setup.sides.items site }
+        requires side { (E.side ≡ site.side) × (E.stream ≡ site.stream) }
         requires rests { IsAtRest seat.old.me }
         ensures same { IsSame seat.old seat.new }
-        ensures won { result ≡ true → Took E.side E.stream place seat.old.me seat.new.me }
+        ensures won { result ≡ true → Took E.side E.stream site.place seat.old.me seat.new.me }
         ensures lost { result ≡ false → seat.new.me ≡ seat.old.me }
     {
-        let _ = side;
-        let _ = stream;
         self.table
             .shared
-            .compare_exchange::<Try<E>>(seat, place + 1, 0, 1)
+            .compare_exchange::<Try<E>>(seat, site.place + 1, 0, 1)
             == 0
     }
 
     /// Moves the automaton out of its slot.
-    fn take_state(&self, seat: &mut Chair, place: usize) -> Automaton
+    fn take_state(&self, seat: &mut Chair, place: usize) -> Housed
         requires own { seat.old.table_id ≡ self.now.table.shared.table_id }
         requires held { (x : Automaton) × (seat.old.me.1 ≡ (place, Some x) ∷ []) }
         ensures same { IsSame seat.old seat.new }
@@ -79,16 +82,14 @@ impl Board {
         &self,
         seat: &mut Chair,
         pass: usize,
-        place: usize,
-        side: End,
-        stream: u32,
+        site: Site,
         act: &Snapshot<Act>,
         reply: &Reply,
     ) -> u64
         requires own { seat.old.table_id ≡ self.now.table.shared.table_id }
-        requires place { slice_get self.now.setup.sides.items place ≡ Some (side, stream) }
-        requires event { E.event ≡ event pass side stream act.now.value reply.now }
-        requires held { (x : Automaton) × (made : List Event) × (seat.old.me.0.held ≡ Some (place, x)) × (seat.old.me.0.shares ≡ share pass made ∷ []) × ((row x act.now.value).reply ≡ Some reply.now) }
+        requires place { IsSite self.now.setup.sides.items site }
+        requires event { E.event ≡ event pass site.side site.stream act.now.value reply.now }
+        requires held { (x : Automaton) × (made : List Event) × (seat.old.me.0.held ≡ Some (site.place, x)) × (seat.old.me.0.shares ≡ share pass made ∷ []) × ((row x act.now.value).reply ≡ Some reply.now) }
         ensures same { IsSame seat.old seat.new }
         ensures counts { Counts E.event seat.old.me seat.new.me result }
     {
@@ -96,7 +97,7 @@ impl Board {
     }
 
     /// Moves the automaton back into its slot.
-    fn give_state(&self, seat: &mut Chair, place: usize, state: Automaton)
+    fn give_state(&self, seat: &mut Chair, place: usize, state: Housed)
         requires own { seat.old.table_id ≡ self.now.table.shared.table_id }
         requires held { seat.old.me.1 ≡ (place, None) ∷ [] }
         ensures same { IsSame seat.old seat.new }
@@ -120,22 +121,41 @@ impl Board {
 // What the calls are made of.
 impl Board {
     /// Takes the automaton of a side, if its gate is free.
-    pub fn take(&self, seat: &mut Chair, place: usize, side: End, stream: u32) -> Option<Automaton>
+    pub fn take(&self, seat: &mut Chair, site: Site) -> Option<Housed>
         requires own { seat.old.table_id ≡ self.now.table.shared.table_id }
-        requires place { slice_get self.now.setup.sides.items place ≡ Some (side, stream) }
+        requires place { IsSite self.now.setup.sides.items site }
         requires rests { IsAtRest seat.old.me }
         ensures same { IsSame seat.old seat.new }
-        ensures taken { IfSome result (λ x. (seat.new.me ≡ holding place x seat.old.me) × IsStateOf side stream x) }
+        ensures taken { IfSome result (λ x. (seat.new.me ≡ holding site.place x seat.old.me) × IsStateOf site.side site.stream x) }
         ensures busy { IfNone result (seat.new.me ≡ seat.old.me) }
     {
-        if !self.try_gate::<Brand>(seat, place, side, stream) {
+        if !self.try_gate::<Brand>(seat, site) {
             return None;
         }
-        Some(self.take_state(seat, place))
+        Some(self.take_state(seat, site.place))
+    }
+
+    /// The same for a charge, which holds the mode that its side was left in. No client's call changes a sender's mode, so a
+    /// sender is in it. A receiver may be in another, since a get changes its mode.
+    pub fn take_as_held(&self, seat: &mut Chair, site: Site, held: Mode) -> Option<Housed>
+        requires own { seat.old.table_id ≡ self.now.table.shared.table_id }
+        requires place { IsSite self.now.setup.sides.items site }
+        requires rests { IsAtRest seat.old.me }
+        ensures same { IsSame seat.old seat.new }
+        ensures taken { IfSome result (λ x. (seat.new.me ≡ holding site.place x seat.old.me) × IsStateOf site.side site.stream x) }
+        ensures held { IfSome result (λ x. site.side ≡ end_of.Sender → mode_of x ≡ held) }
+        ensures busy { IfNone result (seat.new.me ≡ seat.old.me) }
+    {
+        let automaton = self.take(seat, site)?;
+        if site.side == End::Sender && automaton.mode() != held {
+            self.put_back(seat, site.place, automaton);
+            return None;
+        }
+        Some(automaton)
     }
 
     /// Gives the automaton home, and opens the gate.
-    pub fn put_back(&self, seat: &mut Chair, place: usize, state: Automaton)
+    pub fn put_back(&self, seat: &mut Chair, place: usize, state: Housed)
         requires own { seat.old.table_id ≡ self.now.table.shared.table_id }
         requires place { place < length self.now.setup.sides.items }
         requires held { (seat.old.me.1 ≡ (place, None) ∷ []) × (seat.old.me.0.held ≡ Some (place, state)) }
@@ -151,24 +171,22 @@ impl Board {
         &self,
         seat: &mut Chair,
         pass: usize,
-        place: usize,
-        side: End,
-        stream: u32,
+        site: Site,
         act: &Snapshot<Act>,
         reply: &Reply,
-        state: Automaton,
+        state: Housed,
     ) -> u64
         requires own { seat.old.table_id ≡ self.now.table.shared.table_id }
-        requires place { slice_get self.now.setup.sides.items place ≡ Some (side, stream) }
-        requires held { (x : Automaton) × (m : Sat) × IsPass pass m × (seat.old.me ≡ holding place x m)
+        requires place { IsSite self.now.setup.sides.items site }
+        requires held { (x : Automaton) × (m : Sat) × IsPass pass m × (seat.old.me ≡ holding site.place x m)
             × (state ≡ (row x act.now.value).state) × ((row x act.now.value).reply ≡ Some reply.now) }
         ensures same { IsSame seat.old seat.new }
         ensures rests { IsPass pass seat.new.me }
-        ensures made { (x : Automaton) (m : Sat) → IsPass pass m → seat.old.me ≡ holding place x m
-            → Made pass m seat.new.me (event pass side stream act.now.value reply.now) x result }
+        ensures made { (x : Automaton) (m : Sat) → IsPass pass m → seat.old.me ≡ holding site.place x m
+            → Made pass m seat.new.me (event pass site.side site.stream act.now.value reply.now) x result }
     {
-        let position = self.count::<Brand>(seat, pass, place, side, stream, act, reply);
-        self.put_back(seat, place, state);
+        let position = self.count::<Brand>(seat, pass, site, act, reply);
+        self.put_back(seat, site.place, state);
         position
     }
 

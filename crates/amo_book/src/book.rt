@@ -7,9 +7,9 @@ ghost use Rattle.amo_book.specs.Calls.{HasSide};
 
 use crate::board::{Board, Chair};
 use crate::index::Index;
+use crate::slot::Housed;
 use crate::view::Setup;
 use crate::{Charge, OpenFault, Pass};
-use amo_core::{Automaton, Mode};
 use amo_object::End;
 use std::alloc::Global;
 use std::marker::Model;
@@ -23,7 +23,7 @@ pub struct Book {
     pub(crate) board: Board,
     pub(crate) index: Index,
     // Room for the last states.
-    pub(crate) room: Vec<Automaton>,
+    pub(crate) room: Vec<Housed>,
 }
 
 impl Model for Book {

@@ -3,6 +3,7 @@ ghost use Rattle.std.specs.Prelude.{◌≡◌};
 ghost use Rattle.amo_world.specs.Stream.{IsStream};
 
 use crate::board::Chair;
+use crate::site::Site;
 use amo_core::Mode;
 use amo_object::End;
 use std::marker::Model;
@@ -11,9 +12,7 @@ use std::marker::Model;
 /// that its last answer named.
 #[derive(Drop)]
 pub struct Charge {
-    pub(crate) place: usize,
-    pub(crate) side: End,
-    pub(crate) stream: u32,
+    pub(crate) site: Site,
     pub(crate) mode: Mode,
     // It ties the charge to its book.
     pub(crate) seat: Chair,
@@ -25,9 +24,9 @@ impl Model for Charge {
 
     ghost Value = { ChargeState };
 
-    ghost view = { λ c. record { book = c.seat.table_id; place = c.place; side = c.side; stream = c.stream; mode = c.mode } };
+    ghost view = { λ c. record { book = c.seat.table_id; place = c.site.place; side = c.site.side; stream = c.site.stream; mode = c.mode } };
 
-    ghost invariant = { λ c. IsStream c.stream };
+    ghost invariant = { λ c. IsStream c.site.stream };
 }
 
 impl Charge {
@@ -35,7 +34,7 @@ impl Charge {
     pub fn side(&self) -> End
         ensures { result ≡ self.now.side }
     {
-        self.side
+        self.site.side
     }
 
     /// The number of the stream.
@@ -43,7 +42,7 @@ impl Charge {
         ensures number { result ≡ self.now.stream }
         ensures within { IsStream result }
     {
-        self.stream
+        self.site.stream
     }
 
     /// The kind of the mode that its last answer named; at first the one at rest.
@@ -53,9 +52,10 @@ impl Charge {
         self.mode
     }
 
-    pub(crate) fn place(&self) -> usize
-        ensures { result ≡ self.now.place }
+    pub(crate) fn site(&self) -> Site
+        ensures site { (result.place ≡ self.now.place) × (result.side ≡ self.now.side) × (result.stream ≡ self.now.stream) }
+        ensures within { IsStream result.stream }
     {
-        self.place
+        self.site
     }
 }

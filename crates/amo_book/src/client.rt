@@ -10,7 +10,9 @@ ghost use Rattle.amo_book.specs.Pass.{GrownBy, Grown, Answered, HasPosition, Ser
 ghost use Rattle.amo_book.specs.Steps.{IsStateOf};
 ghost use Rattle.amo_book.specs.Calls.{put_answer, get_answer, ack_answer, HasSide, IsPutNoStream, IsPutReply, IsGetReply, IsAckReply};
 ghost use Rattle.amo_book.specs.Fault.{put_message};
+ghost use Rattle.amo_book.specs.Site.{IsSite};
 
+use crate::site::Site;
 use crate::{AckFault, Book, GetFault, Pass, PutFault};
 use amo_core::{Act, Advanced, Reply};
 use amo_object::End;
@@ -96,10 +98,15 @@ impl Book {
         ensures handed_back { IfErr result (λ fault. put_message fault ≡ message) }
     {
         let Some(place) = self.place(End::Sender, stream) else {
-            let _number = pass.number;
+            pass.right();
             return Err(PutFault::NoStream(message));
         };
-        match self.call(pass, place, End::Sender, stream, Act::Put(message)) {
+        let site = Site {
+            place,
+            side: End::Sender,
+            stream,
+        };
+        match self.call(pass, site, Act::Put(message)) {
             Ok(called) => called.into_put(),
             Err(Act::Put(message)) => Err(PutFault::Busy(message)),
             Err(_) => unreachable!(),
@@ -117,10 +124,15 @@ impl Book {
         ensures no_stream { IsErrOf result GetFault.NoStream ↔ (HasSide self.now side.Receiver stream → ⊥) }
     {
         let Some(place) = self.place(End::Receiver, stream) else {
-            let _number = pass.number;
+            pass.right();
             return Err(GetFault::NoStream);
         };
-        match self.call(pass, place, End::Receiver, stream, Act::Get) {
+        let site = Site {
+            place,
+            side: End::Receiver,
+            stream,
+        };
+        match self.call(pass, site, Act::Get) {
             Ok(called) => called.into_get(),
             Err(_) => Err(GetFault::Busy),
         }
@@ -137,51 +149,44 @@ impl Book {
         ensures no_stream { IsErrOf result AckFault.NoStream ↔ (HasSide self.now side.Sender stream → ⊥) }
     {
         let Some(place) = self.place(End::Sender, stream) else {
-            let _number = pass.number;
+            pass.right();
             return Err(AckFault::NoStream);
         };
-        match self.call(pass, place, End::Sender, stream, Act::Ack) {
+        let site = Site {
+            place,
+            side: End::Sender,
+            stream,
+        };
+        match self.call(pass, site, Act::Ack) {
             Ok(called) => called.into_ack(),
             Err(_) => Err(AckFault::Busy),
         }
     }
 
     /// One call on a side that has the act, if its gate is free. Otherwise the act comes back.
-    fn call(
-        &self,
-        pass: &mut Pass,
-        place: usize,
-        side: End,
-        stream: u32,
-        act: Act,
-    ) -> Result<Called, Act>
+    // Inlined, it knows its act, and nothing of the other acts is moved or tested.
+    #[inline(always)]
+    fn call(&self, pass: &mut Pass, site: Site, act: Act) -> Result<Called, Act>
         requires book { pass.old.book ≡ self.now.id }
-        requires place { slice_get self.now.sides place ≡ Some (side, stream) }
-        requires known { (x : Automaton) → IsStateOf side stream x → (reply : Reply) × ((row x act).reply ≡ Some reply) }
-        ensures grown { IfOk result (λ called. GrownBy pass.old pass.new (event pass.old.number side stream act called.reply)) }
+        requires place { IsSite self.now.sides site }
+        requires known { (x : Automaton) → IsStateOf site.side site.stream x → (reply : Reply) × ((row x act).reply ≡ Some reply) }
+        ensures grown { IfOk result (λ called. GrownBy pass.old pass.new (event pass.old.number site.side site.stream act called.reply)) }
         ensures answered { IfOk result (λ called. HasPosition pass.new called.position) }
-        ensures replied { IfOk result (λ called. (x : Automaton) × IsStateOf side stream x × ((row x act).reply ≡ Some called.reply)
+        ensures replied { IfOk result (λ called. (x : Automaton) × IsStateOf site.side site.stream x × ((row x act).reply ≡ Some called.reply)
             × (called.handed_back ≡ handed_back act (Some called.reply))) }
         ensures right { IsRight pass.new.seen }
         ensures busy { IfErr result (λ back. (back ≡ act) × (pass.new ≡ pass.old)) }
     {
         let number = pass.number;
-        let Some(mut automaton) = self.board.take(&mut pass.seat, place, side, stream) else {
+        let Some(mut automaton) = self.board.take(&mut pass.seat, site) else {
             return Err(act);
         };
         let told = Snapshot::of(&act);
         let Advanced { reply, handed_back } = automaton.advance(act);
         let Some(reply) = reply else { unreachable!() };
-        let position = self.board.settle(
-            &mut pass.seat,
-            number,
-            place,
-            side,
-            stream,
-            &told,
-            &reply,
-            automaton,
-        );
+        let position = self
+            .board
+            .settle(&mut pass.seat, number, site, &told, &reply, automaton);
         Ok(Called {
             reply,
             handed_back,

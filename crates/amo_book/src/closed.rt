@@ -6,16 +6,17 @@ ghost use Rattle.amo_book.specs.Book.{Each};
 ghost use Rattle.amo_book.specs.Charge.{IsChargeOf};
 ghost use Rattle.amo_book.specs.Closed.{IsOf, AreAll, Closes};
 
+use crate::slot::Housed;
 use crate::whole::are_all;
 use crate::{Book, Charge, Pass};
-use amo_core::{Automaton, Mode};
+use amo_core::Mode;
 use std::marker::Model;
 
 /// What is left of a book. Contracts see the count of its events and each side's last state.
 #[derive(Drop)]
 pub struct Closed {
     count: u64,
-    states: Vec<Automaton>,
+    states: Vec<Housed>,
 }
 
 impl Model for Closed {
@@ -52,8 +53,8 @@ impl Book {
         ensures missing { IfErr result (λ fault. (AreAll self passes.items charges.items → ⊥) × (fault.book ≡ self) × (fault.passes ≡ passes) × (fault.charges ≡ charges)) }
     {
         let numbers = self.board.setup.passes;
-        let places = self.board.setup.sides.len();
-        if !are_all(passes.as_slice(), numbers, charges.as_slice(), places) {
+        let sides = self.board.setup.sides.as_slice();
+        if !are_all(passes.as_slice(), numbers, charges.as_slice(), sides) {
             return Err(CloseFault {
                 book: self,
                 passes,

@@ -1,20 +1,19 @@
 //! The acts of hosts: each drives the side of a charge.
-ghost use Rattle.std.specs.Prelude.{◌≡◌, Some, true, IfOk, IfErr, IsErrOf};
+ghost use Rattle.std.specs.Prelude.{◌≡◌, Some, None, IfOk, IfErr, IsErrOf};
 ghost use Rattle.amo_object.specs.declared.step.End.TheVariants as end_of;
 ghost use Rattle.amo_packet.specs.Packet.{packet_of, body_of};
 ghost use Rattle.amo_packet.specs.Grammar.{CanBeWritten, CarriesNoBytes};
 ghost use Rattle.amo_core.specs.declared.act.Act.TheVariants as act;
 ghost use Rattle.amo_core.specs.declared.reply.Reply.TheVariants as reply;
 ghost use Rattle.amo_core.specs.declared.automaton.Automaton.{Automaton};
-ghost use Rattle.amo_core.specs.Automaton.{row, mode_of};
+ghost use Rattle.amo_core.specs.Automaton.{row};
 ghost use Rattle.amo_world.specs.History.{IsRight};
 ghost use Rattle.amo_book.specs.Charge.{IsChargeOf};
 ghost use Rattle.amo_book.specs.Steps.{IsStateOf};
 ghost use Rattle.amo_book.specs.Drive.{Driven, DrivenSilently, Unchanged};
 
 use crate::{Book, Charge, DriveFault, Pass};
-use amo_core::{Act, Automaton, Mode, Outcome, Reply};
-use amo_object::End;
+use amo_core::{Act, Mode, Outcome, Reply};
 use amo_packet::{MAX_PACKET, MessageFault, Packet};
 use std::alloc::Global;
 use std::snapshot::Snapshot;
@@ -85,7 +84,7 @@ impl Book {
         ensures refused { IfErr result (λ fault. Unchanged pass.old pass.new charge.old charge.new out.old out.new) }
         ensures memory { IsErrOf result DriveFault.NoMemory → ¬ (CarriesNoBytes (body_of packet.now.body)) }
     {
-        let _number = pass.number;
+        pass.right();
         let owned = match packet.to_owned(alloc) {
             Ok(owned) => owned,
             Err(MessageFault::NoMemory) => return Err(DriveFault::NoMemory),
@@ -95,27 +94,25 @@ impl Book {
     }
 
     /// The side's host goes down, and forgets everything.
-    #[tactic(auto, using(crate::proofs::Replies::crash_known))]
+    #[tactic(auto, using(crate::proofs::Replies::crash_known, crate::proofs::Replies::crash_is_silent))]
     pub fn crash(&self, pass: &mut Pass, charge: &mut Charge) -> Result<Done, DriveFault>
         requires book { (pass.old.book ≡ self.now.id) × IsChargeOf self.now.id self.now.sides charge.old }
         ensures driven { IfOk result (DrivenSilently pass.old pass.new charge.old charge.new act.Crash) }
         ensures right { IsRight pass.new.seen }
         ensures busy { IfErr result (λ fault. (fault ≡ DriveFault.Busy) × (pass.new ≡ pass.old) × (charge.new ≡ charge.old)) }
     {
-        let mut out = [0; MAX_PACKET];
-        self.drive(pass, charge, Act::Crash, &mut out)
+        self.drive_silently(pass, charge, Act::Crash)
     }
 
     /// The side's host is up again.
-    #[tactic(auto, using(crate::proofs::Replies::recover_known))]
+    #[tactic(auto, using(crate::proofs::Replies::recover_known, crate::proofs::Replies::recover_is_silent))]
     pub fn recover(&self, pass: &mut Pass, charge: &mut Charge) -> Result<Done, DriveFault>
         requires book { (pass.old.book ≡ self.now.id) × IsChargeOf self.now.id self.now.sides charge.old }
         ensures driven { IfOk result (DrivenSilently pass.old pass.new charge.old charge.new act.Recover) }
         ensures right { IsRight pass.new.seen }
         ensures busy { IfErr result (λ fault. (fault ≡ DriveFault.Busy) × (pass.new ≡ pass.old) × (charge.new ≡ charge.old)) }
     {
-        let mut out = [0; MAX_PACKET];
-        self.drive(pass, charge, Act::Recover, &mut out)
+        self.drive_silently(pass, charge, Act::Recover)
     }
 
     /// One act on the charge's side, which has it, if its gate is free.
@@ -133,46 +130,64 @@ impl Book {
         ensures busy { IfErr result (λ fault. (fault ≡ DriveFault.Busy) × Unchanged pass.old pass.new charge.old charge.new out.old out.new) }
     {
         let number = pass.number;
-        let place = charge.place;
-        let side = charge.side;
-        let stream = charge.stream;
-        let Some(mut automaton) = self.board.take(&mut pass.seat, place, side, stream) else {
+        let site = charge.site;
+        let Some(mut automaton) = self.board.take_as_held(&mut pass.seat, site, charge.mode) else {
             return Err(DriveFault::Busy);
         };
-        // No client's call changes a sender's mode, so this is never so.
-        if !is_as_held(&automaton, side, charge.mode) {
-            self.board.put_back(&mut pass.seat, place, automaton);
-            return Err(DriveFault::Busy);
-        }
         let told = Snapshot::of(&act);
-        let Outcome {
-            reply: _,
-            handed_back: _,
-            length,
-        } = automaton.step(act, out);
-        let kind = automaton.mode();
+        let Outcome { length, .. } = automaton.step(act, out);
+        let mode = automaton.mode();
         let position = self.board.settle(
             &mut pass.seat,
             number,
-            place,
-            side,
-            stream,
+            site,
             &told,
             &Reply::Done,
             automaton,
         );
-        charge.mode = kind;
+        charge.mode = mode;
         Ok(Done {
             position,
             length,
-            mode: kind,
+            mode,
         })
     }
-}
 
-/// Whether a sender is in the mode that its charge holds. A receiver's charge may be behind, since gets change the mode.
-fn is_as_held(automaton: &Automaton, side: End, held: Mode) -> bool
-    ensures { result ≡ true → side ≡ end_of.Sender → mode_of automaton.now ≡ held }
-{
-    side != End::Sender || automaton.mode() == held
+    /// The same for an act that emits nothing.
+    fn drive_silently(
+        &self,
+        pass: &mut Pass,
+        charge: &mut Charge,
+        act: Act,
+    ) -> Result<Done, DriveFault>
+        requires book { (pass.old.book ≡ self.now.id) × IsChargeOf self.now.id self.now.sides charge.old }
+        requires known { (x : Automaton) → IsStateOf charge.old.side charge.old.stream x → (row x act).reply ≡ Some reply.Done }
+        requires silent { (x : Automaton) → (row x act).emitted ≡ None }
+        ensures driven { IfOk result (DrivenSilently pass.old pass.new charge.old charge.new act) }
+        ensures right { IsRight pass.new.seen }
+        ensures busy { IfErr result (λ fault. (fault ≡ DriveFault.Busy) × (pass.new ≡ pass.old) × (charge.new ≡ charge.old)) }
+    {
+        let number = pass.number;
+        let site = charge.site;
+        let Some(mut automaton) = self.board.take_as_held(&mut pass.seat, site, charge.mode) else {
+            return Err(DriveFault::Busy);
+        };
+        let told = Snapshot::of(&act);
+        automaton.advance(act);
+        let mode = automaton.mode();
+        let position = self.board.settle(
+            &mut pass.seat,
+            number,
+            site,
+            &told,
+            &Reply::Done,
+            automaton,
+        );
+        charge.mode = mode;
+        Ok(Done {
+            position,
+            length: None,
+            mode,
+        })
+    }
 }

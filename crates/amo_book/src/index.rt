@@ -4,24 +4,30 @@ ghost use Rattle.amo_object.specs.declared.step.End.{End};
 ghost use Rattle.amo_world.specs.Stream.{IsStream};
 ghost use Rattle.amo_book.specs.Book.{AreLawful};
 ghost use Rattle.amo_book.specs.Index.{place_of, IsIndex, Adds};
+ghost use Rattle.amo_book.specs.Site.{IsSite};
 
+use crate::site::Site;
 use amo_object::End;
 use amo_world::STREAMS;
+
+/// How long a column is: the number of a stream is its index.
+const COLUMN: usize = STREAMS as usize + 1;
 
 /// The place of each side, by its stream's number.
 #[derive(Drop)]
 pub struct Index {
-    senders: [Option<usize>; 257],
-    receivers: [Option<usize>; 257],
+    senders: [Option<usize>; COLUMN],
+    receivers: [Option<usize>; COLUMN],
 }
 
 impl Index {
-    fn new() -> Index
+    /// The index of no side.
+    pub fn new() -> Index
         ensures { (side : End) (stream : ℕ) → place_of result side stream ≡ None }
     {
         Index {
-            senders: [None; 257],
-            receivers: [None; 257],
+            senders: [None; COLUMN],
+            receivers: [None; COLUMN],
         }
     }
 
@@ -36,8 +42,7 @@ impl Index {
         }
         let mut index = Index::new();
         for place in 0..sides.len() {
-            let (side, stream) = side_at(sides, place);
-            if !index.add(side, stream, place) {
+            if !index.add(site_at(sides, place)) {
                 return None;
             }
         }
@@ -55,11 +60,17 @@ impl Index {
         *column.get(stream as usize)?
     }
 
-    /// Adds a side, if it is of a stream of a host, and new.
-    fn add(&mut self, side: End, stream: u32, place: usize) -> bool
-        ensures added { result ≡ true → Adds self.old self.new side stream place }
-        ensures refused { result ≡ false → IsStream stream → (k : ℕ) × (place_of self.old side stream ≡ Some k) }
+    /// Adds a side, if it is of a stream of a host, and new. Otherwise nothing changes.
+    pub fn add(&mut self, site: Site) -> bool
+        ensures added { result ≡ true → Adds self.old self.new site.side site.stream site.place }
+        ensures refused { result ≡ false → IsStream site.stream → (k : ℕ) × (place_of self.old site.side site.stream ≡ Some k) }
+        ensures same { result ≡ false → self.new ≡ self.old }
     {
+        let Site {
+            place,
+            side,
+            stream,
+        } = site;
         if stream < 1 || stream > STREAMS || self.find(side, stream).is_some() {
             return false;
         }
@@ -72,9 +83,14 @@ impl Index {
 }
 
 /// The side at a place.
-pub fn side_at(sides: &[(End, u32)], place: usize) -> (End, u32)
+pub fn site_at(sides: &[(End, u32)], place: usize) -> Site
     requires { place < length sides.now }
-    ensures { slice_get sides.now place ≡ Some result }
+    ensures { IsSite sides.now result × (result.place ≡ place) }
 {
-    sides[place]
+    let (side, stream) = sides[place];
+    Site {
+        place,
+        side,
+        stream,
+    }
 }

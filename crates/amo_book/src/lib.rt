@@ -37,6 +37,8 @@ mod fault;
 mod index;
 mod pass;
 mod plays;
+mod site;
+mod slot;
 #[cfg(test)]
 mod tests;
 mod view;

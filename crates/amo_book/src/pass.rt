@@ -32,4 +32,12 @@ impl Pass {
     {
         self.number
     }
+
+    /// What holds of every pass: it has seen a right history. It does nothing.
+    pub(crate) fn right(&self)
+        ensures { IsRight self.now.seen }
+    {
+        // What holds of every value is known once a field of it is read.
+        let _number = self.number;
+    }
 }

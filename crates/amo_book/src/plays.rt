@@ -3,15 +3,15 @@ ghost use Rattle.std.specs.Prelude.{length};
 ghost use Rattle.amo_book.specs.Rule.{Kept, first_view, state_at};
 ghost use Rattle.amo_book.specs.Plays.{looked, tried, freed, counted, first_share, other_shares, joined, bare, witness, same_view};
 
+use crate::slot::Housed;
 use crate::view::{Setup, View};
-use amo_core::Automaton;
 use atomic_table::{Join, Play, Split, TableRule};
 use std::marker::{Brand, PhantomData};
 
 /// One right history stands behind every view.
 pub struct Law;
 
-impl TableRule<Option<Automaton>, View, Setup> for Law {
+impl TableRule<Option<Housed>, View, Setup> for Law {
     ghost holds = { λ key. Kept (length key.sides.items) key.passes (state_at key.sides.items) };
 
     ghost first = { λ key. first_view key.passes };
@@ -20,7 +20,7 @@ impl TableRule<Option<Automaton>, View, Setup> for Law {
 /// The load of the count.
 pub struct Look;
 
-impl Play<Option<Automaton>, View> for Look {
+impl Play<Option<Housed>, View> for Look {
     ghost then = { looked };
 }
 
@@ -47,14 +47,14 @@ pub struct Try<E> {
     side: PhantomData<E>,
 }
 
-impl<E: Tried> Play<Option<Automaton>, View> for Try<E> {
+impl<E: Tried> Play<Option<Housed>, View> for Try<E> {
     ghost then = { tried E.side E.stream };
 }
 
 /// The store of 0 into a gate.
 pub struct Free;
 
-impl Play<Option<Automaton>, View> for Free {
+impl Play<Option<Housed>, View> for Free {
     ghost then = { freed };
 }
 
@@ -76,7 +76,7 @@ pub struct Count<E> {
     event: PhantomData<E>,
 }
 
-impl<E: Counted> Play<Option<Automaton>, View> for Count<E> {
+impl<E: Counted> Play<Option<Housed>, View> for Count<E> {
     ghost then = { counted E.event };
 }
 

@@ -1,8 +1,12 @@
 //! Whether all passes and charges of a book are there.
-ghost use Rattle.std.specs.Prelude.{◌↔◌, ◌<◌, ℕ, List, IsTrue};
-ghost use Rattle.amo_book.specs.Closed.{HasPass, HasCharge, AllPasses, AllCharges};
+ghost use Rattle.std.specs.Prelude.{◌↔◌, length, IsTrue};
+ghost use Rattle.amo_book.specs.Book.{Apart};
+ghost use Rattle.amo_book.specs.Closed.{HasPass, AllPasses, AllCharges};
+ghost use Rattle.amo_book.specs.Gathering.{AreAt, Covers};
 
+use crate::index::{Index, site_at};
 use crate::{Charge, Pass};
+use amo_object::End;
 
 fn has_pass(passes: &[Pass], number: usize) -> bool
     ensures { IsTrue result ↔ HasPass passes.now number }
@@ -15,15 +19,16 @@ fn has_pass(passes: &[Pass], number: usize) -> bool
     false
 }
 
-fn has_charge(charges: &[Charge], place: usize) -> bool
-    ensures { IsTrue result ↔ HasCharge charges.now place }
+/// An index of the sides of these charges.
+#[tactic(auto, using(crate::proofs::Gathering::begins, crate::proofs::Gathering::grows))]
+fn sides_of(charges: &[Charge]) -> Index
+    ensures { Covers charges.now (length charges.now) result }
 {
+    let mut index = Index::new();
     for charge in charges {
-        if charge.place() == place {
-            return true;
-        }
+        index.add(charge.site());
     }
-    false
+    index
 }
 
 fn are_all_passes(passes: &[Pass], count: usize) -> bool
@@ -37,20 +42,28 @@ fn are_all_passes(passes: &[Pass], count: usize) -> bool
     true
 }
 
-fn are_all_charges(charges: &[Charge], count: usize) -> bool
-    ensures { IsTrue result ↔ AllCharges charges.now count }
+/// Whether the charges have each place of these sides, which are theirs.
+#[tactic(auto, using(crate::proofs::Gathering::has, crate::proofs::Gathering::lacks))]
+fn are_all_charges(charges: &[Charge], sides: &[(End, u32)]) -> bool
+    requires own { AreAt sides.now charges.now }
+    requires apart { Apart sides.now }
+    ensures { IsTrue result ↔ AllCharges charges.now (length sides.now) }
 {
-    for place in 0..count {
-        if !has_charge(charges, place) {
+    let index = sides_of(charges);
+    for place in 0..sides.len() {
+        let site = site_at(sides, place);
+        let Some(_) = index.find(site.side, site.stream) else {
             return false;
-        }
+        };
     }
     true
 }
 
-/// Whether the passes have each number below `numbers`, and the charges each place below `places`.
-pub fn are_all(passes: &[Pass], numbers: usize, charges: &[Charge], places: usize) -> bool
-    ensures { IsTrue result ↔ AllPasses passes.now numbers × AllCharges charges.now places }
+/// Whether the passes have each number below `numbers`, and the charges each place of these sides, which are theirs.
+pub fn are_all(passes: &[Pass], numbers: usize, charges: &[Charge], sides: &[(End, u32)]) -> bool
+    requires own { AreAt sides.now charges.now }
+    requires apart { Apart sides.now }
+    ensures { IsTrue result ↔ AllPasses passes.now numbers × AllCharges charges.now (length sides.now) }
 {
-    are_all_passes(passes, numbers) && are_all_charges(charges, places)
+    are_all_passes(passes, numbers) && are_all_charges(charges, sides)
 }

@@ -2,11 +2,12 @@
 ghost use Rattle.std.specs.Prelude.{◌≡◌, ◌<◌, ◌≤◌, [], length, None, vec_capacity};
 ghost use Rattle.amo_book.specs.Rule.{HasAll};
 ghost use Rattle.amo_book.specs.Book.{Each};
-ghost use Rattle.amo_book.specs.Closed.{IsOf, HasTaken, Ends};
+ghost use Rattle.amo_book.specs.Closed.{IsOf};
+ghost use Rattle.amo_book.specs.Gathering.{HasTaken, Ends};
 
 use super::{Board, Chair};
 use crate::pass::Pass;
-use amo_core::Automaton;
+use crate::slot::Housed;
 
 impl Board {
     /// One seat with the shares of all these passes, which has seen all that they had seen.
@@ -33,7 +34,7 @@ impl Board {
     }
 
     /// The last count, and the last states, put into the room for them.
-    pub fn end(self, root: Chair, room: Vec<Automaton>) -> (u64, Vec<Automaton>)
+    pub fn end(self, root: Chair, room: Vec<Housed>) -> (u64, Vec<Housed>)
         requires own { (root.table_id ≡ self.table.shared.table_id) × HasAll self.setup.passes root.me.0 }
         requires room { (room.items ≡ []) × (length self.setup.sides.items ≤ vec_capacity room) }
         ensures { Ends self.setup.sides.items self.setup.passes root.me.0 result.0 result.1.items }

@@ -7,8 +7,10 @@ ghost use Rattle.amo_book.specs.Steps.{IsSame};
 ghost use Rattle.amo_book.specs.Book.{Apart, AreLawful, Lists, AreFirstCharges, first_pass};
 
 use super::{Board, Chair};
-use crate::index::side_at;
+use crate::index::site_at;
 use crate::plays::Deal;
+use crate::site::Site;
+use crate::slot::Housed;
 use crate::view::Setup;
 use crate::{Charge, Pass};
 use amo_core::{Automaton, Mode, Receiver, Sender};
@@ -17,25 +19,24 @@ use atomic_table::{Refused, Table};
 use std::alloc::{AllocError, Global};
 
 /// The automaton of a side at which nothing happened yet.
-fn initial(at: (End, u32)) -> Automaton
-    ensures { result ≡ automaton_after at.0 at.1 [] }
+fn initial(site: Site) -> Automaton
+    ensures { result ≡ automaton_after site.side site.stream [] }
 {
-    let (side, stream) = at;
-    match side {
-        End::Sender => Automaton::Sender(Sender::new(stream)),
-        End::Receiver => Automaton::Receiver(Receiver::new(stream)),
+    match site.side {
+        End::Sender => Automaton::Sender(Sender::new(site.stream)),
+        End::Receiver => Automaton::Receiver(Receiver::new(site.stream)),
     }
 }
 
 /// What the slots hold at first: each side's automaton.
-fn slots(alloc: Global, sides: &[(End, u32)]) -> Result<Vec<Option<Automaton>>, AllocError>
+fn slots(alloc: Global, sides: &[(End, u32)]) -> Result<Vec<Option<Housed>>, AllocError>
     ensures { IfOk result (λ slots. Lists (first_slot sides.now) (length sides.now) slots.items) }
 {
     let n = sides.len();
     let mut slots = Vec::with_capacity(alloc, n)?;
     for place in 0..n {
-        let at = side_at(sides, place);
-        slots.push_reserved(Some(initial(at)));
+        let housed = Housed::new(alloc, initial(site_at(sides, place)))?;
+        slots.push_reserved(Some(housed));
     }
     Ok(slots)
 }
@@ -77,19 +78,13 @@ impl Board {
         ensures dealt { AreFirstCharges self.now.table.shared.table_id self.now.setup.sides.items charges.new.items }
     {
         for place in 0..self.setup.sides.len() {
-            let (side, stream) = side_at(self.setup.sides.as_slice(), place);
-            let mode = match side {
+            let site = site_at(self.setup.sides.as_slice(), place);
+            let mode = match site.side {
                 End::Sender => Mode::Quiet,
                 End::Receiver => Mode::Idle,
             };
             let seat = self.witness(root);
-            charges.push_reserved(Charge {
-                place,
-                side,
-                stream,
-                mode,
-                seat,
-            });
+            charges.push_reserved(Charge { site, mode, seat });
         }
     }
 
@@ -100,8 +95,8 @@ impl Board {
         ensures same { IsSame seat.old seat.new × (seat.new.me ≡ (view [] [] (fresh (pass + 1) left) None, [])) }
         ensures dealt { (result.table_id ≡ seat.old.table_id) × (result.me ≡ (view [] [] (share pass [] ∷ []) None, [])) }
     {
-        let _ = left;
-        let _ = pass;
+        // They are for the proof: which share goes, and how many are left.
+        let _ = (pass, left);
         self.table.shared.split_seat::<Deal>(seat)
     }
 }

@@ -25,6 +25,8 @@ impl Receiver {
 
     /// Becomes what the act's row says, and replies. It writes nothing: ask [`emission`](Receiver::emission) before for what
     /// the row emits.
+    // Inlined, a caller that names its act moves and tests nothing of the other acts.
+    #[inline(always)]
     pub fn advance(&mut self, act: Act) -> Advanced
         ensures state { self.new ≡ (table.row self.old act).state }
         ensures reply { result.reply ≡ (table.row self.old act).reply }

@@ -12,7 +12,7 @@ pub fetch_add-requires : goal.fetch_add-requires
 fetch_add-requires g c = let key = c.args.self.now.keyed in let size = c.args.self.now.sized in let t = c.requires.held in let e = c.requires.event in (
   c.requires.own,
   omega arith,
-  rw key (counts _ _ _ _ _ c.args.place c.args.pass t.0 t.1 _ _ t.2 t.3 (ap (λ (z : Event). z.pass) e)
+  rw key (counts _ _ _ _ _ c.args.site.place c.args.pass t.0 t.1 _ _ t.2 t.3 (ap (λ (z : Event). z.pass) e)
       (fits _ _ _ c.args.self.now.apart (c.requires.place ∙ ap side_of (sym e)))
       (subst (λ (z : Event). (row t.0 z.act).reply ≡ Some z.reply) (sym e) t.4)),
 )

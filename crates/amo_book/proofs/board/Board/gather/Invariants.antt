@@ -1,7 +1,8 @@
 use Rattle.std.proofs.Common.{◌≡◌, List, [], ◌++◌, None, vec_len}
 use Rattle.amo_book.specs.Pass.{PassState}
 use Rattle.amo_book.specs.Book.{Each}
-use Rattle.amo_book.specs.Closed.{IsOf, HasTaken}
+use Rattle.amo_book.specs.Closed.{IsOf}
+use Rattle.amo_book.specs.Gathering.{HasTaken}
 use Rattle.amo_book.proofs.board.Board.gather.Given as goal
 
 abbrev pub invariant-loop-pass : goal.invariant-loop-pass

@@ -1,6 +1,5 @@
 use Rattle.std.proofs.Common.{sym, ap, ◌∙◌}
 use Rattle.std.proofs.lemmas.Option.{slice_get_within}
-use Rattle.amo_core.specs.declared.automaton.Automaton.{Automaton}
 use Rattle.amo_world.specs.History.{events_of}
 use Rattle.amo_book.specs.Plays.{Sat}
 use Rattle.amo_book.proofs.Seats.{held_at}
@@ -16,13 +15,13 @@ put_back-requires-clause-place c = slice_get_within _ _ _ c.requires.place
 
 pub put_back-requires-clause-held : goal.put_back-requires-clause-held
 put_back-requires-clause-held c = let t = c.requires.held in
-    let k = counted_once c.args.pass c.args.place t.0 _ _ t.1 _ _ t.2 t.3 c.count-position.ensures.counts in
-    (k.0, k.1 ∙ ap (held_at c.args.place) (sym t.4))
+    let k = counted_once c.args.pass c.args.site.place t.0 _ _ t.1 _ _ t.2 t.3 c.count-position.ensures.counts in
+    (k.0, k.1 ∙ ap (held_at c.args.site.place) (sym t.4))
 
 pub returns-clause-rests : goal.returns-clause-rests
 returns-clause-rests c = let t = c.requires.held in
-    ((counted_once c.args.pass c.args.place t.0 _ _ t.1 _ _ t.2 t.3 c.count-position.ensures.counts).2 _ c.put_back.ensures.released).0
+    ((counted_once c.args.pass c.args.site.place t.0 _ _ t.1 _ _ t.2 t.3 c.count-position.ensures.counts).2 _ c.put_back.ensures.released).0
 
 pub returns-clause-made : goal.returns-clause-made
 returns-clause-made c = λ x m pass is.
-    ((counted_once c.args.pass c.args.place x _ _ m _ _ pass is c.count-position.ensures.counts).2 _ c.put_back.ensures.released).1
+    ((counted_once c.args.pass c.args.site.place x _ _ m _ _ pass is c.count-position.ensures.counts).2 _ c.put_back.ensures.released).1

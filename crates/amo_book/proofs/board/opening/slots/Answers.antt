@@ -1,4 +1,4 @@
-use Rattle.std.proofs.Common.{◌≡◌, ◌+◌, [], Some, sym, ap, ◌∙◌, subst, arith}
+use Rattle.std.proofs.Common.{◌+◌, [], Some, sym, ap, ◌∙◌, subst, arith, slice_get}
 use Rattle.amo_core.specs.declared.automaton.Automaton.{Automaton}
 use Rattle.amo_book.specs.Book.{Lists}
 use Rattle.amo_book.specs.Rule.{Slot, first_slot}
@@ -18,5 +18,6 @@ loop-place-preserved c =
     let e = c.push_reserved.ensures.items in
     let room = c.push_reserved.ensures.capacity in
     let was = c.loop-place.invariant.1 in
-    let is = ap slot_of (c.initial.ensures ∙ sym (state_at-is c.args.sides.now c.loop-place.place c.side_at-at.result.0 c.side_at-at.result.1 [] c.side_at-at.ensures)) in
+    let is = ap slot_of (c.in_ok-housed.ensures ∙ (c.initial.ensures ∙ sym (state_at-is c.args.sides.now c.loop-place.place c.site_at.result.side c.site_at.result.stream []
+    (ap (slice_get c.args.sides.now) (sym c.site_at.ensures.1) ∙ c.site_at.ensures.0)))) in
     (subst (Lists (first_slot c.args.sides.now) (c.loop-place.place + 1)) (sym e) (lists-more (first_slot c.args.sides.now) _ _ _ is c.loop-place.invariant.0), omega arith)

@@ -1,7 +1,6 @@
 use Rattle.std.proofs.Common.{◌∙◌, subst}
 use Rattle.amo_core.specs.declared.act.Act.{Act}
 use Rattle.amo_book.specs.Pass.{PassState, GrownBy, event}
-use Rattle.amo_book.specs.Steps.{Made}
 use Rattle.amo_book.proofs.Runs.{pass_of, grown_by}
 use Rattle.amo_book.proofs.book.Book.call.Goals as goal
 
@@ -14,9 +13,9 @@ returns-clause-grown c =
     let taken = c.in-Some.ensures.taken in
     let made = c.settle-position.ensures.made c.in-Some.automaton c.pass.inside.seat.me c.pass.invariant taken.0 in
     let now : PassState = pass_of c.settle-position.new.seat.table_id c.pass.inside.number c.settle-position.new.seat.me in
-    subst (λ (v : PassState). GrownBy v now (event v.number c.args.side c.args.stream c.args.act c.in-Some-reply.reply)) c.pass.view_is
+    subst (λ (v : PassState). GrownBy v now (event v.number c.args.site.side c.args.site.stream c.args.act c.in-Some-reply.reply)) c.pass.view_is
     (subst (λ (a : Act). GrownBy (pass_of c.pass.inside.seat.table_id c.pass.inside.number c.pass.inside.seat.me) now
-    (event c.pass.inside.number c.args.side c.args.stream a c.in-Some-reply.reply)) c.of-told.ensures
+    (event c.pass.inside.number c.args.site.side c.args.site.stream a c.in-Some-reply.reply)) c.of-told.ensures
     (grown_by _ _ _ c.pass.inside.seat.me c.settle-position.new.seat.me _ _ _ (c.settle-position.ensures.same.0 ∙ c.take.ensures.same.0) made))
 
 pub returns-clause-answered : goal.returns-clause-answered

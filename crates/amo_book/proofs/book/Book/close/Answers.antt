@@ -1,8 +1,11 @@
-use Rattle.std.proofs.Common.{◌≡◌, ℕ, List, length, refl, sym, ap, ◌∙◌, subst, true, arith}
+use Rattle.std.proofs.Common.{◌≡◌, ℕ, List, length, refl, sym, ap, ◌∙◌, subst, true}
+use Rattle.amo_object.specs.declared.step.End.{End}
 use Rattle.amo_book.specs.Pass.{PassState}
-use Rattle.amo_book.specs.Charge.{ChargeState}
-use Rattle.amo_book.specs.Book.{BookState}
-use Rattle.amo_book.specs.Closed.{AreAll, AllPasses, AllCharges, Ends}
+use Rattle.amo_book.specs.Charge.{ChargeState, IsChargeOf}
+use Rattle.amo_book.specs.Book.{BookState, Apart, Each}
+use Rattle.amo_book.specs.Closed.{AreAll, AllPasses, AllCharges}
+use Rattle.amo_book.specs.Gathering.{Ends, AreAt}
+use Rattle.amo_book.proofs.Gathering.{are_at}
 use Rattle.amo_book.proofs.Gathers.{some_pass, has_all, closes}
 use Rattle.amo_book.proofs.book.Book.close.Goals as goal
 
@@ -10,9 +13,17 @@ all_is : (book : BookState) (ps ps' : List PassState) (cs cs' : List ChargeState
     → (AllPasses ps n × AllCharges cs k) ≡ AreAll book ps' cs'
 all_is book ps ps' cs cs' n k a b d e = λ i. AllPasses (a i) (d i) × AllCharges (b i) (e i)
 
+pub are_all-requires-clause-own : goal.are_all-requires-clause-own
+are_all-requires-clause-own c = subst (λ (z : List (End × ℕ) × List ChargeState). AreAt z.0 z.1)
+    (λ i. (sym c.as_slice-sides.ensures.value i, sym c.as_slice-2.ensures.value i))
+    (are_at _ _ _ (subst (λ (b : BookState). Each (IsChargeOf b.id b.sides) c.args.charges.items) (sym c.self.view_is) c.requires.charges))
+
+pub are_all-requires-clause-apart : goal.are_all-requires-clause-apart
+are_all-requires-clause-apart c = subst Apart (sym c.as_slice-sides.ensures.value) c.self.inside.board.apart
+
 pub returns-then-not-are_all-clause-missing : goal.returns-then-not-are_all-clause-missing
 returns-then-not-are_all-clause-missing c = (
-  (λ whole. let places : c.len-places.result ≡ length c.self.inside.board.setup.sides.items = omega arith in
+  (λ whole. let places = ap (λ (l : List (End × ℕ)). length l) c.as_slice-sides.ensures.value in
       let no = c.if-not-are_all.true in
       let yes : c.are_all.result ≡ true = c.are_all.ensures.1 (subst (λ t. t) (sym (all_is c.args.self _ _ _ _ _ _ c.as_slice.ensures.value c.as_slice-2.ensures.value
       (ap (λ (b : BookState). b.passes) c.self.view_is) (places ∙ ap (λ (b : BookState). length b.sides) c.self.view_is))) whole) in cc),
@@ -35,7 +46,7 @@ end-count-requires-clause-own c = let t = c.are_all.ensures.0 c.if-not-are_all.f
 
 pub returns-clause-closed : goal.returns-clause-closed
 returns-clause-closed c = let t = c.are_all.ensures.0 c.if-not-are_all.false in let b = c.self.view_is in
-    let places : c.len-places.result ≡ length c.self.inside.board.setup.sides.items = omega arith in
+    let places = ap (λ (l : List (End × ℕ)). length l) c.as_slice-sides.ensures.value in
     let e = subst (λ (b : BookState). Ends b.sides b.passes c.gather-root.result.me.0 c.end-count.result.0 c.end-count.result.1.items) b c.end-count.ensures in
     let z = closes c.args.self c.gather-root.result.me.0 c.end-count.result.0 c.end-count.result.1.items c.args.passes.items c.gather-root.ensures.all e in (
       z,

@@ -1,6 +1,5 @@
 use Rattle.std.proofs.Common.{◌≡◌, ◌∙◌, Some, slice_get, sym, ap, subst}
 use Rattle.amo_core.specs.declared.act.Act.{Act}
-use Rattle.amo_core.specs.declared.automaton.Automaton.{Automaton}
 use Rattle.amo_core.specs.declared.reply.Reply.TheVariants as reply
 use Rattle.amo_core.specs.Automaton.{mode_of}
 use Rattle.amo_book.specs.Pass.{PassState, event}
@@ -22,16 +21,16 @@ returns-clause-driven c =
     let p = c.pass.inside in
     let h = c.charge.inside in
     let made = c.settle-position.ensures.made c.in-Some.automaton p.seat.me c.pass.invariant taken.0 in
-    let made' : Made p.number p.seat.me c.settle-position.new.seat.me (event p.number h.side h.stream c.args.act reply.Done) c.in-Some.automaton c.settle-position.result =
-    subst (λ (a : Act). Made p.number p.seat.me c.settle-position.new.seat.me (event p.number h.side h.stream a reply.Done) c.in-Some.automaton c.settle-position.result)
+    let made' : Made p.number p.seat.me c.settle-position.new.seat.me (event p.number h.site.side h.site.stream c.args.act reply.Done) c.in-Some.automaton c.settle-position.result =
+    subst (λ (a : Act). Made p.number p.seat.me c.settle-position.new.seat.me (event p.number h.site.side h.site.stream a reply.Done) c.in-Some.automaton c.settle-position.result)
     c.of-told.ensures made in
     let now : PassState = pass_of c.settle-position.new.seat.table_id p.number c.settle-position.new.seat.me in
-    let then : ChargeState = charge_of h.seat.table_id h.place h.side h.stream c.mode-kind.result in
+    let then : ChargeState = charge_of h.seat.table_id h.site.place h.site.side h.site.stream c.mode-mode.result in
     subst (λ (z : PassState × ChargeState). Driven z.0 now z.1 then c.args.act c.args.out.now c.step-length.new.buffer
-    (record { position = c.settle-position.result; length = c.step-length.result.length; mode = c.mode-kind.result }))
+    (record { position = c.settle-position.result; length = c.step-length.result.length; mode = c.mode-mode.result }))
     (λ i. (c.pass.view_is i, c.charge.view_is i))
-    (driven_by _ _ p.number p.seat.me c.settle-position.new.seat.me h.seat.table_id h.place h.side h.stream h.mode c.mode-kind.result c.args.act
+    (driven_by _ _ p.number p.seat.me c.settle-position.new.seat.me h.seat.table_id h.site.place h.site.side h.site.stream h.mode c.mode-mode.result c.args.act
     c.in-Some.automaton c.settle-position.result c.args.out.now c.step-length.new.buffer c.step-length.result.length
-    (c.settle-position.ensures.same.0 ∙ c.take.ensures.same.0) made' c.step-length.ensures.emitted
-    (c.mode-kind.ensures ∙ ap mode_of c.step-length.ensures.state)
-    (λ is. c.is_as_held.ensures c.if-not-is_as_held.false is))
+    (c.settle-position.ensures.same.0 ∙ c.take_as_held.ensures.same.0) made' c.step-length.ensures.emitted
+    (c.mode-mode.ensures ∙ ap mode_of c.step-length.ensures.state)
+    c.in-Some.ensures.held)
