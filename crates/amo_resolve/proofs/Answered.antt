@@ -25,7 +25,8 @@ told_got m P got n told xs goes =
     let rest = told goes.0 goes.2 in
     ((take n got, refl, rest.0), subst (λ (ys : List (List ℕ)). Leaves true (m ∷ take n got) ys) (sym goes.1) (leaves-cons true m (take n got) goes.0 rest.1))
 
-pub goes_on_told : (calls : List Step) (notes : List Note) → is_told_yes calls ≡ true → IsPlan calls notes → IsTold (GoesOn calls notes) (messages_got calls) (got_before_answer calls)
+pub goes_on_told : (calls : List Step) (notes : List Note) → is_told_yes calls ≡ true → IsPlan calls notes
+    → IsTold (GoesOn calls notes) (messages_got calls) (got_before_answer calls)
 goes_on_told [] notes told plan = absurd cc
 goes_on_told (call ∷ calls) [] told plan = absurd plan
 goes_on_told (Put m ∷ calls) (note ∷ notes) told plan = absurd cc

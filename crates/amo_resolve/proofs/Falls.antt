@@ -27,7 +27,8 @@ first_taken [] m e = absurd cc
 first_taken (x ∷ messages) m e = ap (λ (y : List ℕ). y ∷ messages) (same_Some x m e)
 
 -- a message that leaves
-agrees_lost : (messages : List (List ℕ)) (place : ℕ) (status : Status) (is_last : Bool) → (place + 1 == length messages) ≡ is_last → place < length messages → Agrees messages status
+agrees_lost : (messages : List (List ℕ)) (place : ℕ) (status : Status) (is_last : Bool) → (place + 1 == length messages) ≡ is_last
+    → place < length messages → Agrees messages status
     → Agrees (remove messages place) (if is_last then settled status No else status)
 agrees_lost messages place Yes is_last e within agrees = absurd (omega (arith, within, ap length agrees))
 agrees_lost messages place No true e within agrees = tt
@@ -102,7 +103,8 @@ settled_lost false No e = refl
 settled_lost is_last Yes e = absurd cc
 settled_lost is_last Open e = absurd cc
 
-kept_lost : (messages : List (List ℕ)) (place : ℕ) (status : Status) (is_last : Bool) → (place + 1 == length messages) ≡ is_last → place < length messages → Agrees messages status
+kept_lost : (messages : List (List ℕ)) (place : ℕ) (status : Status) (is_last : Bool) → (place + 1 == length messages) ≡ is_last
+    → place < length messages → Agrees messages status
     → ((if is_last then settled status No else status) ≡ No → ⊥) → last (remove messages place) ≡ last messages
 kept_lost messages place Yes is_last e within agrees known = absurd (omega (arith, within, ap length agrees))
 kept_lost messages place No true e within agrees known = absurd (known refl)

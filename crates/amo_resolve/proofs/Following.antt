@@ -39,7 +39,8 @@ pub record Called (q : QueueState) (calls : List Step) (notes : List Note) (note
   pub goes_on : Choose note.is_down (Leaves (is_told_yes calls) (wanted_of calls note) q.messages) (GoesOn calls notes q.messages)
 
 -- calls that some run has, at the start
-pub ready_start : (calls : List Step) (notes : List Note) → MarksDown false false calls notes → IsPlan calls notes → Serves start calls → Ready start calls notes
+pub ready_start : (calls : List Step) (notes : List Note) → MarksDown false false calls notes → IsPlan calls notes → Serves start calls
+    → Ready start calls notes
 ready_start calls notes marks plan serves =
     let g = serves_goes_on calls notes start refl marks plan serves in
     record {
@@ -59,7 +60,8 @@ ready_start calls notes marks plan serves =
     }
 
 -- the queue takes the call too
-is_allowed : (q x : QueueState) (call : Step) (calls : List Step) (note : Note) (notes : List Note) (P : List (List ℕ) → Type 0) → x.sender_down ≡ q.sender_down → x.receiver_down ≡ q.receiver_down
+is_allowed : (q x : QueueState) (call : Step) (calls : List Step) (note : Note) (notes : List Note) (P : List (List ℕ) → Type 0)
+    → x.sender_down ≡ q.sender_down → x.receiver_down ≡ q.receiver_down
     → IsSound q → (is_told_yes (call ∷ calls) ≡ true → q.status ≡ No → ⊥) → (is_told_no (call ∷ calls) (note ∷ notes) ≡ true → q.status ≡ No)
     → Takes call q.messages P → is_loss call ≡ false → Allows x call → Allows q call
 is_allowed q x (Put m) calls note notes P sender receiver sound when_yes when_no goes seen allowed = sym sender ∙ allowed
@@ -100,7 +102,8 @@ settled_known true Open known = λ gone. absurd cc
 settled_known false Open known = λ gone. absurd cc
 
 -- the status where the next answer is yes
-yes_after : (q x : QueueState) (call : Step) (calls : List Step) → (is_told_yes (call ∷ calls) ≡ true → q.status ≡ No → ⊥) → Allows q call → IsSound x → Allows x call → Serves (after x call) calls → is_loss call ≡ false
+yes_after : (q x : QueueState) (call : Step) (calls : List Step) → (is_told_yes (call ∷ calls) ≡ true → q.status ≡ No → ⊥) → Allows q call
+    → IsSound x → Allows x call → Serves (after x call) calls → is_loss call ≡ false
     → is_told_yes calls ≡ true → (after q call).status ≡ No → ⊥
 yes_after q x (Put m) calls when_yes mine sound allowed rest seen told gone = absurd cc
 yes_after q x (Get m) calls when_yes mine sound allowed rest seen told gone = settled_known (0 + 1 == length q.messages) q.status (when_yes told) gone
@@ -119,7 +122,8 @@ told_later true told up is = absurd cc
 told_later false told up is = is
 
 -- and where it is no
-no_after : (q x : QueueState) (call : Step) (calls : List Step) (note : Note) (notes : List Note) → (is_told_no (call ∷ calls) (note ∷ notes) ≡ true → q.status ≡ No) → Allows q call → Allows x call
+no_after : (q x : QueueState) (call : Step) (calls : List Step) (note : Note) (notes : List Note)
+    → (is_told_no (call ∷ calls) (note ∷ notes) ≡ true → q.status ≡ No) → Allows q call → Allows x call
     → is_loss call ≡ false → note.is_down ≡ false → is_told_no calls notes ≡ true → (after x call).status ≡ No → (after q call).status ≡ No
 no_after q x (Put m) calls note notes when_no mine allowed seen up told gone = absurd cc
 no_after q x (Get m) calls note notes when_no mine allowed seen up told gone = settled_got (0 + 1 == length q.messages) q.status (when_no (told_later note.is_down (is_told_no calls notes) up told))
@@ -170,7 +174,8 @@ called q call calls note notes r =
       },
     )
   where
-    marks_of : (q x : QueueState) (call : Step) (calls : List Step) (notes : List Note) → (after x call).sender_down ≡ (after q call).sender_down → (after x call).receiver_down ≡ (after q call).receiver_down
+    marks_of : (q x : QueueState) (call : Step) (calls : List Step) (notes : List Note)
+        → (after x call).sender_down ≡ (after q call).sender_down → (after x call).receiver_down ≡ (after q call).receiver_down
         → Marks (after q call) calls notes → Marks (after x call) calls notes
     marks_of q x call calls notes sender receiver marks =
         subst (λ (a : Bool). MarksDown a (after x call).receiver_down calls notes) (sym sender) (subst (λ (b : Bool). MarksDown (after q call).sender_down b calls notes) (sym receiver) marks)
@@ -192,7 +197,8 @@ ready_up q calls notes note up c = record {
 }
 
 -- where a side is down losses can leave what is wanted
-pub can_leave : (q : QueueState) (calls : List Step) (notes : List Note) (note : Note) → note.is_down ≡ true → Called q calls notes note → Leaves (is_told_yes calls) (wanted_of calls note) q.messages
+pub can_leave : (q : QueueState) (calls : List Step) (notes : List Note) (note : Note) → note.is_down ≡ true → Called q calls notes note
+    → Leaves (is_told_yes calls) (wanted_of calls note) q.messages
 can_leave q calls notes note down c = chosen_first note.is_down (Leaves (is_told_yes calls) (wanted_of calls note) q.messages) (GoesOn calls notes q.messages) down c.goes_on
 
 -- what is told yes next is not told no
@@ -209,7 +215,8 @@ not_both (DownReply side ∷ calls) (note ∷ notes) when_yes when_no = not_both
 not_both (Lose place ∷ calls) (note ∷ notes) when_yes when_no = not_both calls notes when_yes (if_neither note.is_down (is_told_no calls notes) when_no).1
 not_both (LoseAck ∷ calls) (note ∷ notes) when_yes when_no = not_both calls notes when_yes (if_neither note.is_down (is_told_no calls notes) when_no).1
 
-pub ready_down : (q lost : QueueState) (calls : List Step) (notes : List Note) (note : Note) → note.is_down ≡ true → Called q calls notes note → Settles q lost (wanted_of calls note) note.is_told_no → Ready lost calls notes
+pub ready_down : (q lost : QueueState) (calls : List Step) (notes : List Note) (note : Note) → note.is_down ≡ true
+    → Called q calls notes note → Settles q lost (wanted_of calls note) note.is_told_no → Ready lost calls notes
 ready_down q lost calls notes note down c s =
     let t = c.tracks in
     let marks : Marks lost calls notes = subst (λ (a : Bool). MarksDown a lost.receiver_down calls notes) (sym s.sender) (subst (λ (b : Bool). MarksDown q.sender_down b calls notes) (sym s.receiver) t.marks) in

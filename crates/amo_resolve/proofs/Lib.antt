@@ -1,4 +1,5 @@
 pub mod Answered
+pub mod Counting
 pub mod Falls
 pub mod Following
 pub mod Lists
@@ -10,3 +11,4 @@ mod Losing
 mod Runs
 mod Telling
 mod Gathering
+mod Seeing

@@ -17,7 +17,8 @@ map_remove f (x ∷ xs) zero = refl
 map_remove f (x ∷ xs) (suc i) = ap (λ ys. f x ∷ ys) (map_remove f xs i)
 
 -- what one call more gets
-pub got_more : (calls : List Step) (i : ℕ) (d : Step) → i < length calls → messages_got (take (i + 1) calls) ≡ messages_got (take i calls) ++ messages_got (get_or calls i d ∷ [])
+pub got_more : (calls : List Step) (i : ℕ) (d : Step) → i < length calls
+    → messages_got (take (i + 1) calls) ≡ messages_got (take i calls) ++ messages_got (get_or calls i d ∷ [])
 got_more calls i d within = ap messages_got (take_more calls i d within) ∙ filter_map-append message_got (take i calls) (get_or calls i d ∷ [])
 
 got_of : (call : Step) (m : Option (List ℕ)) → message_got call ≡ m → messages_got (call ∷ []) ≡ option_to_list m
@@ -33,7 +34,8 @@ got_of call m is = by call ∙ ap option_to_list is
     by (Lose place) = refl
     by LoseAck = refl
 
-pub got_pushed : (calls : List Step) (i : ℕ) (call : Step) (m : Option (List ℕ)) (got : List (List ℕ)) → i < length calls → call ≡ get_or calls i call → message_got call ≡ m
+pub got_pushed : (calls : List Step) (i : ℕ) (call : Step) (m : Option (List ℕ)) (got : List (List ℕ)) → i < length calls
+    → call ≡ get_or calls i call → message_got call ≡ m
     → got ≡ messages_got (take i calls) → got ++ option_to_list m ≡ messages_got (take (i + 1) calls)
 got_pushed calls i call m got within is by so_far =
     ap (λ (ys : List (List ℕ)). ys ++ option_to_list m) so_far
@@ -49,10 +51,12 @@ pub not_first : (xs : List (List ℕ)) (x m : List ℕ) (rest : List (List ℕ))
 not_first xs x m rest is other whole = other (is ∙ ap (λ (ys : List (List ℕ)). get_or ys 0 x) whole)
 
 -- notes that mark the rest, with one more
-pub marks_more : (calls : List Step) (place : ℕ) (call : Step) (sender receiver : Bool) (items : List Note) (note : Note) → place < length calls → call ≡ get_or calls place call
+pub marks_more : (calls : List Step) (place : ℕ) (call : Step) (sender receiver : Bool) (items : List Note) (note : Note)
+    → place < length calls → call ≡ get_or calls place call
     → note.is_down ≡ sender_after sender call || receiver_after receiver call
     → ((more : List Note) → MarksDown sender receiver (drop place calls) more → MarksDown false false calls (items ++ more))
-    → (more : List Note) → MarksDown (sender_after sender call) (receiver_after receiver call) (drop (place + 1) calls) more → MarksDown false false calls ((items ++ note ∷ []) ++ more)
+    → (more : List Note) → MarksDown (sender_after sender call) (receiver_after receiver call) (drop (place + 1) calls) more
+    → MarksDown false false calls ((items ++ note ∷ []) ++ more)
 marks_more calls place call sender receiver items note within is down marks more rest =
     subst (λ (notes : List Note). MarksDown false false calls notes) (sym (append_assoc items (note ∷ []) more))
     (marks (note ∷ more) (subst (λ (steps : List Step). MarksDown sender receiver steps (note ∷ more)) (sym (drop_more calls place call within ∙ ap (λ (x : Step). x ∷ drop (place + 1) calls) (sym is))) (down, rest)))
@@ -102,7 +106,8 @@ none_left got self first end place is =
       λ part. subst (λ (xs : List (List ℕ)). IsSubsequence xs (take place self)) (sym nothing) (subsequence-nil (take place self)),
     )
 
-pub found : (got self : List (List ℕ)) (first end place : ℕ) (x y : List ℕ) → first < end → end ≤ length got → place < length self → x ≡ get_or got (end - 1) x → y ≡ get_or self place y → x ≡ y
+pub found : (got self : List (List ℕ)) (first end place : ℕ) (x y : List ℕ) → first < end → end ≤ length got → place < length self
+    → x ≡ get_or got (end - 1) x → y ≡ get_or self place y → x ≡ y
     → IsSubsequence (take (end - 1 - first) (drop first got)) (take place self) ↔ IsSubsequence (take (end - first) (drop first got)) (take (place + 1) self)
 found got self first end place x y some inside within at here same =
     let few = part_more got first end x some inside at in
@@ -112,7 +117,8 @@ found got self first end place x y some inside within at here same =
       λ part. both.0 (subst (λ (ys : List (List ℕ)). IsSubsequence (take (end - 1 - first) (drop first got) ++ x ∷ []) ys) many (subst (λ (xs : List (List ℕ)). IsSubsequence xs (take (place + 1) self)) few part)),
     )
 
-pub not_found : (got self : List (List ℕ)) (first end place : ℕ) (x y : List ℕ) → first < end → end ≤ length got → place < length self → x ≡ get_or got (end - 1) x → y ≡ get_or self place y → (x ≡ y → ⊥)
+pub not_found : (got self : List (List ℕ)) (first end place : ℕ) (x y : List ℕ) → first < end → end ≤ length got → place < length self
+    → x ≡ get_or got (end - 1) x → y ≡ get_or self place y → (x ≡ y → ⊥)
     → IsSubsequence (take (end - first) (drop first got)) (take place self) ↔ IsSubsequence (take (end - first) (drop first got)) (take (place + 1) self)
 not_found got self first end place x y some inside within at here other =
     let few = part_more got first end x some inside at in
@@ -130,12 +136,14 @@ last_none [] e = refl
 last_none (x ∷ []) e = absurd cc
 last_none (x ∷ y ∷ xs) e = absurd (let none = last_none (y ∷ xs) e in cc)
 
-pub no_part_last : (got self : List (List ℕ)) (first end : ℕ) (P : Type 0) → first ≡ end → P ↔ (self ≡ []) → P ↔ (last (take (end - first) (drop first got)) ≡ last self)
+pub no_part_last : (got self : List (List ℕ)) (first end : ℕ) (P : Type 0) → first ≡ end → P ↔ (self ≡ [])
+    → P ↔ (last (take (end - first) (drop first got)) ≡ last self)
 no_part_last got self first end P is empty =
     let nothing : take (end - first) (drop first got) ≡ [] = ap (λ (n : ℕ). take n (drop first got)) {x = end - first} {y = 0} (omega (arith, is)) in
     (λ p. ap last nothing ∙ ap last (sym (empty.0 p)), λ e. empty.1 (last_none self (sym (ap last nothing) ∙ e)))
 
-pub no_others_last : (got self : List (List ℕ)) (first end : ℕ) → first < end → end ≤ length got → self ≡ [] → last (take (end - first) (drop first got)) ≡ last self → ⊥
+pub no_others_last : (got self : List (List ℕ)) (first end : ℕ) → first < end → end ≤ length got → self ≡ []
+    → last (take (end - first) (drop first got)) ≡ last self → ⊥
 no_others_last got self first end some inside empty e =
     let x = get_or got (end - 1) [] in
     let at : x ≡ get_or got (end - 1) x = get_or_default got (end - 1) [] x (omega (arith, some, inside)) in
@@ -146,7 +154,8 @@ whole_last self place y end at =
     let whole : self ≡ take place self ++ y ∷ [] = sym (take_all (place + 1) self (omega (arith, end))) ∙ take_more self place y (omega (arith, end)) ∙ ap (λ (z : List ℕ). take place self ++ z ∷ []) (sym at) in
     ap last whole ∙ last-push (take place self) y
 
-pub both_last : (got self : List (List ℕ)) (first end len : ℕ) (x y : List ℕ) (P : Type 0) → first < end → end ≤ length got → x ≡ get_or got (end - 1) x → 0 < len → len ≡ length self → y ≡ get_or self (len - 1) y
+pub both_last : (got self : List (List ℕ)) (first end len : ℕ) (x y : List ℕ) (P : Type 0) → first < end → end ≤ length got
+    → x ≡ get_or got (end - 1) x → 0 < len → len ≡ length self → y ≡ get_or self (len - 1) y
     → P ↔ (x ≡ y) → P ↔ (last (take (end - first) (drop first got)) ≡ last self)
 both_last got self first end len x y P some inside at one is here same =
     let few : last (take (end - first) (drop first got)) ≡ Some x = ap last (part_more got first end x some inside at) ∙ last-push (take (end - 1 - first) (drop first got)) x in
@@ -171,7 +180,8 @@ part_pushed got first place x after within is =
     ∙ sym (part_more got first (place + 1) x (omega (arith, after)) (omega (arith, within)) at)
 
 -- once all were looked for
-pub all_found : (got self : List (List ℕ)) (first left place end : ℕ) → first ≡ left → IsSubsequence (take (left - first) (drop first got)) (take place self) ↔ IsSubsequence (take (end - first) (drop first got)) self
+pub all_found : (got self : List (List ℕ)) (first left place end : ℕ) → first ≡ left
+    → IsSubsequence (take (left - first) (drop first got)) (take place self) ↔ IsSubsequence (take (end - first) (drop first got)) self
     → IsSubsequence (take (end - first) (drop first got)) self
 all_found got self first left place end is same =
     let nothing : take (left - first) (drop first got) ≡ [] = ap (λ (n : ℕ). take n (drop first got)) {x = left - first} {y = 0} (omega (arith, is)) in

@@ -47,7 +47,8 @@ both_ways : (A B C : Type 0) → A ↔ B → B ↔ C → A ↔ C
 both_ways A B C one other = (λ a. other.0 (one.0 a), λ c. one.1 (other.1 c))
 
 -- the last message of the part that is looked for is here, and stays
-pub losing_found : (q now : QueueState) (got : List (List ℕ)) (first end left place next : ℕ) → (first < end → end ≤ length got) → Losing q now got first end left (place + 1)
+pub losing_found : (q now : QueueState) (got : List (List ℕ)) (first end left place next : ℕ) → (first < end → end ≤ length got)
+    → Losing q now got first end left (place + 1)
     → first ≤ next → left ≡ next + 1 → get_or now.messages place [] ≡ get_or got next []
     → IsSubsequence (part got first next) (take place now.messages) ↔ IsSubsequence (part got first left) (take (place + 1) now.messages)
     → Losing q now got first end next place
@@ -90,7 +91,8 @@ rest_removed [] (suc i) = refl
 rest_removed (x ∷ xs) zero = refl
 rest_removed (x ∷ xs) (suc i) = rest_removed xs i
 
-not_last : (place : ℕ) (messages : List (List ℕ)) (status : Status) → place + 1 < length messages → (if place + 1 == length messages then settled status No else status) ≡ status
+not_last : (place : ℕ) (messages : List (List ℕ)) (status : Status) → place + 1 < length messages
+    → (if place + 1 == length messages then settled status No else status) ≡ status
 not_last place messages status before = ap (λ (b : Bool). if b then settled status No else status) (ne_eqb (place + 1) (length messages) (omega (arith, before)))
 
 -- a message that is not looked for here is not the last one of both
@@ -118,7 +120,8 @@ apart got messages first end place from inside is missed alike = elim (cases_eq 
         other (x ∷ xs) (suc n) d e within = other xs n d e (omega (arith, within))
 
 -- it is not, and is lost
-pub losing_lost : (q now : QueueState) (got : List (List ℕ)) (first end left place : ℕ) → (first < end → end ≤ length got) → Losing q now got first end left (place + 1)
+pub losing_lost : (q now : QueueState) (got : List (List ℕ)) (first end left place : ℕ) → (first < end → end ≤ length got)
+    → Losing q now got first end left (place + 1)
     → Allows now (Lose place) → (first < left → get_or now.messages place [] ≡ get_or got (left - 1) [] → ⊥)
     → IsSubsequence (part got first left) (take place now.messages) ↔ IsSubsequence (part got first left) (take (place + 1) now.messages)
     → Losing q (after now (Lose place)) got first end left place
@@ -151,7 +154,8 @@ losing_lost q now got first end left place inside l allowed missed same = record
     ]
 
 -- all of the part were found
-pub losing_settled : (q now : QueueState) (got wanted : List (List ℕ)) (first end left place : ℕ) → Losing q now got first end left place → place ≡ 0 → left ≡ first → wanted ≡ part got first end
+pub losing_settled : (q now : QueueState) (got wanted : List (List ℕ)) (first end left place : ℕ) → Losing q now got first end left place
+    → place ≡ 0 → left ≡ first → wanted ≡ part got first end
     → Settles q now wanted false
 losing_settled q now got wanted first end left place l none found is =
     let all : now.messages ≡ part got first end =
@@ -177,7 +181,8 @@ denied_settled q now lost wanted s is = subst (λ (x : QueueState). Settles q x 
 })
 
 -- some of the part were not found
-pub losing_missed : (q now : QueueState) (got wanted : List (List ℕ)) (first end left place : ℕ) → (first < end → end ≤ length got) → Losing q now got first end left place → place ≡ 0 → first < left
+pub losing_missed : (q now : QueueState) (got wanted : List (List ℕ)) (first end left place : ℕ) → (first < end → end ≤ length got)
+    → Losing q now got first end left place → place ≡ 0 → first < left
     → wanted ≡ part got first end → IsSubsequence wanted q.messages → ⊥
 losing_missed q now got wanted first end left place inside l none some is sub =
     let here = l.same.1 (subst (λ (xs : List (List ℕ)). IsSubsequence xs q.messages) is sub) in
@@ -185,5 +190,6 @@ losing_missed q now got wanted first end left place inside l none some is sub =
     omega (arith, some, ap length nothing, length-take (left - first) (drop first got), length-drop first got, l.most, inside (omega (arith, some, l.most)))
 
 -- the sides are down as before
-pub losing_down : (q now : QueueState) (got : List (List ℕ)) (first end left place : ℕ) → Losing q now got first end left place → is_any_down q ≡ true → is_any_down now ≡ true
+pub losing_down : (q now : QueueState) (got : List (List ℕ)) (first end left place : ℕ) → Losing q now got first end left place
+    → is_any_down q ≡ true → is_any_down now ≡ true
 losing_down q now got first end left place l down = ap (λ (a : Bool). a || now.receiver_down) l.sender ∙ ap (λ (b : Bool). q.sender_down || b) l.receiver ∙ down

@@ -48,16 +48,19 @@ seen (Crash side) call = refl
 seen (Recover side) call = refl
 seen (DownReply side) call = refl
 
-pub lost_on : (run longer : List Step) (queue next : QueueState) (x : Step) → is_loss x ≡ true → IsPushed run queue x longer next → OnlyLost run queue longer next
+pub lost_on : (run longer : List Step) (queue next : QueueState) (x : Step) → is_loss x ≡ true → IsPushed run queue x longer next
+    → OnlyLost run queue longer next
 lost_on run longer queue next x loss pushed = λ calls leads.
     subst (λ (steps : List Step). LeadsTo longer steps next) (ap (λ (more : List Step). calls ++ more) (unseen x loss) ∙ append-nil calls)
     (leads_pushed run calls longer queue next x leads pushed)
 
-pub lost_then : (run more longer : List Step) (queue next last : QueueState) → OnlyLost run queue more next → OnlyLost more next longer last → OnlyLost run queue longer last
+pub lost_then : (run more longer : List Step) (queue next last : QueueState) → OnlyLost run queue more next → OnlyLost more next longer last
+    → OnlyLost run queue longer last
 lost_then run more longer queue next last first later = λ calls leads. later calls (first calls leads)
 
 -- the call at a place is told
-pub call_told : (run longer calls : List Step) (place : ℕ) (queue next : QueueState) (x : Step) → place < length calls → x ≡ get_or calls place x → is_loss x ≡ false
+pub call_told : (run longer calls : List Step) (place : ℕ) (queue next : QueueState) (x : Step) → place < length calls
+    → x ≡ get_or calls place x → is_loss x ≡ false
     → IsPushed run queue x longer next → LeadsTo run (take place calls) queue → LeadsTo longer (take (place + 1) calls) next
 call_told run longer calls place queue next x within is call pushed leads =
     subst (λ (steps : List Step). LeadsTo longer steps next)
@@ -72,7 +75,8 @@ pub explains_told : (run calls : List Step) (queue : QueueState) → LeadsTo run
 explains_told run calls queue leads = record { is_run = leads.is_run; seen = leads.seen }
 
 -- an answer about a loss
-pub lost_after : {F : Type 0} (r : Result Bool F) (run more longer : List Step) (queue next last : QueueState) (x : Step) → is_loss x ≡ true → OnlyLost run queue more next
+pub lost_after : {F : Type 0} (r : Result Bool F) (run more longer : List Step) (queue next last : QueueState) (x : Step) → is_loss x ≡ true
+    → OnlyLost run queue more next
     → IfOk r (λ is. is ≡ true → IsPushed more next x longer last) → IfOk r (λ is. is ≡ true → OnlyLost run queue longer last)
 lost_after (Ok is) run more longer queue next last x loss first pushed = λ yes. lost_then run more longer queue next last first (lost_on more longer next last x loss (pushed yes))
 lost_after (Err e) run more longer queue next last x loss first pushed = tt

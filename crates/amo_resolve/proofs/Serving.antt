@@ -42,7 +42,8 @@ receiver-after q LoseAck = refl
 abbrev pub Marks : QueueState → List Step → List Note → Type 0
 Marks q calls notes = MarksDown q.sender_down q.receiver_down calls notes
 
-marks_same : (q x : QueueState) (calls : List Step) (notes : List Note) → x.sender_down ≡ q.sender_down → x.receiver_down ≡ q.receiver_down → Marks q calls notes → Marks x calls notes
+marks_same : (q x : QueueState) (calls : List Step) (notes : List Note) → x.sender_down ≡ q.sender_down → x.receiver_down ≡ q.receiver_down
+    → Marks q calls notes → Marks x calls notes
 marks_same q x calls notes sender receiver marks =
     subst (λ (a : Bool). MarksDown a x.receiver_down calls notes) (sym sender) (subst (λ (b : Bool). MarksDown q.sender_down b calls notes) (sym receiver) marks)
 
@@ -98,7 +99,8 @@ if_neither false p e = (refl, e)
 abbrev pub IsLost : List Step → List Note → Type 0
 IsLost calls notes = (q : QueueState) → IsSound q → is_any_down q ≡ false → Marks q calls notes → is_told_no calls notes ≡ true → Serves q calls → q.status ≡ No
 
-lost_further : (x : QueueState) (call : Step) (calls : List Step) (note : Note) (notes : List Note) → IsLost calls notes → Allows x call → IsSound x → Serves (after x call) calls
+lost_further : (x : QueueState) (call : Step) (calls : List Step) (note : Note) (notes : List Note) → IsLost calls notes → Allows x call
+    → IsSound x → Serves (after x call) calls
     → Marks x (call ∷ calls) (note ∷ notes) → (if note.is_down then false else is_told_no calls notes) ≡ true → (after x call).status ≡ No
 lost_further x call calls note notes later allowed sound rest marks told =
     let both = if_neither note.is_down (is_told_no calls notes) told in
@@ -129,7 +131,8 @@ lost_before (call ∷ calls) (note ∷ notes) = λ q sound up marks told serves.
     (subst (λ (x : QueueState). Marks x (call ∷ calls) (note ∷ notes)) (sym (f.falls.up up)) marks)
 
 -- a call that a queue takes its messages take
-takes : (x : QueueState) (call : Step) (P : List (List ℕ) → Type 0) → Allows x call → is_loss call ≡ false → IsSound x → P (after x call).messages → Takes call x.messages P
+takes : (x : QueueState) (call : Step) (P : List (List ℕ) → Type 0) → Allows x call → is_loss call ≡ false → IsSound x
+    → P (after x call).messages → Takes call x.messages P
 takes x (Put m) P allowed seen sound rest = rest
 takes x (Get m) P allowed seen sound rest = (_, first_taken x.messages m allowed.1, rest)
 takes x (Ack true) P allowed seen sound rest =
@@ -151,14 +154,16 @@ pub record Going (q : QueueState) (calls : List Step) (notes : List Note) : Type
   pub goes_on : GoesOn calls notes here.messages
   pub serves : Serves here calls
 
-after_call : (down : Bool) (calls : List Step) (notes : List Note) (note : Note) (x : QueueState) → down ≡ is_any_down x → (down ≡ true → (messages : List (List ℕ)) → GoesOn calls notes messages → Leaves (is_told_yes calls) (wanted_of calls note) messages)
+after_call : (down : Bool) (calls : List Step) (notes : List Note) (note : Note) (x : QueueState) → down ≡ is_any_down x
+    → (down ≡ true → (messages : List (List ℕ)) → GoesOn calls notes messages → Leaves (is_told_yes calls) (wanted_of calls note) messages)
     → Going x calls notes → Choose down (Leaves (is_told_yes calls) (wanted_of calls note) x.messages) (GoesOn calls notes x.messages)
 after_call true calls notes note x is least g =
     leaves-trans (is_told_yes calls) (wanted_of calls note) g.here.messages x.messages (least refl g.here.messages g.goes_on) g.falls.part
     (λ told. g.falls.kept (not_lost calls g.here g.falls.sound told g.serves))
 after_call false calls notes note x is least g = subst (λ (y : QueueState). GoesOn calls notes y.messages) (g.falls.up (sym is)) g.goes_on
 
-pub serves_goes_on : (calls : List Step) (notes : List Note) (q : QueueState) → IsSound q → Marks q calls notes → IsPlan calls notes → Serves q calls → Going q calls notes
+pub serves_goes_on : (calls : List Step) (notes : List Note) (q : QueueState) → IsSound q → Marks q calls notes → IsPlan calls notes
+    → Serves q calls → Going q calls notes
 serves_goes_on [] notes q sound marks plan serves = record { here = q; falls = falls-refl q sound; goes_on = tt; serves = serves }
 serves_goes_on (call ∷ calls) [] q sound marks plan serves = absurd plan
 serves_goes_on (call ∷ calls) (note ∷ notes) q sound marks plan serves =

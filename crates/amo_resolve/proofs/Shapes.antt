@@ -57,7 +57,8 @@ put_open P m got most xs o = by_rest o.front o.few o.rest o.mode (from_end o.res
     longer : (front few : List (List ℕ)) → Begins (front ++ few) got → length front + length few ≤ most → Begins front got × (length front ≤ most)
     longer front few begins small = ((few ++ begins.0, begins.1 ∙ append_assoc front few begins.0), omega arith)
 
-    left_out : (front few rest : List (List ℕ)) → xs ≡ front ++ rest → IsSubsequence few rest → ((others : List (List ℕ)) → IsSubsequence few others → P (front ++ others))
+    left_out : (front few rest : List (List ℕ)) → xs ≡ front ++ rest → IsSubsequence few rest
+        → ((others : List (List ℕ)) → IsSubsequence few others → P (front ++ others))
         → Begins (front ++ few) got → length front + length few ≤ most → IsOpen (λ ys. P (ys ++ m ∷ [])) got most xs
     left_out front few rest is sub any begins small = record {
       front = front;
@@ -87,7 +88,8 @@ put_open P m got most xs o = by_rest o.front o.few o.rest o.mode (from_end o.res
       small = omega (arith, length-append few (m ∷ []));
     }
 
-    pushed_both : (few : List (List ℕ)) (x : List ℕ) (others : List (List ℕ)) → x ≡ m → IsSubsequence few others → IsSubsequence (few ++ x ∷ []) (others ++ m ∷ [])
+    pushed_both : (few : List (List ℕ)) (x : List ℕ) (others : List (List ℕ)) → x ≡ m → IsSubsequence few others
+        → IsSubsequence (few ++ x ∷ []) (others ++ m ∷ [])
     pushed_both few x others same sub = subst (λ (z : List ℕ). IsSubsequence (few ++ x ∷ []) (others ++ z ∷ [])) same (subsequence-after (x ∷ []) sub)
 
     pushed_last : (few : List (List ℕ)) (x : List ℕ) (others : List (List ℕ)) → x ≡ m → last (few ++ x ∷ []) ≡ last (others ++ m ∷ [])
@@ -191,7 +193,8 @@ goes_on_shape (call ∷ calls) (note ∷ notes) enough =
     (choose_shape note.is_down (λ (rest : List (List ℕ)). Leaves (is_told_yes calls) (wanted_of calls note) rest) (GoesOn calls notes) (messages_got calls) note.wanted (reach calls notes)
     (base (is_told_yes calls) note.wanted (messages_got calls)) (goes_on_shape calls notes (omega (arith, enough)))))
   where
-    got_first : (call : Step) (calls : List Step) (F : List (List ℕ) → Type 0) → F (messages_got (call ∷ []) ++ messages_got calls) → F (messages_got (call ∷ calls))
+    got_first : (call : Step) (calls : List Step) (F : List (List ℕ) → Type 0) → F (messages_got (call ∷ []) ++ messages_got calls)
+        → F (messages_got (call ∷ calls))
     got_first (Put m) calls F holds = holds
     got_first (Get m) calls F holds = holds
     got_first (Ack answer) calls F holds = holds

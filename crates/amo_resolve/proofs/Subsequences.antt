@@ -73,7 +73,8 @@ module _ {X : Type 0} where
   last-push (y ∷ z ∷ xs) x = last-push (z ∷ xs) x
 
   -- the last element of a part of a list: it is the last of the list, or the part is one of the list without it
-  pub subsequence-last : (xs : List X) (x : X) (ys : List X) (y : X) → IsSubsequence (xs ++ x ∷ []) (ys ++ y ∷ []) → ((x ≡ y) × IsSubsequence xs ys) ⊎ IsSubsequence (xs ++ x ∷ []) ys
+  pub subsequence-last : (xs : List X) (x : X) (ys : List X) (y : X) → IsSubsequence (xs ++ x ∷ []) (ys ++ y ∷ [])
+      → ((x ≡ y) × IsSubsequence xs ys) ⊎ IsSubsequence (xs ++ x ∷ []) ys
   subsequence-last [] x [] y (keep sub) = inl (refl, empty)
   subsequence-last [] x [] y (leave_out sub) = inr sub
   subsequence-last [] x (z ∷ ys) y (keep sub) = inr (keep (subsequence-nil ys))

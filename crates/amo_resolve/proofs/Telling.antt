@@ -27,7 +27,8 @@ pub record Next (q next : QueueState) (calls : List Step) (notes : List Note) (c
   pub down : next ≡ after q call → note.is_down ≡ is_any_down next
   pub called : next ≡ after q call → Called next calls notes note
 
-pub next_call : (q next : QueueState) (calls : List Step) (notes : List Note) (place : ℕ) (call : Step) (note : Note) → place < length calls → length notes ≡ length calls
+pub next_call : (q next : QueueState) (calls : List Step) (notes : List Note) (place : ℕ) (call : Step) (note : Note) → place < length calls
+    → length notes ≡ length calls
     → call ≡ get_or calls place call → note ≡ get_or notes place note → Ready q (drop place calls) (drop place notes)
     → Next q next (drop (place + 1) calls) (drop (place + 1) notes) call note
 next_call q next calls notes place call note within counted here there ready =
@@ -51,14 +52,16 @@ got_next got calls first next place call within here after so_far =
     after (drop (place + 1) calls) (so_far ∙ ap messages_got (drop_more calls place call within ∙ ap (λ (x : Step). x ∷ drop (place + 1) calls) (sym here)))
 
 -- the wanted ones wait, where a side is down
-pub wanted_wait : (q : QueueState) (calls : List Step) (notes : List Note) (note : Note) (got : List (List ℕ)) (first : ℕ) → note.is_down ≡ true → drop first got ≡ messages_got calls
+pub wanted_wait : (q : QueueState) (calls : List Step) (notes : List Note) (note : Note) (got : List (List ℕ)) (first : ℕ)
+    → note.is_down ≡ true → drop first got ≡ messages_got calls
     → Called q calls notes note → IsSubsequence (take note.wanted (drop first got)) q.messages
 wanted_wait q calls notes note got first down is c =
     subst (λ (xs : List (List ℕ)). IsSubsequence (take note.wanted xs) q.messages) (sym is)
     (leaves-part (is_told_yes calls) (wanted_of calls note) q.messages (can_leave q calls notes note down c))
 
 -- and once all others are lost the calls are ready again
-pub ready_lost : (q lost : QueueState) (calls : List Step) (notes : List Note) (note : Note) (got : List (List ℕ)) (first : ℕ) → note.is_down ≡ true → drop first got ≡ messages_got calls
+pub ready_lost : (q lost : QueueState) (calls : List Step) (notes : List Note) (note : Note) (got : List (List ℕ)) (first : ℕ)
+    → note.is_down ≡ true → drop first got ≡ messages_got calls
     → Called q calls notes note → Settles q lost (take note.wanted (drop first got)) note.is_told_no → Ready lost calls notes
 ready_lost q lost calls notes note got first down is c s =
     ready_down q lost calls notes note down c (subst (λ (xs : List (List ℕ)). Settles q lost (take note.wanted xs) note.is_told_no) is s)

@@ -3,3 +3,4 @@ pub mod Plan
 pub mod Telling
 pub mod Fault
 pub mod Resolved
+pub mod Seen

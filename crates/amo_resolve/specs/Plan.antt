@@ -1,5 +1,5 @@
 -- A plan for a list of calls: what must wait in the queue after each call that leaves a side down.
-use Rattle.std.specs.Prelude.{◌≡◌, ℕ, suc, ◌+◌, ◌<◌, ◌≤◌, ◌||◌, Bool, true, false, not, if◌then◌else◌, Option, Some, None, List, [], ◌∷◌, ◌++◌, length, take}
+use Rattle.std.specs.Prelude.{◌≡◌, ℕ, suc, ◌+◌, ◌-◌, ◌<◌, ◌≤◌, ◌||◌, Bool, true, false, not, if◌then◌else◌, Option, Some, None, List, [], ◌∷◌, ◌++◌, length, take}
 use Rattle.amo_object.specs.declared.step.End.TheVariants.{Sender, Receiver}
 use Rattle.amo_object.specs.declared.step.Step.{Step}
 use Rattle.amo_object.specs.declared.step.Step.TheVariants.{Put, Get, Ack, Crash, Recover}
@@ -83,7 +83,7 @@ IsNoted calls notes note = (note.is_down ≡ true → IsLeast calls notes note)
     × (note.is_down ≡ true → is_told_yes calls ≡ true → note.wanted ≡ got_before_answer calls)
     × (note.is_told_no ≡ is_told_no calls notes)
     × (note.is_told_yes ≡ is_told_yes calls)
-    × (note.wanted ≤ length calls)
+    × (note.wanted ≤ length (messages_got calls))
 
 -- and of each of them
 abbrev pub IsPlan : List Step → List Note → Type 0
@@ -125,9 +125,31 @@ reach [] notes = 0
 reach (call ∷ calls) [] = 0
 reach (call ∷ calls) (note ∷ notes) = most_after call (if note.is_down then note.wanted else reach calls notes)
 
+-- one message more before a get, one fewer before a put, and none before a yes
+abbrev pub fewest_before : Step → ℕ → ℕ
+fewest_before (Put m) few = few - 1
+fewest_before (Get m) few = 1 + few
+fewest_before (Ack true) few = 0
+fewest_before call few = few
+
+-- with fewer messages than these the calls do not go on
+abbrev pub fewest : List Step → List Note → ℕ
+fewest [] notes = 0
+fewest (call ∷ calls) [] = 0
+fewest (call ∷ calls) (note ∷ notes) = fewest_before call (if note.is_down then note.wanted else fewest calls notes)
+
+-- a yes comes before any call that leaves a side down
+abbrev pub is_settled : List Step → List Note → Bool
+is_settled [] notes = false
+is_settled (call ∷ calls) [] = false
+is_settled (Ack true ∷ calls) (note ∷ notes) = true
+is_settled (call ∷ calls) (note ∷ notes) = if note.is_down then false else is_settled calls notes
+
 -- what calls ask
 pub record IsAhead (ahead : Ahead) (calls : List Step) (notes : List Note) : Type 0 where
   pub reach : ahead.reach ≡ reach calls notes
+  pub fewest : ahead.fewest ≡ fewest calls notes
+  pub settled : ahead.is_settled ≡ is_settled calls notes
   pub got : ahead.got ≡ got_before_answer calls
   pub yes : ahead.is_told_yes ≡ is_told_yes calls
   pub no : ahead.is_told_no ≡ is_told_no calls notes

@@ -1,5 +1,5 @@
 //! Which messages are wanted.
-ghost use Rattle.std.specs.Prelude.{◌≡◌, ◌↔◌, ◌+◌, ◌<◌, ◌≤◌, ◌^◌, ◌-◌, ℕ, [], ◌∷◌, ◌++◌, take, drop, length, slice_index_or, List, IsTrue, IfOk, true, false};
+ghost use Rattle.std.specs.Prelude.{◌≡◌, ◌↔◌, ◌+◌, ◌<◌, ◌≤◌, ◌^◌, ◌-◌, ℕ, [], ◌∷◌, ◌++◌, take, drop, length, slice_index_or, List, IsTrue, IfOk, if◌then◌else◌, true, false};
 ghost use Rattle.amo_object.specs.declared.step.Step.{Step};
 ghost use Rattle.amo_object.specs.Delivery.{messages_got};
 ghost use Rattle.amo_resolve.specs.declared.plan.Note.{Note};
@@ -28,6 +28,10 @@ pub(crate) struct Note {
 pub(crate) struct Ahead {
     /// The most messages that they may want.
     reach: usize,
+    /// With fewer messages than these they do not go on.
+    fewest: usize,
+    /// A yes comes before any call that leaves a side down: no other count than `fewest` will do.
+    is_settled: bool,
     /// How many messages they get before the next answer or put.
     got: usize,
     /// The next answer is yes, before any put.
@@ -43,6 +47,8 @@ impl Ahead {
     {
         Ahead {
             reach: 0,
+            fewest: 0,
+            is_settled: false,
             got: 0,
             is_told_yes: false,
             is_told_no: false,
@@ -51,38 +57,61 @@ impl Ahead {
 
     /// Of one call more, before the others, with its note.
     fn before(self, call: &Step, note: Note) -> Ahead
-        requires { (self.reach + 1 < 2 ^ 64) × (self.got + 1 < 2 ^ 64) × (note.wanted + 1 < 2 ^ 64) }
+        requires { (self.reach + 1 < 2 ^ 64) × (self.fewest + 1 < 2 ^ 64) × (self.got + 1 < 2 ^ 64) × (note.wanted + 1 < 2 ^ 64) }
         ensures { (calls : List Step) (notes : List Note) → IsAhead self calls notes → IsAhead result (call.now ∷ calls) (note ∷ notes) }
     {
-        let reach = if note.is_down {
-            note.wanted
-        } else {
-            self.reach
-        };
-        let same = Ahead {
-            reach,
-            is_told_no: !note.is_down && self.is_told_no,
-            ..self
-        };
+        let same = self.after(note);
         match call {
             Step::Put(_) => Ahead {
-                reach,
+                fewest: same.fewest.saturating_sub(1),
                 got: 0,
                 is_told_yes: false,
                 is_told_no: false,
+                ..same
             },
-            Step::Ack(answer) => Ahead {
-                reach,
+            Step::Ack(true) => Ahead {
+                fewest: 0,
+                is_settled: true,
                 got: 0,
-                is_told_yes: *answer,
-                is_told_no: !*answer,
+                is_told_yes: true,
+                is_told_no: false,
+                ..same
+            },
+            Step::Ack(false) => Ahead {
+                got: 0,
+                is_told_yes: false,
+                is_told_no: true,
+                ..same
             },
             Step::Get(_) => Ahead {
-                reach: reach + 1,
-                got: self.got + 1,
+                reach: same.reach + 1,
+                fewest: same.fewest + 1,
+                got: same.got + 1,
                 ..same
             },
             _ => same,
+        }
+    }
+
+    /// The same, asked right after a call with this note.
+    fn after(self, note: Note) -> Ahead
+        ensures reach { result.reach ≡ if note.is_down then note.wanted else self.reach }
+        ensures fewest { result.fewest ≡ if note.is_down then note.wanted else self.fewest }
+        ensures settled { result.is_settled ≡ if note.is_down then false else self.is_settled }
+        ensures got { result.got ≡ self.got }
+        ensures yes { result.is_told_yes ≡ self.is_told_yes }
+        ensures no { result.is_told_no ≡ if note.is_down then false else self.is_told_no }
+    {
+        if note.is_down {
+            Ahead {
+                reach: note.wanted,
+                fewest: note.wanted,
+                is_settled: false,
+                is_told_no: false,
+                ..self
+            }
+        } else {
+            self
         }
     }
 }
@@ -113,7 +142,7 @@ fn receiver_after(down: bool, call: &Step) -> bool
 fn mark_down(alloc: Global, calls: &[Step]) -> Result<Vec<Note>, AllocError>
     ensures { IfOk result (λ notes. IsMarked calls.now notes.items) }
 {
-    let mut notes = Vec::new(alloc);
+    let mut notes = Vec::with_capacity(alloc, calls.len())?;
     let mut sender_down = false;
     let mut receiver_down = false;
     for call in calls {
@@ -202,18 +231,24 @@ fn least<'a>(
     notes: &[Note],
     got: &Got<'a>,
     first: usize,
-    most: usize,
+    ahead: Ahead,
 ) -> Result<usize, AllocError>
     requires plan { IsPlan calls.now notes.now × (length notes.now ≡ length calls.now) }
     requires got { drop first got.now ≡ messages_got calls.now }
-    ensures { IfOk result (λ count. IsLeastCount calls.now notes.now most count) }
+    requires ahead { IsAhead ahead calls.now notes.now }
+    ensures { IfOk result (λ count. IsLeastCount calls.now notes.now ahead.reach count) }
 {
-    for count in 0..most {
+    let end = if ahead.is_settled && ahead.fewest < ahead.reach {
+        ahead.fewest + 1
+    } else {
+        ahead.reach
+    };
+    for count in ahead.fewest..end {
         if goes_on(waiting, calls, notes, got, first, count)? {
             return Ok(count);
         }
     }
-    Ok(most)
+    Ok(ahead.reach)
 }
 
 /// The note of a call before these.
@@ -237,7 +272,7 @@ fn note_before<'a>(
     } else if ahead.is_told_yes {
         ahead.got
     } else {
-        least(waiting, calls, notes, got, first, ahead.reach)?
+        least(waiting, calls, notes, got, first, ahead)?
     };
     Ok(Note {
         is_down,

@@ -1,13 +1,13 @@
 //! Runs of the queue for all streams of a history.
-ghost use Rattle.std.specs.Prelude.{◌≡◌, ◌↔◌, ℕ, IsTrue, IfOk, IfErr, OnOk, reverse};
+ghost use Rattle.std.specs.Prelude.{◌≡◌, ℕ, IfOk, IfErr, OnOk, reverse};
 ghost use Rattle.std.specs.List.{All};
 ghost use Rattle.amo_world.specs.Stream.{IsStream};
 ghost use Rattle.amo_world.specs.History.{IsRight, IsHonest, IsFresh};
 ghost use Rattle.amo_resolve.specs.Fault.{IsFault};
-ghost use Rattle.amo_resolve.specs.Resolved.{IsNamed, IsResolved};
+ghost use Rattle.amo_resolve.specs.Resolved.{IsResolved};
 ghost use Rattle.amo_resolve.specs.Explanation.{IsExplained, Explains};
 
-use crate::calls::calls_of;
+use crate::calls::seen_by;
 use crate::explanation::explain;
 use crate::judge::judge;
 use crate::{Event, NoMemory, ResolveFault, Step};
@@ -45,12 +45,13 @@ fn runs_of(alloc: Global, events: &[Event]) -> Result<Vec<Run>, NoMemory>
     requires sound { IsRight (reverse events.now) × IsHonest (reverse events.now) × IsFresh (reverse events.now) }
     ensures { IfOk result (λ runs. IsResolved runs.items events.now) }
 {
+    let streams = seen_by(alloc, events)?;
     let mut runs = Vec::new(alloc);
     for place in 0..STREAMS {
-        let stream = place + 1;
-        if is_named(stream, events) {
-            let calls = calls_of(alloc, stream, events)?;
-            let steps = explanation(alloc, calls.as_slice())?;
+        let seen = &streams[place as usize];
+        if seen.is_named {
+            let stream = place + 1;
+            let steps = explanation(alloc, seen.calls.as_slice())?;
             match runs.push(Run { stream, steps }) {
                 Ok(()) => {}
                 Err(_) => return Err(NoMemory),
@@ -58,13 +59,6 @@ fn runs_of(alloc: Global, events: &[Event]) -> Result<Vec<Run>, NoMemory>
         }
     }
     Ok(runs)
-}
-
-/// Whether an event names this stream.
-fn is_named(stream: u32, events: &[Event]) -> bool
-    ensures { IsTrue result ↔ IsNamed stream events.now }
-{
-    events.iter().any(|event| event.stream == stream)
 }
 
 /// A run that explains these calls, of which there is one.

@@ -1,4 +1,6 @@
 //! Runs of histories with crashes, faults of histories, and which calls the queue allows.
+mod search;
+
 ghost use Rattle.std.specs.Prelude.{◌≡◌, IfOk};
 ghost use Rattle.std.specs.List.{All};
 ghost use Rattle.amo_world.specs.Stream.{IsStream};
@@ -394,6 +396,33 @@ fn refuses_calls_that_the_queue_does_not_allow(rt: HostRuntime) -> Result<(), Fa
     ];
     for letters in lists {
         assert!(rt; !is_explained(rt.alloc(), letters)?);
+    }
+    Ok(())
+}
+
+#[test]
+fn tells_each_fault(rt: HostRuntime) -> Result<(), Fail> {
+    let faults = [
+        (ResolveFault::NoMemory, 9, "out of memory"),
+        (
+            ResolveFault::WrongReply(6),
+            21,
+            "the reply of event 6 is not the right one",
+        ),
+        (
+            ResolveFault::Unsent(0),
+            22,
+            "event 0 delivers a packet that was not emitted before",
+        ),
+        (
+            ResolveFault::Repeat(12),
+            23,
+            "event 12 uses up a word a second time",
+        ),
+    ];
+    for (fault, code, text) in faults {
+        assert_eq!(rt; fault.code(), code);
+        assert_eq!(rt; format!(in rt.alloc(); "{fault}")?.as_str(), text);
     }
     Ok(())
 }

@@ -1,9 +1,9 @@
-use Rattle.std.proofs.Common.{◌≡◌, ◌<◌, ◌+◌, ◌-◌, [], List, drop, take, set, length, sym, ◌∙◌, ap, subst, arith}
+use Rattle.std.proofs.Common.{◌≡◌, ◌<◌, ◌≤◌, ◌+◌, ◌-◌, [], List, drop, take, set, length, sym, ◌∙◌, ap, subst, arith, rules}
 use Rattle.std.proofs.lemmas.List.{drop_all, take_all, length-drop, length-set}
 use Rattle.amo_object.specs.declared.step.Step.{Step}
 use Rattle.amo_object.specs.Delivery.{messages_got}
 use Rattle.amo_resolve.specs.Plan.{IsPlan, IsAhead}
-use Rattle.amo_resolve.proofs.Planning.{marks_set, plan_set, ahead_set, got_so_far, got_there, reach_small, got_small, noted_rest}
+use Rattle.amo_resolve.proofs.Planning.{marks_set, plan_set, ahead_set, got_so_far, got_there, reach_small, fewest_small, got_small, got_length, noted_rest}
 use Rattle.amo_resolve.proofs.plan.plan.Goals as goal
 
 pub loop-place-init : goal.loop-place-init
@@ -22,6 +22,7 @@ loop-place-init c =
       plan = planned;
       ahead = ahead;
       reach = omega (arith, ahead.reach, reach_small (drop (length calls) calls) (drop (length calls) notes) planned, ap length none, length-drop (length calls) calls);
+      fewest = omega (arith, ahead.fewest, fewest_small (drop (length calls) calls) (drop (length calls) notes), reach_small (drop (length calls) calls) (drop (length calls) notes) planned, ap length none, length-drop (length calls) calls);
       short = omega (arith, ahead.got, got_small (drop (length calls) calls), ap length none, length-drop (length calls) calls);
       got = got_there calls c.args.got.now (length calls) c.len-first.result c.requires first;
       first = first;
@@ -58,7 +59,15 @@ loop-place-preserved c =
       plan = planned;
       ahead = ahead;
       reach = omega (arith, ahead.reach, reach_small (drop place calls) (drop place (set notes place note)) planned, length-drop place calls, within);
+      fewest = omega (arith, ahead.fewest, fewest_small (drop place calls) (drop place (set notes place note)), reach_small (drop place calls) (drop place (set notes place note)) planned, length-drop place calls, within);
       short = omega (arith, ahead.got, got_small (drop place calls), length-drop place calls, within);
       got = got_there calls c.args.got.now place c.got_before-first.result c.requires first;
       first = first;
     }
+
+pub before-ahead-requires : goal.before-ahead-requires
+before-ahead-requires c =
+    let noted = noted_rest c.args.calls.now c.loop-place.notes.items c.deref.result.now c.loop-place.place c.in_ok-note.note c.deref.ensures.value c.in_ok-note.ensures.noted in
+    let wanted : c.in_ok-note.note.wanted + c.loop-place.place ≤ length c.args.calls.now =
+    omega (arith, noted.4, got_length (drop c.loop-place.place c.args.calls.now), length-drop c.loop-place.place c.args.calls.now, c.loop-place.invariant.within) in
+    search rules

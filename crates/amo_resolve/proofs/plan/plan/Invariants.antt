@@ -11,6 +11,7 @@ invariant-loop-place l = record {
   plan : IsPlan (drop l.place l.calls) (drop l.place l.notes.items);
   ahead : IsAhead l.ahead (drop l.place l.calls) (drop l.place l.notes.items);
   reach : l.ahead.reach + l.place ≤ length l.calls;
+  fewest : l.ahead.fewest + l.place ≤ length l.calls;
   short : l.ahead.got + l.place ≤ length l.calls;
   got : drop l.first l.got ≡ messages_got (drop l.place l.calls);
   first : l.first ≡ length (messages_got (take l.place l.calls));

@@ -5,8 +5,9 @@ use Rattle.amo_world.specs.Served.{calls}
 use Rattle.amo_resolve.specs.declared.resolver.Run.{Run}
 use Rattle.amo_resolve.specs.Explanation.{Explains, IsExplained}
 use Rattle.amo_resolve.proofs.Gathering.{SoFar, nothing_yet, one_run_more, no_run_more, all_gathered, explained_calls}
+use Rattle.amo_resolve.proofs.Seeing.{seen_at}
 use Rattle.amo_resolve.proofs.resolver.runs_of.Goals as goal
-use Rattle.amo_resolve.proofs.resolver.runs_of.Goals.{then-is_named+in_ok-calls+in_ok-steps+in-Ok, else-is_named}
+use Rattle.amo_resolve.proofs.resolver.runs_of.Goals.{then-seen+in_ok-steps+in-Ok, else-seen}
 
 pub loop-place-init : goal.loop-place-init
 loop-place-init c =
@@ -14,23 +15,26 @@ loop-place-init c =
 
 pub explanation-requires : goal.explanation-requires
 explanation-requires c =
-    subst (λ (steps : List Step). IsExplained steps) (sym (c.as_slice.ensures.value ∙ c.in_ok-calls.ensures))
+    let seen = seen_at c.in_ok-streams.streams.items c.args.events.now c.loop-place.place c.index-seen.result.now c.in_ok-streams.ensures (omega (arith, c.loop-place-test.true)) c.index-seen.ensures in
+    subst (λ (steps : List Step). IsExplained steps) (sym (c.as_slice.ensures.value ∙ seen.calls))
     (explained_calls (c.loop-place.place + 1) (reverse c.args.events.now) c.requires.sound.0 c.requires.sound.1 c.requires.sound.2)
 
 pub loop-place-preserved : goal.loop-place-preserved
-loop-place-preserved c = elim c.if-is_named.branch [
-  | then-is_named+in_ok-calls+in_ok-steps+in-Ok w ↦ (
-      let run : Run = record { stream = c.loop-place.place + 1; steps = w.in_ok-steps.steps } in
-      let items : c.if-is_named.runs.items ≡ c.loop-place.runs.items ++ run ∷ [] = search rules in
-      let told : Explains w.in_ok-steps.steps.items (calls (c.loop-place.place + 1) (reverse c.args.events.now)) =
-      subst (λ (steps : List Step). Explains w.in_ok-steps.steps.items steps) (w.as_slice.ensures.value ∙ w.in_ok-calls.ensures) w.in_ok-steps.ensures in
-      subst (λ (runs : List Run). SoFar runs c.args.events.now (c.loop-place.place + 1)) (sym items)
-      (one_run_more c.loop-place.runs.items c.args.events.now c.loop-place.place run c.loop-place.invariant refl (c.is_named.ensures.0 w.if-is_named.true) told))
-  | else-is_named w ↦ (
-      let items : c.if-is_named.runs.items ≡ c.loop-place.runs.items = search rules in
-      subst (λ (runs : List Run). SoFar runs c.args.events.now (c.loop-place.place + 1)) (sym items)
-      (no_run_more c.loop-place.runs.items c.args.events.now c.loop-place.place c.loop-place.invariant (λ named. untrue _ w.if-is_named.false (c.is_named.ensures.1 named))))
-]
+loop-place-preserved c =
+    let seen = seen_at c.in_ok-streams.streams.items c.args.events.now c.loop-place.place c.index-seen.result.now c.in_ok-streams.ensures (omega (arith, c.loop-place-test.true)) c.index-seen.ensures in
+    elim c.if-seen.branch [
+      | then-seen+in_ok-steps+in-Ok w ↦ (
+          let run : Run = record { stream = c.loop-place.place + 1; steps = w.in_ok-steps.steps } in
+          let items : c.if-seen.runs.items ≡ c.loop-place.runs.items ++ run ∷ [] = search rules in
+          let told : Explains w.in_ok-steps.steps.items (calls (c.loop-place.place + 1) (reverse c.args.events.now)) =
+          subst (λ (steps : List Step). Explains w.in_ok-steps.steps.items steps) (w.as_slice.ensures.value ∙ seen.calls) w.in_ok-steps.ensures in
+          subst (λ (runs : List Run). SoFar runs c.args.events.now (c.loop-place.place + 1)) (sym items)
+          (one_run_more c.loop-place.runs.items c.args.events.now c.loop-place.place run c.loop-place.invariant refl (seen.named.0 w.if-seen.true) told))
+      | else-seen w ↦ (
+          let items : c.if-seen.runs.items ≡ c.loop-place.runs.items = search rules in
+          subst (λ (runs : List Run). SoFar runs c.args.events.now (c.loop-place.place + 1)) (sym items)
+          (no_run_more c.loop-place.runs.items c.args.events.now c.loop-place.place c.loop-place.invariant (λ named. untrue _ w.if-seen.false (seen.named.1 named))))
+    ]
 
 pub returns : goal.returns
 returns c =
