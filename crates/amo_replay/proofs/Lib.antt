@@ -1,3 +1,5 @@
-pub mod Deliveries
-pub mod Happenings
+pub mod Places
+pub mod Owning
+pub mod Applying
+pub mod Answering
 pub mod Replays

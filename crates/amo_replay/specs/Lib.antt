@@ -1,4 +1,5 @@
-pub mod Automata
+pub mod Sides
+pub mod Hosts
 pub mod Transcript
 pub mod Ending
 pub mod Stop

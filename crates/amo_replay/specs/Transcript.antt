@@ -1,6 +1,7 @@
 -- What a replay writes: a line for each event, with its number, the right reply, and the packet emitted, if any.
-use Rattle.std.specs.Prelude.{◌≡◌, ℕ, ◌+◌, nat_eq, Bool, true, if◌then◌else◌, not, Option, None, Some, unwrap_or, Result, Ok, Err, List, [], ◌∷◌, ◌++◌, length, codes, slice_get}
+use Rattle.std.specs.Prelude.{◌≡◌, ℕ, ◌+◌, nat_eq, Bool, true, if◌then◌else◌, not, Option, None, Some, unwrap_or, Result, Ok, Err, List, [], ◌∷◌, ◌++◌, length, take, codes, slice_get}
 use Rattle.std.specs.Fmt.{decimal}
+use Rattle.std.specs.Io.KnownBytes.{Appends}
 use Rattle.std.specs.List.{flat_map, list_any}
 use Rattle.std.specs.Option.{option_map}
 use Rattle.amo_object.specs.declared.step.End.{End}
@@ -26,22 +27,22 @@ use Rattle.amo_replay.specs.declared.endings.Ending.TheVariants.{Done, Malformed
 
 -- an act at a side of a stream, under pass 0, with a reply
 abbrev pub event_at : End → ℕ → Act → Reply → Event
-event_at side stream a told = record { pass = 0; side = side; stream = stream; act = a; reply = told }
+event_at side stream a answer = record { pass = 0; side = side; stream = stream; act = a; reply = answer }
 
 -- a packet emitted is delivered to the other side of its stream
 abbrev pub delivery : ℕ → Emission → Event
 delivery word e = event_at (other e.side) e.packet.stream (act.Deliver e.packet word) reply.Done
 
--- what a line makes happen after a history, whatever the reply; nothing where the packet that it delivers was not emitted
-abbrev pub happening : List Event → ScheduleLine → Option Event
-happening past (Put stream m) = Some (event_at Sender stream (act.Put m) reply.Done)
-happening past (Get stream) = Some (event_at Receiver stream act.Get reply.Done)
-happening past (Ack stream) = Some (event_at Sender stream act.Ack reply.Done)
-happening past (Start stream word) = Some (event_at Sender stream (act.Start word) reply.Done)
-happening past (Resend side stream) = Some (event_at side stream act.Resend reply.Done)
-happening past (Deliver number word) = option_map (delivery word) (slice_get (emissions past) number)
-happening past (Crash side stream) = Some (event_at side stream act.Crash reply.Done)
-happening past (Recover side stream) = Some (event_at side stream act.Recover reply.Done)
+-- the event of a line after a history, whatever its reply; none where the packet that it delivers was not emitted
+abbrev pub event_of : List Event → ScheduleLine → Option Event
+event_of past (Put stream m) = Some (event_at Sender stream (act.Put m) reply.Done)
+event_of past (Get stream) = Some (event_at Receiver stream act.Get reply.Done)
+event_of past (Ack stream) = Some (event_at Sender stream act.Ack reply.Done)
+event_of past (Start stream word) = Some (event_at Sender stream (act.Start word) reply.Done)
+event_of past (Resend side stream) = Some (event_at side stream act.Resend reply.Done)
+event_of past (Deliver number word) = option_map (delivery word) (slice_get (emissions past) number)
+event_of past (Crash side stream) = Some (event_at side stream act.Crash reply.Done)
+event_of past (Recover side stream) = Some (event_at side stream act.Recover reply.Done)
 
 -- the reply that is right, to an act at a side of a stream after a history
 abbrev pub right_reply : List Event → End → ℕ → Act → Reply
@@ -59,13 +60,13 @@ is_new used (Some word) = not (list_any (nat_eq word) used)
 abbrev pub uses_new_word : List Event → Event → Bool
 uses_new_word past e = is_new (words_of (stream_before past e) e.side) (word_of (stream_before past e) e.side e.act)
 
--- what becomes of a line after a history: its event, or the ending, at the line behind those of the events before
+-- what applied of a line after a history: its event, or the ending, at the line behind those of the events before
 abbrev pub checked : List Event → Option Event → Result Event Ending
 checked past None = Err (Unsent (length past + 1))
 checked past (Some e) = if uses_new_word past e then Ok (replied past e) else Err (Repeat (length past + 1))
 
-abbrev pub becomes : List Event → ScheduleLine → Result Event Ending
-becomes past line = checked past (happening past line)
+abbrev pub applied : List Event → ScheduleLine → Result Event Ending
+applied past line = checked past (event_of past line)
 
 -- one thing of an event, another of an ending
 abbrev pub either_way : {X : Type 0} → Result Event Ending → (Event → X) → (Ending → X) → X
@@ -79,16 +80,16 @@ emission_text number (Some bytes) = codes " -> " ++ (decimal number ++ (32 ∷ h
 
 -- the line of the event of a number
 abbrev pub event_text : ℕ → Reply → ℕ → Option (List ℕ) → List ℕ
-event_text number told emission bytes = decimal number ++ (32 ∷ (reply_text told ++ (emission_text emission bytes ++ 10 ∷ [])))
+event_text number answer emission bytes = decimal number ++ (32 ∷ (reply_text answer ++ (emission_text emission bytes ++ 10 ∷ [])))
 
 -- what is written of an event after a history
 abbrev pub line_text : List Event → Event → List ℕ
 line_text past e = event_text (length past) e.reply (length (emissions past)) (option_map (λ x. spelling x.packet) (event_emission past e))
 
--- what is written of lines after a history, line by line, up to the first that cannot happen
+-- what is written of lines after a history, line by line, up to the first that cannot apply
 abbrev pub transcript_from : List Event → List ScheduleLine → List (List ℕ)
 transcript_from past [] = []
-transcript_from past (line ∷ lines) = either_way (becomes past line) (λ e. line_text past e ∷ transcript_from (e ∷ past) lines) (λ ending. [])
+transcript_from past (line ∷ lines) = either_way (applied past line) (λ e. line_text past e ∷ transcript_from (e ∷ past) lines) (λ ending. [])
 
 abbrev pub transcript : List ScheduleLine → List (List ℕ)
 transcript lines = transcript_from [] lines
@@ -96,7 +97,7 @@ transcript lines = transcript_from [] lines
 -- how lines end
 abbrev pub ending_from : List Event → List ScheduleLine → Ending
 ending_from past [] = Done
-ending_from past (line ∷ lines) = either_way (becomes past line) (λ e. ending_from (e ∷ past) lines) (λ ending. ending)
+ending_from past (line ∷ lines) = either_way (applied past line) (λ e. ending_from (e ∷ past) lines) (λ ending. ending)
 
 abbrev pub ending_of : List ScheduleLine → Ending
 ending_of lines = ending_from [] lines
@@ -104,7 +105,7 @@ ending_of lines = ending_from [] lines
 -- the history that lines leave
 abbrev pub history_from : List Event → List ScheduleLine → List Event
 history_from past [] = past
-history_from past (line ∷ lines) = either_way (becomes past line) (λ e. history_from (e ∷ past) lines) (λ ending. past)
+history_from past (line ∷ lines) = either_way (applied past line) (λ e. history_from (e ∷ past) lines) (λ ending. past)
 
 abbrev pub history_of : List ScheduleLine → List Event
 history_of lines = history_from [] lines
@@ -118,7 +119,7 @@ flatten texts = flat_map (λ text. text) texts
 pub record IsReplayed (bytes : List ℕ) (texts : List (List ℕ)) (ending : Ending) : Type 0 where
   pub lines : List ScheduleLine
   pub spelt : SpellsSchedule bytes lines
-  pub told : texts ≡ transcript lines
+  pub written : texts ≡ transcript lines
   pub ends : ending ≡ ending_of lines
   pub right : IsRight (history_of lines)
   pub honest : IsHonest (history_of lines)
@@ -129,3 +130,8 @@ pub record IsReplayed (bytes : List ℕ) (texts : List (List ℕ)) (ending : End
 abbrev pub IsTranscript : List ℕ → List (List ℕ) → Ending → Type 0
 IsTranscript bytes texts (Malformed number) = IsMalformedAt bytes number × (texts ≡ [])
 IsTranscript bytes texts ending = IsReplayed bytes texts ending
+
+-- whole lines of the transcript of these bytes were appended, if they spell a schedule
+abbrev pub AppendsLines : List ℕ → Option (List ℕ) → Option (List ℕ) → Type 0
+AppendsLines bytes old new =
+    (lines : List ScheduleLine) → SpellsSchedule bytes lines → (k : ℕ) × Appends old new (flatten (take k (transcript lines)))

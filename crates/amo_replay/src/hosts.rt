@@ -1,21 +1,23 @@
-//! Both hosts, on one thread: an automaton for each side of every stream, with a world beside them.
-ghost use Rattle.std.specs.Prelude.{◌≡◌, ℕ, List, Option, [], ◌∷◌, Ok, IfOk, IfErr, IfSome, OnOk};
+//! Both hosts: the sides of every stream, with a world beside them that judges each event.
+ghost use Rattle.std.specs.Prelude.{◌≡◌, ℕ, List, length, Option, Some, [], ◌∷◌, Ok, IfOk, IfErr, OnOk};
 ghost use Rattle.std.specs.Option.{option_copied, option_map};
 ghost use Rattle.amo_packet.specs.declared.packet.OwnedPacket.{OwnedPacket};
 ghost use Rattle.amo_packet.specs.Grammar.{spelling};
 ghost use Rattle.amo_core.specs.Automaton.{Writes};
-ghost use Rattle.amo_core.specs.declared.reply.Reply.TheVariants as told;
 ghost use Rattle.amo_world.specs.declared.event.Event.{Event};
+ghost use Rattle.amo_core.specs.declared.reply.Reply.TheVariants as reply;
 ghost use Rattle.amo_world.specs.Stream.{IsStream};
+ghost use Rattle.amo_world.specs.History.{emissions};
 ghost use Rattle.amo_schedule.specs.Schedule.{InRange};
 ghost use Rattle.amo_schedule.specs.declared.line.ScheduleLine.TheVariants as line;
-ghost use Rattle.amo_replay.specs.Automata.{Represents};
-ghost use Rattle.amo_replay.specs.Transcript.{event_at, happening, becomes, right_reply, line_text};
-ghost use Rattle.amo_replay.specs.Stop.{StopsAt};
+ghost use Rattle.amo_replay.specs.Sides.{IsOwn, IsActOf};
+ghost use Rattle.amo_replay.specs.Hosts.{Agree};
+ghost use Rattle.amo_replay.specs.Transcript.{event_at, event_text, checked, applied, line_text};
+ghost use Rattle.amo_replay.specs.Stop.{StopsAs};
 ghost use Rattle.amo_replay.specs.declared.endings.Ending.TheVariants as ending;
 ghost use Rattle.amo_replay.specs.declared.stop.Stop.TheVariants as stop;
 
-use crate::automata::Automata;
+use crate::sides::Sides;
 use crate::stop::Stop;
 use crate::transcript::push_event;
 use crate::{Ending, ToolFault};
@@ -27,24 +29,21 @@ use amo_world::{Event, World, WorldFault};
 use std::alloc::{AllocError, Global};
 use std::marker::Model;
 
-/// Both hosts. Contracts see the history of what happened at them, the newest event first.
+/// Both hosts. Contracts see the history that the world accepted, and the one that pass 0 has seen of the book. They are the same
+/// where no other pass made an event, and that is known once the hosts are closed.
 #[derive(Drop)]
 pub(crate) struct Hosts {
     alloc: Global,
-    automata: Automata,
+    sides: Sides,
     world: World,
 }
 
 impl Model for Hosts {
-    ghost use Rattle.std.specs.Prelude.{List};
-    ghost use Rattle.amo_world.specs.declared.event.Event.{Event};
-    ghost use Rattle.amo_replay.specs.Automata.{Represents};
+    ghost use Rattle.amo_replay.specs.Hosts.{HostsState};
 
-    ghost Value = { List Event };
+    ghost Value = { HostsState };
 
-    ghost view = { λ h. h.world };
-
-    ghost invariant = { λ h. Represents h.automata h.world };
+    ghost view = { λ h. record { history = h.world; seen = h.sides } };
 }
 
 /// Room for the packet and the line of one event, used again for the next.
@@ -67,98 +66,28 @@ impl Page {
 impl Hosts {
     /// Both hosts, with nothing done yet.
     pub(crate) fn new(alloc: Global) -> Result<Hosts, AllocError>
-        ensures { IfOk result (λ hosts. hosts ≡ []) }
+        ensures { IfOk result (λ hosts. (hosts.history ≡ []) × (hosts.seen ≡ [])) }
     {
-        let automata = Automata::new(alloc)?;
+        let sides = Sides::new(alloc)?;
         let Ok(world) = World::new(alloc) else {
             return Err(AllocError);
         };
         Ok(Hosts {
             alloc,
-            automata,
+            sides,
             world,
         })
     }
 
-    /// Makes a line happen, and puts what is told of it into the page's text. A replay that stops needs no hosts any more.
-    pub(crate) fn perform(self, line: ScheduleLine, page: &mut Page) -> Result<Hosts, Stop>
-        requires { InRange line }
-        ensures happened { IfOk result (λ hosts. (e : Event) × (becomes self line ≡ Ok e) × (hosts ≡ e ∷ self)
-            × (page.new.text.items ≡ line_text self e)) }
-        ensures stopped { IfErr result (λ stop. StopsAt self line stop) }
-    {
-        match line {
-            ScheduleLine::Deliver(number, word) => self.deliver(number, word, page),
-            line => self.make(line, page),
-        }
-    }
-
-    /// Makes a line happen that delivers nothing.
-    fn make(self, line: ScheduleLine, page: &mut Page) -> Result<Hosts, Stop>
-        requires { InRange line }
-        ensures happened { IfOk result (λ hosts. (e : Event) × (becomes self line ≡ Ok e) × (hosts ≡ e ∷ self)
-            × (page.new.text.items ≡ line_text self e)) }
-        ensures stopped { IfErr result (λ stop. StopsAt self line stop) }
-    {
-        let number = self.world.event_count() + 1;
-        let Some(mut event) = self.happening(line)? else {
-            return Err(Stop::Ended(Ending::Unsent(number)));
-        };
-        let Hosts {
-            alloc,
-            mut automata,
-            mut world,
-        } = self;
-        let act = event.act.clone()?;
-        event.reply = step(&mut automata, &world, event.side, event.stream, act, page)?;
-        match world.apply(event) {
-            Ok(()) => Ok(Hosts {
-                alloc,
-                automata,
-                world,
-            }),
-            Err(fault) => Err(refusal(fault, number)),
-        }
-    }
-
-    /// Delivers the packet of this number. The world is given the number too, and so does not look for the packet.
-    fn deliver(self, packet: u64, word: u64, page: &mut Page) -> Result<Hosts, Stop>
-        ensures happened { IfOk result (λ hosts. (e : Event) × (becomes self (line.Deliver packet word) ≡ Ok e) × (hosts ≡ e ∷ self)
-            × (page.new.text.items ≡ line_text self e)) }
-        ensures stopped { IfErr result (λ stop. StopsAt self (line.Deliver packet word) stop) }
-    {
-        let place = self.world.event_count() + 1;
-        let Some(event) = self.delivery(packet, word)? else {
-            return Err(Stop::Ended(Ending::Unsent(place)));
-        };
-        let Hosts {
-            alloc,
-            mut automata,
-            mut world,
-        } = self;
-        step(
-            &mut automata,
-            &world,
-            event.side,
-            event.stream,
-            event.act,
-            page,
-        )?;
-        match world.apply_emitted(0, packet as usize, word) {
-            Ok(()) => Ok(Hosts {
-                alloc,
-                automata,
-                world,
-            }),
-            Err(fault) => Err(refusal(fault, place)),
-        }
-    }
-
-    /// What a line makes happen, whatever the reply, or nothing where it delivers a packet that was not emitted.
-    fn happening(&self, line: ScheduleLine) -> Result<Option<Event>, AllocError>
-        requires { InRange line }
-        ensures event { IfOk result (λ event. event ≡ happening self.now line) }
-        ensures stream { IfOk result (λ event. IfSome event (λ e. IsStream e.stream)) }
+    /// Applies a line, and puts its text into the page. After a stop the hosts can only be closed.
+    pub(crate) fn apply(&mut self, line: ScheduleLine, page: &mut Page) -> Result<(), Stop>
+        requires range { InRange line }
+        requires agree { Agree self.old }
+        ensures agree { OnOk result (Agree self.new) }
+        ensures own { IsOwn self.new.seen → IsOwn self.old.seen }
+        ensures applied { OnOk result (IsOwn self.new.seen → (e : Event) × (applied self.old.history line ≡ Ok e)
+            × (self.new.history ≡ e ∷ self.old.history) × (page.new.text.items ≡ line_text self.old.history e)) }
+        ensures stopped { IfErr result (λ stop. IsOwn self.new.seen → StopsAs (applied self.old.history line) stop) }
     {
         let (side, stream, act) = match line {
             ScheduleLine::Put(stream, message) => (End::Sender, stream, Act::Put(message)),
@@ -166,27 +95,70 @@ impl Hosts {
             ScheduleLine::Ack(stream) => (End::Sender, stream, Act::Ack),
             ScheduleLine::Start(stream, word) => (End::Sender, stream, Act::Start(word)),
             ScheduleLine::Resend(side, stream) => (side, stream, Act::Resend),
-            ScheduleLine::Deliver(number, word) => return self.delivery(number, word),
+            ScheduleLine::Deliver(number, word) => return self.deliver(number, word, page),
             ScheduleLine::Crash(side, stream) => (side, stream, Act::Crash),
             ScheduleLine::Recover(side, stream) => (side, stream, Act::Recover),
         };
-        Ok(Some(event_at(side, stream, act)))
+        self.act(side, stream, act, page)
     }
 
-    /// The delivery of the packet of this number to the other side of its stream.
-    fn delivery(&self, number: u64, word: u64) -> Result<Option<Event>, AllocError>
-        ensures event { IfOk result (λ event. event ≡ happening self.now (line.Deliver number word)) }
-        ensures stream { IfOk result (λ event. IfSome event (λ e. IsStream e.stream)) }
+    /// Makes an act that is no delivery at the book, and hands its event to the world.
+    fn act(&mut self, side: End, stream: u32, act: Act, page: &mut Page) -> Result<(), Stop>
+        requires stream { IsStream stream }
+        requires act { IsActOf side act }
+        requires agree { Agree self.old }
+        ensures agree { OnOk result (Agree self.new) }
+        ensures own { IsOwn self.new.seen → IsOwn self.old.seen }
+        ensures applied { OnOk result (IsOwn self.new.seen → (e : Event) × (checked self.old.history (Some (event_at side stream act reply.Done)) ≡ Ok e)
+            × (self.new.history ≡ e ∷ self.old.history) × (page.new.text.items ≡ line_text self.old.history e)) }
+        ensures stopped { IfErr result (λ stop. IsOwn self.new.seen → StopsAs (checked self.old.history (Some (event_at side stream act reply.Done))) stop) }
     {
-        let Some((side, packet)) = self.world.emitted(number as usize) else {
-            return Ok(None);
+        let number = self.world.event_count() + 1;
+        let copy = act.clone()?;
+        let (reply, length) = self.sides.act(side, stream, copy, &mut page.packet)?;
+        write_line(&self.world, &reply, length, page)?;
+        let event = Event {
+            pass: 0,
+            side,
+            stream,
+            act,
+            reply,
         };
-        // What was emitted is not too long.
-        let Ok(packet) = packet.to_owned(self.alloc) else {
-            return Err(AllocError);
+        match self.world.apply(event) {
+            Ok(()) => Ok(()),
+            Err(fault) => Err(refusal(fault, number)),
+        }
+    }
+
+    /// Delivers the packet of this number to the other side of its stream. The world is given the number too, and so does not look
+    /// for the packet.
+    fn deliver(&mut self, number: u64, word: u64, page: &mut Page) -> Result<(), Stop>
+        requires agree { Agree self.old }
+        ensures agree { OnOk result (Agree self.new) }
+        ensures own { IsOwn self.new.seen → IsOwn self.old.seen }
+        ensures applied { OnOk result (IsOwn self.new.seen → (e : Event) × (applied self.old.history (line.Deliver number word) ≡ Ok e)
+            × (self.new.history ≡ e ∷ self.old.history) × (page.new.text.items ≡ line_text self.old.history e)) }
+        ensures stopped { IfErr result (λ stop. IsOwn self.new.seen → StopsAs (applied self.old.history (line.Deliver number word)) stop) }
+    {
+        let place = self.world.event_count() + 1;
+        let Some((from, packet)) = self.world.emitted(number as usize) else {
+            return Err(Stop::Ended(Ending::Unsent(place)));
         };
-        let stream = packet.stream;
-        Ok(Some(event_at(side.other(), stream, Act::Deliver(packet, word))))
+        let length = self
+            .sides
+            .deliver(self.alloc, from.other(), &packet, word, &mut page.packet)?;
+        write_line(&self.world, &Reply::Done, length, page)?;
+        match self.world.apply_emitted(0, number as usize, word) {
+            Ok(()) => Ok(()),
+            Err(fault) => Err(refusal(fault, place)),
+        }
+    }
+
+    /// Closes the book. It has no events but those of pass 0.
+    pub(crate) fn close(self)
+        ensures { IsOwn self.seen }
+    {
+        self.sides.close();
     }
 }
 
@@ -203,47 +175,26 @@ fn refusal(fault: WorldFault, number: usize) -> Stop
     }
 }
 
-/// An act of pass 0 at a side of a stream, with the reply of an act of the host.
-fn event_at(side: End, stream: u32, act: Act) -> Event
-    ensures { result ≡ record { pass = 0; side = side; stream = stream; act = act; reply = told.Done } }
-{
-    Event {
-        pass: 0,
-        side,
-        stream,
-        act,
-        reply: Reply::Done,
-    }
-}
-
-/// Makes an act at its automaton, answers the reply that is right, and puts what is told of the event into the page's text.
-fn step(
-    automata: &mut Automata,
+/// Puts the line of the event that comes next into the page's text: its number, this reply, and the packet of this length at the
+/// front of the page's buffer, if there is one.
+fn write_line(
     world: &World,
-    side: End,
-    stream: u32,
-    act: Act,
+    reply: &Reply,
+    emitted: Option<usize>,
     page: &mut Page,
-) -> Result<Reply, AllocError>
-    requires stream { IsStream stream }
-    requires represents { Represents automata.old world.now }
-    ensures replied { IfOk result (λ reply. reply ≡ right_reply world.now side stream act) }
-    ensures represents { OnOk result ((e : Event) → e.side ≡ side → e.stream ≡ stream → e.act ≡ act → Represents automata.new (e ∷ world.now)) }
-    ensures told { IfOk result (λ reply. page.new.text.items ≡ line_text world.now (event_at side stream act reply)) }
+) -> Result<(), AllocError>
+    requires { (packet : Option OwnedPacket) × (old : List ℕ) × Writes packet old page.old.packet emitted }
+    ensures text { OnOk result ((packet : Option OwnedPacket) (old : List ℕ) → Writes packet old page.old.packet emitted
+        → page.new.text.items ≡ event_text (length world.now) reply.now (length (emissions world.now)) (option_map spelling packet)) }
 {
-    let outcome = automata.step(side, stream, act, &mut page.packet);
-    let reply = outcome.reply.unwrap_or(Reply::Done);
-    let number = world.event_count();
-    let emission = world.emission_count();
     page.text.clear();
     push_event(
         &mut page.text,
-        number,
-        &reply,
-        emission,
-        written(&page.packet, outcome.length),
-    )?;
-    Ok(reply)
+        world.event_count(),
+        reply,
+        world.emission_count(),
+        written(&page.packet, emitted),
+    )
 }
 
 /// What was written at the front of the buffer, if anything was.

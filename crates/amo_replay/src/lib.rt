@@ -1,18 +1,19 @@
-//! Replays schedules on both automata of every stream, with a world beside them, into the bytes of a transcript.
+//! Replays schedules on a book with both sides of every stream, with a world beside it, into the bytes of a transcript.
 //! It opens no file and knows no program: the bytes are handed in, and a sink takes what is written.
 //!
-//! - [`replay`] reads a schedule whole, makes its events happen in order, and writes a line for each.
+//! - [`replay`] reads a schedule whole, applies its lines in order, and writes a line for each event.
 //! - [`Ending`] is how that ended; [`ending`] writes the line of its fault and answers a status.
 //! - [`ToolFault`] is why neither came to its end.
 //!
 //! What a transcript is stands in `specs/Transcript.antt`, and how an ending is put into words in `specs/Ending.antt`.
 #![tactic(auto)]
 
-mod automata;
 mod endings;
 mod fault;
 mod hosts;
+mod replies;
 mod runner;
+mod sides;
 mod stop;
 mod tell;
 #[cfg(test)]

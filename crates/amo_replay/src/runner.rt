@@ -1,11 +1,13 @@
 //! Replays schedules.
-ghost use Rattle.std.specs.Prelude.{◌≡◌, ℕ, ◌+◌, List, ◌∷◌, take, Ok, IfOk, IfErr, OnOk, IsErrOf};
+ghost use Rattle.std.specs.Prelude.{◌≡◌, [], ℕ, ◌+◌, List, ◌∷◌, Ok, IfOk, IfErr, OnOk, IsErrOf};
 ghost use Rattle.std.specs.Io.KnownBytes.{Appends};
 ghost use Rattle.amo_world.specs.declared.event.Event.{Event};
 ghost use Rattle.amo_text.specs.Sink.{AppendsFront};
 ghost use Rattle.amo_schedule.specs.Schedule.{InRange, SpellsSchedule, IsSchedule};
 ghost use Rattle.amo_schedule.specs.declared.line.ScheduleLine.{ScheduleLine};
-ghost use Rattle.amo_replay.specs.Transcript.{becomes, line_text, transcript, flatten, IsTranscript};
+ghost use Rattle.amo_replay.specs.Transcript.{applied, line_text, transcript, flatten, IsTranscript, AppendsLines};
+ghost use Rattle.amo_replay.specs.Sides.{IsOwn};
+ghost use Rattle.amo_replay.specs.Hosts.{Agree};
 ghost use Rattle.amo_replay.specs.Stop.{StopsWriting, IsWhole, StopsReplay};
 ghost use Rattle.amo_replay.specs.declared.endings.Ending.TheVariants as ending;
 
@@ -22,30 +24,31 @@ pub fn replay<W: Sink>(alloc: Global, bytes: &[u8], sink: &mut W) -> Result<Endi
     // stream is served by it.
     ensures ok { IfOk result (λ ending. (texts : List (List ℕ)) × IsTranscript bytes.now texts ending
         × Appends (W.written sink.old) (W.written sink.new) (flatten texts)) }
-    // Whole lines of it are written where memory runs out.
-    ensures memory { IsErrOf result ToolFault.NoMemory → (lines : List ScheduleLine) → SpellsSchedule bytes.now lines
-        → (k : ℕ) × Appends (W.written sink.old) (W.written sink.new) (flatten (take k (transcript lines))) }
+    // Whole lines of it are written where memory runs out, or the book is busy.
+    ensures memory { IsErrOf result ToolFault.NoMemory → AppendsLines bytes.now (W.written sink.old) (W.written sink.new) }
+    ensures busy { IsErrOf result ToolFault.Busy → AppendsLines bytes.now (W.written sink.old) (W.written sink.new) }
     // A beginning of it is written where the device fails.
     ensures device { IsErrOf result ToolFault.Device → (lines : List ScheduleLine) → SpellsSchedule bytes.now lines
         → AppendsFront (W.written sink.old) (W.written sink.new) (flatten (transcript lines)) }
     ensures failed { IsErrOf result ToolFault.Device → W.failures sink.new ≡ W.failures sink.old + 1 }
+    ensures calm { ¬ (IsErrOf result ToolFault.Device) → W.failures sink.new ≡ W.failures sink.old }
     // Nothing is written of a malformed schedule, whatever the answer.
     ensures malformed { ((lines : List ScheduleLine) → ¬ (SpellsSchedule bytes.now lines)) → W.written sink.new ≡ W.written sink.old }
 {
-    let mut schedule = match Schedule::of(alloc, bytes) {
+    let mut schedule = match Schedule::of(bytes) {
         Ok(schedule) => schedule,
         Err(ScheduleFault::NoMemory) => return Err(ToolFault::NoMemory),
         Err(ScheduleFault::Malformed(line)) => return Ok(Ending::Malformed(line)),
     };
-    match make_happen(alloc, &mut schedule, sink) {
+    match replay_lines(alloc, &mut schedule, sink) {
         Ok(()) => Ok(Ending::Done),
         Err(Stop::Ended(ending)) => Ok(ending),
         Err(Stop::Failed(fault)) => Err(fault),
     }
 }
 
-/// Makes the lines of a schedule happen, one after another, and writes what is told of them.
-fn make_happen<W: Sink>(
+/// Replays the lines of a schedule, one after another, and closes the hosts, however that ends.
+fn replay_lines<W: Sink>(
     alloc: Global,
     schedule: &mut Schedule<'_>,
     sink: &mut W,
@@ -53,34 +56,58 @@ fn make_happen<W: Sink>(
     requires { IsSchedule schedule.old }
     ensures done { OnOk result ((lines : List ScheduleLine) → SpellsSchedule schedule.old lines
         → IsWhole lines ending.Done (W.written sink.old) (W.written sink.new)) }
+    ensures calm { OnOk result (W.failures sink.new ≡ W.failures sink.old) }
     ensures stopped { IfErr result (λ stop. (lines : List ScheduleLine) → SpellsSchedule schedule.old lines
         → StopsReplay lines (W.written sink.old) (W.written sink.new) (W.failures sink.old) (W.failures sink.new) stop) }
 {
     let mut hosts = Hosts::new(alloc)?;
+    let end = apply_lines(alloc, &mut hosts, schedule, sink);
+    hosts.close();
+    end
+}
+
+/// Applies the lines of a schedule to new hosts, and writes the line of each event.
+fn apply_lines<W: Sink>(
+    alloc: Global,
+    hosts: &mut Hosts,
+    schedule: &mut Schedule<'_>,
+    sink: &mut W,
+) -> Result<(), Stop>
+    requires schedule { IsSchedule schedule.old }
+    requires new { (hosts.old.history ≡ []) × (hosts.old.seen ≡ []) }
+    ensures done { OnOk result (IsOwn hosts.new.seen → (lines : List ScheduleLine) → SpellsSchedule schedule.old lines
+        → IsWhole lines ending.Done (W.written sink.old) (W.written sink.new)) }
+    ensures calm { OnOk result (W.failures sink.new ≡ W.failures sink.old) }
+    ensures stopped { IfErr result (λ stop. IsOwn hosts.new.seen → (lines : List ScheduleLine) → SpellsSchedule schedule.old lines
+        → StopsReplay lines (W.written sink.old) (W.written sink.new) (W.failures sink.old) (W.failures sink.new) stop) }
+{
     let mut page = Page::new(alloc);
     while let Some(line) = schedule.next_line(alloc)? {
-        hosts = step(hosts, line, &mut page, sink)?;
+        replay_line(hosts, line, &mut page, sink)?;
     }
     Ok(())
 }
 
-/// Makes a line happen, and writes what is told of it. Its text is made whole first.
-fn step<W: Sink>(
-    hosts: Hosts,
+/// Applies a line, and writes the line of its event, which is made whole first.
+fn replay_line<W: Sink>(
+    hosts: &mut Hosts,
     line: ScheduleLine,
     page: &mut Page,
     sink: &mut W,
-) -> Result<Hosts, Stop>
-    requires { InRange line }
-    ensures happened { IfOk result (λ next. (e : Event) × (becomes hosts line ≡ Ok e) × (next ≡ e ∷ hosts)
-        × Appends (W.written sink.old) (W.written sink.new) (line_text hosts e)) }
+) -> Result<(), Stop>
+    requires range { InRange line }
+    requires agree { Agree hosts.old }
+    ensures agree { OnOk result (Agree hosts.new) }
+    ensures own { IsOwn hosts.new.seen → IsOwn hosts.old.seen }
+    ensures applied { OnOk result (IsOwn hosts.new.seen → (e : Event) × (applied hosts.old.history line ≡ Ok e)
+        × (hosts.new.history ≡ e ∷ hosts.old.history) × Appends (W.written sink.old) (W.written sink.new) (line_text hosts.old.history e)) }
     ensures calm { OnOk result (W.failures sink.new ≡ W.failures sink.old) }
-    ensures stopped { IfErr result (λ stop.
-        StopsWriting hosts line (W.written sink.old) (W.written sink.new) (W.failures sink.old) (W.failures sink.new) stop) }
+    ensures stopped { IfErr result (λ stop. IsOwn hosts.new.seen →
+        StopsWriting hosts.old.history line (W.written sink.old) (W.written sink.new) (W.failures sink.old) (W.failures sink.new) stop) }
 {
-    let next = hosts.perform(line, page)?;
+    hosts.apply(line, page)?;
     match write_all(sink, page.text.as_slice()) {
-        Ok(()) => Ok(next),
+        Ok(()) => Ok(()),
         Err(_) => Err(Stop::Failed(ToolFault::Device)),
     }
 }

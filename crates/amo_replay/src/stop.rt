@@ -5,10 +5,21 @@ use std::alloc::AllocError;
 /// Why a replay goes no further.
 #[derive(Clone, Copy, Debug)]
 pub(crate) enum Stop {
-    /// A line cannot happen. This is how the replay ended.
+    /// A line cannot be applied. This is how the replay ended.
     Ended(Ending),
-    /// Memory was refused, or the device failed.
+    /// Memory was refused, the book was busy, or the device failed.
     Failed(ToolFault),
+}
+
+impl From<ToolFault> for Stop {
+    ghost use Rattle.std.specs.Prelude.{◌≡◌};
+    ghost use Rattle.amo_replay.specs.declared.stop.Stop.TheVariants.{Failed};
+
+    ghost from_gives = { λ fault stop. stop ≡ Failed fault };
+
+    fn from(fault: ToolFault) -> Stop {
+        Stop::Failed(fault)
+    }
 }
 
 impl From<AllocError> for Stop {

@@ -24,16 +24,14 @@ fn fault_line(alloc: Global, ending: &Ending) -> Result<String, AllocError>
 /// Writes the line of a replay's fault, nothing for one that is done, and answers the status to end with.
 pub fn ending<W: Sink>(alloc: Global, ending: &Ending, sink: &mut W) -> Result<u8, ToolFault>
     ensures status { IfOk result (λ status. status ≡ status_of ending.now) }
-    ensures told { IfOk result (λ status. Appends (W.written sink.old) (W.written sink.new) (fault_line ending.now)) }
+    ensures written { IfOk result (λ status. Appends (W.written sink.old) (W.written sink.new) (fault_line ending.now)) }
     ensures memory { IsErrOf result ToolFault.NoMemory → W.written sink.new ≡ W.written sink.old }
     ensures device { IsErrOf result ToolFault.Device → AppendsFront (W.written sink.old) (W.written sink.new) (fault_line ending.now) }
     ensures failed { IsErrOf result ToolFault.Device → W.failures sink.new ≡ W.failures sink.old + 1 }
+    ensures calm { ¬ (IsErrOf result ToolFault.Device) → W.failures sink.new ≡ W.failures sink.old }
+    ensures never_busy { ¬ (IsErrOf result ToolFault.Busy) }
 {
-    let Ok(text) = fault_line(alloc, ending) else {
-        return Err(ToolFault::NoMemory);
-    };
-    match write_all(sink, text.as_bytes()) {
-        Ok(()) => Ok(ending.status()),
-        Err(_) => Err(ToolFault::Device),
-    }
+    let text = fault_line(alloc, ending)?;
+    write_all(sink, text.as_bytes())?;
+    Ok(ending.status())
 }

@@ -24,8 +24,12 @@ fn printed<L: Ledger>(
     Ok((out.into_inner(), how))
 }
 
-/// What is told of an ending, and the status.
-fn told<L: Ledger>(alloc: Global, how: &Ending, blank: Blank) -> Result<(Vec<u8>, u8), ToolFault>
+/// The line of an ending's fault, and the status.
+fn fault_line<L: Ledger>(
+    alloc: Global,
+    how: &Ending,
+    blank: Blank,
+) -> Result<(Vec<u8>, u8), ToolFault>
     requires name { blank.name ≡ L.name }
     requires parts { blank.parts ≡ L.parts }
     requires some { 0 < L.parts }
@@ -89,7 +93,7 @@ fn tells_each_ending(rt: HostRuntime) -> Result<(), Fail> {
         (Ending::Repeat(13), "amo: line 13: repeat\n", 3),
     ];
     for (how, text, status) in rows {
-        let (line, with) = told::<Brand>(rt.alloc(), &how, Blank::new(1))?;
+        let (line, with) = fault_line::<Brand>(rt.alloc(), &how, Blank::new(1))?;
         assert_eq!(rt; line.as_slice(), text.as_bytes(), "{how:?}");
         assert_eq!(rt; with, status, "{how:?}");
     }
@@ -100,6 +104,7 @@ fn tells_each_ending(rt: HostRuntime) -> Result<(), Fail> {
 fn tells_each_fault(rt: HostRuntime) -> Result<(), Fail> {
     let rows = [
         (ToolFault::NoMemory, 9, "amo: out of memory"),
+        (ToolFault::Busy, 43, "amo: busy"),
         (ToolFault::Device, 71, "amo: device"),
     ];
     for (fault, code, text) in rows {

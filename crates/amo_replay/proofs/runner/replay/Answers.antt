@@ -4,19 +4,19 @@ use Rattle.amo_replay.specs.declared.endings.Ending.TheVariants.{Done}
 use Rattle.amo_replay.proofs.Replays.{is_transcript}
 use Rattle.amo_replay.proofs.runner.replay.Goals as goal
 
-pub returns-in-Ok-make_happen-clause-ok : goal.returns-in-Ok-make_happen-clause-ok
-returns-in-Ok-make_happen-clause-ok g c =
+pub returns-in-Ok-replay_lines-clause-ok : goal.returns-in-Ok-replay_lines-clause-ok
+returns-in-Ok-replay_lines-clause-ok g c =
     let (lines, spelt) = c.in-Ok.ensures.whole.1 in
-    let whole = c.in-Ok-make_happen.ensures.done lines (rw (sym c.in-Ok.ensures.whole.0) at spelt) in
+    let whole = c.in-Ok-replay_lines.ensures.done lines (rw (sym c.in-Ok.ensures.whole.0) at spelt) in
     (transcript lines, is_transcript c.args.bytes.now lines Done spelt whole.0, whole.1)
 
-pub returns-in-Ok-make_happen-clause-malformed : goal.returns-in-Ok-make_happen-clause-malformed
-returns-in-Ok-make_happen-clause-malformed g c = λ none. let (lines, spelt) = c.in-Ok.ensures.whole.1 in absurd (none lines spelt)
+pub returns-in-Ok-replay_lines-clause-malformed : goal.returns-in-Ok-replay_lines-clause-malformed
+returns-in-Ok-replay_lines-clause-malformed g c = λ none. let (lines, spelt) = c.in-Ok.ensures.whole.1 in absurd (none lines spelt)
 
 pub returns-in-Err-Ended-clause-ok : goal.returns-in-Err-Ended-clause-ok
 returns-in-Err-Ended-clause-ok g c =
     let (lines, spelt) = c.in-Ok.ensures.whole.1 in
-    let whole = (rw c.in-Err-Ended.field-0-is at c.in-Err-Ended.ensures.stopped) lines (rw (sym c.in-Ok.ensures.whole.0) at spelt) in
+    let whole = ((rw c.in-Err-Ended.field-0-is at c.in-Err-Ended.ensures.stopped) lines (rw (sym c.in-Ok.ensures.whole.0) at spelt)).0 in
     (transcript lines, is_transcript c.args.bytes.now lines c.in-Err-Ended.ending spelt whole.0, whole.1)
 
 pub returns-in-Err-Ended-clause-malformed : goal.returns-in-Err-Ended-clause-malformed

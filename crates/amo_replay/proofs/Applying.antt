@@ -1,4 +1,4 @@
--- What a line makes happen is right and honest.
+-- The event of a line is right and honest.
 use Rattle.std.proofs.Common.{◌≡◌, ℕ, ◌+◌, Bool, true, false, eqb, not, Option, None, Some, Result, Ok, Err, List, [], ◌∷◌, length, slice_get, if◌then◌else◌, refl, sym, ◌∙◌, ap, subst}
 use Rattle.std.specs.Prelude.{unwrap_or, nat_eq}
 use Rattle.std.specs.List.{Contains, list_any}
@@ -28,10 +28,10 @@ use Rattle.amo_packet.specs.declared.packet.OwnedPacket.{OwnedPacket}
 use Rattle.amo_packet.specs.Grammar.{spelling}
 use Rattle.amo_world.proofs.Kept.{emission_by}
 use Rattle.amo_world.proofs.Emitted.{start_is_done, resend_is_done, deliver_is_done, crash_is_done, recover_is_done, stands}
-use Rattle.amo_replay.specs.Transcript.{delivery, happening, replied, is_new, uses_new_word, checked, becomes}
+use Rattle.amo_replay.specs.Transcript.{delivery, event_of, replied, is_new, uses_new_word, checked, applied}
 use Rattle.amo_schedule.specs.declared.line.ScheduleLine.{ScheduleLine}
 use Rattle.amo_schedule.specs.declared.line.ScheduleLine.TheVariants.{Put, Get, Ack, Start, Resend, Deliver, Crash, Recover}
-use Rattle.amo_replay.specs.Stop.{StopsAt}
+use Rattle.amo_replay.specs.Stop.{StopsAs}
 use Rattle.amo_replay.specs.declared.stop.Stop.{Stop}
 use Rattle.amo_replay.specs.declared.stop.Stop.TheVariants.{Ended, Failed}
 use Rattle.amo_replay.specs.declared.fault.ToolFault.TheVariants as fault
@@ -76,15 +76,15 @@ delivers_right : (past : List Event) (number word : ℕ) (o : Option Emission) �
 delivers_right past number word None = tt
 delivers_right past number word (Some x) = is_done _ (deliver_is_done (stream_after x.packet.stream past) (other x.side) x.packet word)
 
-happens_right : (past : List Event) (line : ScheduleLine) → IfSome (happening past line) (HasReply past)
-happens_right past (Put s m) = put_has (stream_after s past).sender.state (stream_after s past).sender.state.mode m
-happens_right past (Get s) = get_has (stream_after s past).receiver.state (stream_after s past).receiver.state.mode
-happens_right past (Ack s) = ack_has (stream_after s past).sender.state (stream_after s past).sender.state.mode (stream_after s past).sender.state.waiting
-happens_right past (Start s word) = is_done _ (start_is_done (stream_after s past) word)
-happens_right past (Resend side s) = is_done _ (resend_is_done (stream_after s past) side)
-happens_right past (Deliver number word) = delivers_right past number word (slice_get (emissions past) number)
-happens_right past (Crash side s) = is_done _ (crash_is_done (stream_after s past) side)
-happens_right past (Recover side s) = is_done _ (recover_is_done (stream_after s past) side)
+line_right : (past : List Event) (line : ScheduleLine) → IfSome (event_of past line) (HasReply past)
+line_right past (Put s m) = put_has (stream_after s past).sender.state (stream_after s past).sender.state.mode m
+line_right past (Get s) = get_has (stream_after s past).receiver.state (stream_after s past).receiver.state.mode
+line_right past (Ack s) = ack_has (stream_after s past).sender.state (stream_after s past).sender.state.mode (stream_after s past).sender.state.waiting
+line_right past (Start s word) = is_done _ (start_is_done (stream_after s past) word)
+line_right past (Resend side s) = is_done _ (resend_is_done (stream_after s past) side)
+line_right past (Deliver number word) = delivers_right past number word (slice_get (emissions past) number)
+line_right past (Crash side s) = is_done _ (crash_is_done (stream_after s past) side)
+line_right past (Recover side s) = is_done _ (recover_is_done (stream_after s past) side)
 
 -- what is delivered was emitted
 other_other : (side : End) → other (other side) ≡ side
@@ -96,24 +96,24 @@ delivers_honest past number word None is = tt
 delivers_honest past number word (Some x) is =
     subst (λ (side : End). Contains (emitted_by (stream_after x.packet.stream past) side) x.packet) (sym (other_other x.side)) (stands past number x is)
 
-happens_honest : (past : List Event) (line : ScheduleLine) → IfSome (happening past line) (DeliversEmitted past)
-happens_honest past (Put s m) = tt
-happens_honest past (Get s) = tt
-happens_honest past (Ack s) = tt
-happens_honest past (Start s word) = tt
-happens_honest past (Resend side s) = tt
-happens_honest past (Deliver number word) = delivers_honest past number word (slice_get (emissions past) number) refl
-happens_honest past (Crash side s) = tt
-happens_honest past (Recover side s) = tt
+line_honest : (past : List Event) (line : ScheduleLine) → IfSome (event_of past line) (DeliversEmitted past)
+line_honest past (Put s m) = tt
+line_honest past (Get s) = tt
+line_honest past (Ack s) = tt
+line_honest past (Start s word) = tt
+line_honest past (Resend side s) = tt
+line_honest past (Deliver number word) = delivers_honest past number word (slice_get (emissions past) number) refl
+line_honest past (Crash side s) = tt
+line_honest past (Recover side s) = tt
 
 at_some : {X : Type 0} (o : Option X) (P : X → Type 0) (x : X) → o ≡ Some x → IfSome o P → P x
 at_some o P x is all = subst (λ (y : Option _). IfSome y P) is all
 
-pub right_of : (past : List Event) (line : ScheduleLine) (e : Event) → happening past line ≡ Some e → HasRightReply past (replied past e)
-right_of past line e is = at_some (happening past line) (HasReply past) e is (happens_right past line)
+pub right_of : (past : List Event) (line : ScheduleLine) (e : Event) → event_of past line ≡ Some e → HasRightReply past (replied past e)
+right_of past line e is = at_some (event_of past line) (HasReply past) e is (line_right past line)
 
-pub honest_of : (past : List Event) (line : ScheduleLine) (e : Event) → happening past line ≡ Some e → DeliversEmitted past (replied past e)
-honest_of past line e is = at_some (happening past line) (DeliversEmitted past) e is (happens_honest past line)
+pub honest_of : (past : List Event) (line : ScheduleLine) (e : Event) → event_of past line ≡ Some e → DeliversEmitted past (replied past e)
+honest_of past line e is = at_some (event_of past line) (DeliversEmitted past) e is (line_honest past line)
 
 -- a word is new where the list does not contain it
 same_number : (x y : ℕ) → nat_eq x y ≡ true → x ≡ y
@@ -141,7 +141,7 @@ fresh_of past e is = new_word (words_of (stream_before past e) e.side) (word_of 
 pub not_fresh_of : (past : List Event) (e : Event) → uses_new_word past e ≡ false → UsesNewWord past (replied past e) → ⊥
 not_fresh_of past e is = old_word (words_of (stream_before past e) e.side) (word_of (stream_before past e) e.side e.act) is
 
--- what becomes of an event, from what is known of its word
+-- what applying an event comes to, from what is known of its word
 abbrev the_check : Bool → List Event → Event → Result Event Ending
 the_check b past e = if b then Ok (replied past e) else Err (ending.Repeat (length past + 1))
 
@@ -149,64 +149,43 @@ abbrev ok_value : Event → Result Event Ending → Event
 ok_value d (Ok x) = x
 ok_value d (Err ending) = d
 
-abbrev happens : Event → Result Event Ending
-happens e = Ok e
+abbrev applies : Event → Result Event Ending
+applies e = Ok e
 
-ok_injective : (x y : Event) → happens x ≡ happens y → x ≡ y
+ok_injective : (x y : Event) → applies x ≡ applies y → x ≡ y
 ok_injective x y e = ap (ok_value x) e
 
 fresh_cases : (past : List Event) (e : Event) (b : Bool) → uses_new_word past e ≡ b → UsesNewWord past (replied past e) → b ≡ true
 fresh_cases past e true is new = refl
 fresh_cases past e false is new = absurd (not_fresh_of past e is new)
 
-pub becomes_event : (past : List Event) (line : ScheduleLine) (e : Event) → happening past line ≡ Some e → UsesNewWord past (replied past e) → becomes past line ≡ Ok (replied past e)
-becomes_event past line e is new =
-    ap (checked past) is ∙ ap (λ (b : Bool). the_check b past e) (fresh_cases past e (uses_new_word past e) refl new)
-
 repeat_cases : (past : List Event) (e : Event) (b : Bool) → uses_new_word past e ≡ b → (UsesNewWord past (replied past e) → ⊥) → b ≡ false
 repeat_cases past e true is old = absurd (old (fresh_of past e is))
 repeat_cases past e false is old = refl
 
-pub becomes_repeat : (past : List Event) (line : ScheduleLine) (e : Event) → happening past line ≡ Some e → (UsesNewWord past (replied past e) → ⊥) → becomes past line ≡ Err (ending.Repeat (length past + 1))
-becomes_repeat past line e is old =
-    ap (checked past) is ∙ ap (λ (b : Bool). the_check b past e) (repeat_cases past e (uses_new_word past e) refl old)
-
--- an event that happens is right, honest and fresh
-happened : (past : List Event) (line : ScheduleLine) (o : Option Event) (e : Event) → happening past line ≡ o → checked past o ≡ Ok e → HasRightReply past e × DeliversEmitted past e × UsesNewWord past e
-happened past line None e is ok = absurd (ended ok)
+-- an event that is applied is right, honest and fresh
+applied_event : (past : List Event) (line : ScheduleLine) (o : Option Event) (e : Event) → event_of past line ≡ o → checked past o ≡ Ok e → HasRightReply past e × DeliversEmitted past e × UsesNewWord past e
+applied_event past line None e is ok = absurd (ended ok)
   where
     ended : checked past None ≡ Ok e → ⊥
     ended h = cc
-happened past line (Some f) e is ok = cases (uses_new_word past f) refl ok
+applied_event past line (Some f) e is ok = cases (uses_new_word past f) refl ok
   where
     cases : (b : Bool) → uses_new_word past f ≡ b → the_check b past f ≡ Ok e → HasRightReply past e × DeliversEmitted past e × UsesNewWord past e
-    cases true new told = let same : replied past f ≡ e = ok_injective _ _ told in
+    cases true new answered = let same : replied past f ≡ e = ok_injective _ _ answered in
         subst (λ (x : Event). HasRightReply past x × DeliversEmitted past x × UsesNewWord past x) same (right_of past line f is, honest_of past line f is, fresh_of past f new)
-    cases false old told = absurd (differ told)
+    cases false old answered = absurd (differ answered)
       where
         differ : the_check false past f ≡ Ok e → ⊥
         differ h = cc
 
-pub happens_soundly : (past : List Event) (line : ScheduleLine) (e : Event) → becomes past line ≡ Ok e → HasRightReply past e × DeliversEmitted past e × UsesNewWord past e
-happens_soundly past line e is = happened past line (happening past line) e refl is
+pub applied_soundly : (past : List Event) (line : ScheduleLine) (e : Event) → applied past line ≡ Ok e → HasRightReply past e × DeliversEmitted past e × UsesNewWord past e
+applied_soundly past line e is = applied_event past line (event_of past line) e refl is
 
 -- the spelling of an event's emission
 pub spelt_emission : (side : End) (o : Option OwnedPacket) → option_map (λ x. spelling x.packet) (option_map (emission_by side) o) ≡ option_map spelling o
 spelt_emission side None = refl
 spelt_emission side (Some p) = refl
-
--- the same of an event that was told, in a world that is this history
-pub right_there : (past now : List Event) (line : ScheduleLine) (e told : Event) → now ≡ past → told ≡ replied past e → happening past line ≡ Some e → HasRightReply now told
-right_there past now line e told same reply is = subst (λ (p : List Event). HasRightReply p told) (sym same) (subst (λ (x : Event). HasRightReply past x) (sym reply) (right_of past line e is))
-
-pub honest_there : (past now : List Event) (line : ScheduleLine) (e told : Event) → now ≡ past → told ≡ replied past e → happening past line ≡ Some e → DeliversEmitted now told
-honest_there past now line e told same reply is = subst (λ (p : List Event). DeliversEmitted p told) (sym same) (subst (λ (x : Event). DeliversEmitted past x) (sym reply) (honest_of past line e is))
-
-pub fresh_there : (past now : List Event) (e told : Event) → now ≡ past → told ≡ replied past e → UsesNewWord now told → UsesNewWord past (replied past e)
-fresh_there past now e told same reply new = subst (λ (x : Event). UsesNewWord past x) reply (subst (λ (p : List Event). UsesNewWord p told) same new)
-
-pub not_fresh_there : (past now : List Event) (e told : Event) → now ≡ past → told ≡ replied past e → (UsesNewWord now told → ⊥) → UsesNewWord past (replied past e) → ⊥
-not_fresh_there past now e told same reply old new = old (subst (λ (p : List Event). UsesNewWord p told) (sym same) (subst (λ (x : Event). UsesNewWord past x) (sym reply) new))
 
 abbrev end_of : Ending → Result Event Ending → Ending
 end_of d (Ok e) = d
@@ -221,23 +200,30 @@ never_malformed past number None e = other_end (length past + 1) number (ap (end
 never_malformed past number (Some f) e = cases (uses_new_word past f) e
   where
     cases : (b : Bool) → the_check b past f ≡ Err (ending.Malformed number) → ⊥
-    cases true told = other_end number (ap (end_of ending.Done) told)
+    cases true answered = other_end number (ap (end_of ending.Done) answered)
       where
         other_end : (n : ℕ) → ending.Done ≡ ending.Malformed n → ⊥
         other_end n h = cc
-    cases false told = other_end (length past + 1) number (ap (end_of ending.Done) told)
+    cases false answered = other_end (length past + 1) number (ap (end_of ending.Done) answered)
       where
         other_end : (m n : ℕ) → ending.Repeat m ≡ ending.Malformed n → ⊥
         other_end m n h = cc
 
--- the fault of an event with the right reply that delivers what was emitted
-pub refused : (past now : List Event) (line : ScheduleLine) (e told : Event) (f : WorldFault) (s : Stop) (count : ℕ)
-    → now ≡ past → told ≡ replied past e → happening past line ≡ Some e → count ≡ length past
-    → (f ≡ WrongReply → ¬ (HasRightReply now told)) → (f ≡ Unsent → ¬ (DeliversEmitted now told)) → (f ≡ Repeat → ¬ (UsesNewWord now told))
-    → (f ≡ NoMemory → s ≡ Failed fault.NoMemory) → (f ≡ Repeat → s ≡ Ended (ending.Repeat (count + 1))) → StopsAt past line s
-refused past now line e told WrongReply s count same reply is counted wrong unsent repeat memory ended = absurd (wrong refl (right_there past now line e told same reply is))
-refused past now line e told Unsent s count same reply is counted wrong unsent repeat memory ended = absurd (unsent refl (honest_there past now line e told same reply is))
-refused past now line e told NoMemory s count same reply is counted wrong unsent repeat memory ended = subst (λ (x : Stop). StopsAt past line x) (sym (memory refl)) refl
-refused past now line e told Repeat s count same reply is counted wrong unsent repeat memory ended =
-    subst (λ (x : Stop). StopsAt past line x) (sym (ended refl))
-    (becomes_repeat past line e is (not_fresh_there past now e told same reply (repeat refl)) ∙ ap (λ (n : ℕ). Err (ending.Repeat (n + 1))) (sym counted))
+-- an event of a reply that is right, after a history
+pub checked_event : (past : List Event) (e answered : Event) → answered ≡ replied past e → UsesNewWord past answered → checked past (Some e) ≡ Ok answered
+checked_event past e answered is new =
+    ap (λ (b : Bool). the_check b past e) (fresh_cases past e (uses_new_word past e) refl (subst (λ (x : Event). UsesNewWord past x) is new))
+    ∙ ap applies (sym is)
+
+-- the fault of an event of a reply that is right, which delivers what was emitted
+pub refused : (past : List Event) (e answered : Event) (f : WorldFault) (s : Stop) (count : ℕ) → answered ≡ replied past e → count ≡ length past
+    → (f ≡ WrongReply → ⊥) → (f ≡ Unsent → ⊥) → (f ≡ Repeat → ¬ (UsesNewWord past answered))
+    → (f ≡ NoMemory → s ≡ Failed fault.NoMemory) → (f ≡ Repeat → s ≡ Ended (ending.Repeat (count + 1))) → StopsAs (checked past (Some e)) s
+refused past e answered WrongReply s count is counted wrong unsent repeat memory ended = absurd (wrong refl)
+refused past e answered Unsent s count is counted wrong unsent repeat memory ended = absurd (unsent refl)
+refused past e answered NoMemory s count is counted wrong unsent repeat memory ended =
+    subst (λ (x : Stop). StopsAs (checked past (Some e)) x) (sym (memory refl)) tt
+refused past e answered Repeat s count is counted wrong unsent repeat memory ended =
+    subst (λ (x : Stop). StopsAs (checked past (Some e)) x) (sym (ended refl))
+    (ap (λ (b : Bool). the_check b past e) (repeat_cases past e (uses_new_word past e) refl (λ new. repeat refl (subst (λ (x : Event). UsesNewWord past x) (sym is) new)))
+    ∙ ap (λ (n : ℕ). Err (ending.Repeat (n + 1))) (sym counted))
