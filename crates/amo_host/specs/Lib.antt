@@ -1,0 +1,9 @@
+pub mod Agenda
+pub mod Charges
+pub mod Fault
+pub mod Handshakes
+pub mod Host
+pub mod HostAct
+pub mod Modes
+pub mod Station
+pub mod Turn

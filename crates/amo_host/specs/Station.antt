@@ -1,0 +1,43 @@
+-- A pump, as contracts see it.
+use Rattle.std.specs.Prelude.{◌≡◌, ℕ, List, map}
+use Rattle.amo_book.specs.Book.{BookState, Each}
+use Rattle.amo_book.specs.Charge.{ChargeState, IsChargeOf}
+use Rattle.amo_book.specs.Pass.{PassState}
+use Rattle.amo_host.specs.Host.{Host, IsHost, fresh, next_place}
+use Rattle.amo_host.specs.Charges.{CanBeDriven, IsOfSide, stream_mode_of}
+use Rattle.amo_host.specs.declared.fault.NewPumpFault.{NewPumpFault}
+use Rattle.amo_host.specs.declared.fault.NewPumpFault.TheVariants.{Limits, NoMemory}
+
+-- the host that the pump drives, its charges, and the words that are still to come
+pub record Station (W : Type 0) : Type 0 where
+  pub host : Host
+  pub charges : List ChargeState
+  pub words : W
+
+-- The host is one of these charges, all of its side. So the permits that are out are exactly those of the streams whose charge
+-- answered NeedId or Send last, and no more than the window allows.
+pub record IsStation {W : Type 0} (s : Station W) : Type 0 where
+  pub host : IsHost s.host
+  pub modes : map stream_mode_of s.charges ≡ s.host.modes
+  pub sides : Each (IsOfSide s.host.side) s.charges
+
+-- the pass and all charges are this book's
+abbrev pub BelongTogether : {W : Type 0} → BookState → PassState → Station W → Type 0
+BelongTogether book pass s = (pass.book ≡ book.id) × Each (IsChargeOf book.id book.sides) s.charges
+
+-- a new pump: it has these charges and words, no permit is out, and no timer is set
+pub record Begins {W : Type 0} (charges : List ChargeState) (window : ℕ) (words : W) (s : Station W) : Type 0 where
+  pub charges_are : s.charges ≡ charges
+  pub words_are : s.words ≡ words
+  pub host : s.host ≡ fresh s.host.side (map stream_mode_of charges) window
+  pub station : IsStation s
+  pub lawful : CanBeDriven charges window
+
+-- no pump was made: charges and words come back, and Limits says that these charges or this window are not allowed
+abbrev pub Refuses : {W : Type 0} → List ChargeState → ℕ → W → NewPumpFault W → Type 0
+Refuses charges window words (Limits cs ws) = (cs.items ≡ charges) × (ws ≡ words) × ¬ (CanBeDriven charges window)
+Refuses charges window words (NoMemory cs ws) = (cs.items ≡ charges) × (ws ≡ words) × CanBeDriven charges window
+
+-- the rotation moved past this place
+abbrev pub moved_past : {W : Type 0} → Station W → ℕ → Station W
+moved_past s place = record s { host = record s.host { rotation = next_place s.host place } }

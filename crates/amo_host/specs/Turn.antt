@@ -1,0 +1,108 @@
+-- What a pump does in a turn.
+use Rattle.std.specs.Prelude.{◌≡◌, ℕ, ◌+◌, Bool, true, false, List, ◌⊎◌, Option, Some, None, slice_get, slice_set, Contains}
+use Rattle.std.specs.Borrow.{Bor}
+use Rattle.amo_object.specs.declared.step.End.{End}
+use Rattle.amo_packet.specs.declared.fault.ReadFault.{ReadFault}
+use Rattle.amo_packet.specs.declared.packet.OwnedPacket.{OwnedPacket}
+use Rattle.amo_packet.specs.declared.packet.OwnedBody.{OwnedBody}
+use Rattle.amo_packet.specs.declared.packet.OwnedBody.TheVariants as packet
+use Rattle.amo_packet.specs.Grammar.{Spells, CarriesNoBytes}
+use Rattle.amo_packet.specs.Fault.{first_fault}
+use Rattle.amo_core.specs.declared.act.Act.{Act}
+use Rattle.amo_core.specs.declared.act.Act.TheVariants as act
+use Rattle.amo_book.specs.Charge.{ChargeState}
+use Rattle.amo_book.specs.Drive.{Driven}
+use Rattle.amo_book.specs.Pass.{PassState}
+use Rattle.amo_book.specs.declared.drive.Done.{Done}
+use Rattle.amo_host.specs.declared.agenda.Task.TheVariants as task
+use Rattle.amo_host.specs.declared.fault.PumpFault.{PumpFault}
+use Rattle.amo_host.specs.declared.fault.PumpFault.TheVariants.{NoWord}
+use Rattle.amo_host.specs.declared.host_act.HostAct.{HostAct}
+use Rattle.amo_host.specs.declared.turned.Kind.{Kind}
+use Rattle.amo_host.specs.declared.turned.Kind.TheVariants as kind
+use Rattle.amo_host.specs.declared.turned.Turned.{Turned}
+use Rattle.amo_host.specs.declared.turned.Turned.TheVariants.{Idle, Unread, Stranger, Did}
+use Rattle.amo_host.specs.Charges.{stream_mode_of}
+use Rattle.amo_host.specs.Host.{IsNext, IsFor, Noted, streams_of}
+use Rattle.amo_host.specs.HostAct.{act_of, kind_of, is_resend}
+use Rattle.amo_host.specs.Station.{Station, moved_past}
+
+-- One event, at the charge in this place: the book's call did this act, the charge holds the mode that it answered, and the host
+-- has noted it. The pump s becomes t, and the pass v becomes w.
+pub record Happened {W : Type 0} (s t : Station W) (v w : PassState) (old new : List ℕ) (place now : ℕ) (a : Act) (resent : Bool) (side : End) (stream : ℕ) (done : Done) : Type 0 where
+  pub charge : ChargeState
+  pub at : slice_get s.charges place ≡ Some charge
+  pub of_side : side ≡ charge.side
+  pub of_stream : stream ≡ charge.stream
+  pub driven : Driven v w charge (record charge { mode = done.mode }) a old new done
+  pub charges : t.charges ≡ slice_set s.charges place (record charge { mode = done.mode })
+  pub noted : Noted s.host t.host place (stream_mode_of charge) resent done.mode now
+
+-- no event: pump, pass and buffer are as they were
+abbrev pub Nothing : {W : Type 0} → Station W → Station W → PassState → PassState → List ℕ → List ℕ → Type 0
+Nothing s t v w old new = (t ≡ s) × (w ≡ v) × (new ≡ old)
+
+-- the pump did this act at the charge in this place
+abbrev pub Performed : {W : Type 0} → Station W → Station W → PassState → PassState → List ℕ → List ℕ → ℕ → ℕ → HostAct → Turned → Type 0
+Performed s t v w old new place now a (Did side stream k done) =
+    (k ≡ kind_of a) × Happened s t v w old new place now (act_of a) (is_resend a) side stream done
+Performed s t v w old new place now a _ = ⊥
+
+-- a crash or a recovery: no charge is of this stream, or that charge's side went down, or came up again
+abbrev pub GoesDownOrUp : {W : Type 0} → Act → Kind → ℕ → ℕ → Station W → Station W → PassState → PassState → Turned → Type 0
+GoesDownOrUp a k stream now s t v w Stranger = ¬ (Contains (streams_of s.host.modes) stream) × (t ≡ s) × (w ≡ v)
+GoesDownOrUp a k stream now s t v w (Did side named j done) =
+    (place : ℕ) × (slice_get (streams_of s.host.modes) place ≡ Some stream) × (named ≡ stream) × (j ≡ k) × (done.length ≡ None) × (t.words ≡ s.words)
+    × ((old new : List ℕ) × Happened s t v w old new place now a false side named done)
+GoesDownOrUp a k stream now s t v w _ = ⊥
+
+-- all of the bytes spell a packet whose message has a byte
+abbrev pub BringsBytes : ℕ → Option (Bor (List ℕ)) → Type 0
+BringsBytes newest None = ⊥
+BringsBytes newest (Some bytes) = (p : OwnedPacket) × Spells newest bytes.now p × ¬ (CarriesNoBytes p.body)
+
+module _ {W : Type 0} (to_come : W → ℕ → Option ℕ) where
+  -- the word at the next place was drawn, and each later place moved up by one
+  pub record Drew (words rest : W) (word : ℕ) : Type 0 where
+    pub drawn : to_come words 0 ≡ Some word
+    pub later : (k : ℕ) → to_come rest k ≡ to_come words (k + 1)
+
+  -- the word of a delivery: the next one for a needuid, 0 for any other packet
+  abbrev pub DrewFor : OwnedBody → W → W → ℕ → Type 0
+  DrewFor (packet.NeedUid jd) words rest word = Drew words rest word
+  DrewFor _ words rest word = (rest ≡ words) × (word ≡ 0)
+
+  -- a turn without input: there is nothing to do, the first due stream is resent, or the next quiet charge is started
+  abbrev pub TurnsAlone : ℕ → Station W → Station W → PassState → PassState → List ℕ → List ℕ → Turned → Type 0
+  TurnsAlone now s t v w old new Idle = IsNext s.host now task.Idle × Nothing s t v w old new
+  TurnsAlone now s t v w old new (Did side stream kind.Resend done) =
+      (place : ℕ) × IsNext s.host now (task.Resend place) × (t.words ≡ s.words)
+      × Happened s t v w old new place now act.Resend true side stream done
+  TurnsAlone now s t v w old new (Did side stream (kind.Start word) done) =
+      (place : ℕ) × IsNext s.host now (task.Start place) × Drew s.words t.words word
+      × Happened (moved_past s place) t v w old new place now (act.Start word) false side stream done
+  TurnsAlone now s t v w old new _ = ⊥
+
+  -- a turn with these bytes: they spell no packet, one that is for no charge, or one that is delivered
+  abbrev pub TurnsWith : ℕ → List ℕ → ℕ → Station W → Station W → PassState → PassState → List ℕ → List ℕ → Turned → Type 0
+  TurnsWith newest bytes now s t v w old new (Unread fault) = (first_fault newest bytes ≡ Some fault) × Nothing s t v w old new
+  TurnsWith newest bytes now s t v w old new Stranger =
+      (p : OwnedPacket) × Spells newest bytes p × ((place : ℕ) → ¬ (IsFor s.host place p)) × Nothing s t v w old new
+  TurnsWith newest bytes now s t v w old new (Did side stream (kind.Deliver word) done) =
+      (p : OwnedPacket) × (place : ℕ) × Spells newest bytes p × IsFor s.host place p × DrewFor p.body s.words t.words word
+      × Happened s t v w old new place now (act.Deliver p word) false side stream done
+  TurnsWith newest bytes now s t v w old new _ = ⊥
+
+  -- a turn
+  abbrev pub Turns : ℕ → Option (Bor (List ℕ)) → ℕ → Station W → Station W → PassState → PassState → List ℕ → List ℕ → Turned → Type 0
+  Turns newest None now s t v w old new turned = TurnsAlone now s t v w old new turned
+  Turns newest (Some bytes) now s t v w old new turned = TurnsWith newest bytes.now now s t v w old new turned
+
+  -- a turn that failed made no event: a word that was drawn is gone, and the rotation may have moved on; NoWord says that there was no word
+  pub record Fails (s t : Station W) (v w : PassState) (old new : List ℕ) (fault : PumpFault) : Type 0 where
+    pub pass : w ≡ v
+    pub buffer : new ≡ old
+    pub charges : t.charges ≡ s.charges
+    pub host : t.host ≡ record s.host { rotation = t.host.rotation }
+    pub words : (t.words ≡ s.words) ⊎ ((k : ℕ) → to_come t.words k ≡ to_come s.words (k + 1))
+    pub lacks : fault ≡ NoWord → to_come s.words 0 ≡ None

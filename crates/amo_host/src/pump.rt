@@ -1,0 +1,201 @@
+//! Pumps: how one is made, crashes and recovers, and ends.
+ghost use Rattle.std.specs.Prelude.{◌≡◌, ◌≢◌, ◌<◌, ℕ, IfOk, IfErr, IsErrOf, IfSome, IfNone, Some, length, map, slice_get, Contains};
+ghost use Rattle.amo_core.specs.declared.mode.Mode.{Mode};
+ghost use Rattle.amo_core.specs.declared.act.Act.TheVariants as act;
+ghost use Rattle.amo_book.specs.Book.{Each};
+ghost use Rattle.amo_book.specs.Charge.{ChargeState};
+ghost use Rattle.amo_host.specs.declared.turned.Kind.TheVariants as kind;
+ghost use Rattle.amo_host.specs.Charges.{CanBeDriven, IsAtRest, IsOfSide, stream_mode_of};
+ghost use Rattle.amo_host.specs.Handshakes.{open_count};
+ghost use Rattle.amo_host.specs.Host.{IsHost, fresh, streams_of};
+ghost use Rattle.amo_host.specs.HostAct.{act_of, Suits, Carries};
+ghost use Rattle.amo_host.specs.Modes.{MayOpen};
+ghost use Rattle.amo_host.specs.Station.{IsStation, BelongTogether, Begins, Refuses};
+ghost use Rattle.amo_host.specs.Turn.{Nothing, Performed, GoesDownOrUp};
+
+use crate::agenda::Agenda;
+use crate::charges::{can_be_driven, modes_of};
+use crate::host_act::HostAct;
+use crate::{NewPumpFault, PumpFault, Turned};
+use amo_book::{Book, Charge, Pass};
+use amo_packet::MAX_PACKET;
+use amo_window::WindowFault;
+use amo_word::Words;
+use std::alloc::Global;
+use std::marker::Model;
+
+/// Drives the charges of one host. Contracts see the host, the charges, and the words that are still to come.
+///
+/// The room is made once, by [`Pump::new`]. Only a delivery of a message with a byte takes memory later.
+#[derive(Drop)]
+pub struct Pump<W> {
+    pub(crate) alloc: Global,
+    pub(crate) charges: Vec<Charge>,
+    pub(crate) agenda: Agenda,
+    pub(crate) words: W,
+}
+
+impl<W> Model for Pump<W> {
+    ghost use Rattle.amo_host.specs.Station.{Station, IsStation};
+
+    ghost Value = { Station W };
+
+    ghost view = { λ p. record { host = p.agenda; charges = p.charges.items; words = p.words } };
+
+    ghost invariant = { λ p. IsStation (record { host = p.agenda; charges = p.charges.items; words = p.words }) };
+}
+
+impl<W: Words + Drop> Pump<W> {
+    /// A pump of these charges, which are as their book gave them out. They are of one side, and rise by stream; the window is 1
+    /// to 64. A fault hands charges and words back.
+    pub fn new(
+        alloc: Global,
+        charges: Vec<Charge>,
+        window: usize,
+        words: W,
+    ) -> Result<Pump<W>, NewPumpFault<W>>
+        requires { Each IsAtRest charges.items }
+        ensures begins { IfOk result (Begins charges.items window words) }
+        ensures refused { IfErr result (Refuses charges.items window words) }
+    {
+        if !can_be_driven(&charges, window) {
+            return Err(NewPumpFault::Limits(charges, words));
+        }
+        match agenda_of(alloc, &charges, window) {
+            Ok(agenda) => Ok(Pump {
+                alloc,
+                charges,
+                agenda,
+                words,
+            }),
+            Err(WindowFault::NoMemory) => Err(NewPumpFault::NoMemory(charges, words)),
+            Err(WindowFault::Limits) => unreachable!(),
+        }
+    }
+
+    /// The side of this stream goes down, and forgets everything.
+    pub fn crash(
+        &mut self,
+        book: &Book,
+        pass: &mut Pass,
+        now: u64,
+        stream: u32,
+    ) -> Result<Turned, PumpFault>
+        requires { BelongTogether book.now pass.old self.old }
+        ensures ok { IfOk result (GoesDownOrUp act.Crash kind.Crash stream now self.old self.new pass.old pass.new) }
+        ensures busy { IfErr result (λ fault. (self.new ≡ self.old) × (pass.new ≡ pass.old) × (fault ≡ PumpFault.Busy)) }
+        ensures station { IsStation self.new × BelongTogether book.now pass.new self.new }
+    {
+        match self.place_of(stream) {
+            None => Ok(Turned::Stranger),
+            Some(place) => self.perform(
+                book,
+                pass,
+                now,
+                place,
+                HostAct::Crash,
+                &mut [0; MAX_PACKET],
+            ),
+        }
+    }
+
+    /// The side of this stream is up again.
+    pub fn recover(
+        &mut self,
+        book: &Book,
+        pass: &mut Pass,
+        now: u64,
+        stream: u32,
+    ) -> Result<Turned, PumpFault>
+        requires { BelongTogether book.now pass.old self.old }
+        ensures ok { IfOk result (GoesDownOrUp act.Recover kind.Recover stream now self.old self.new pass.old pass.new) }
+        ensures busy { IfErr result (λ fault. (self.new ≡ self.old) × (pass.new ≡ pass.old) × (fault ≡ PumpFault.Busy)) }
+        ensures station { IsStation self.new × BelongTogether book.now pass.new self.new }
+    {
+        match self.place_of(stream) {
+            None => Ok(Turned::Stranger),
+            Some(place) => self.perform(
+                book,
+                pass,
+                now,
+                place,
+                HostAct::Recover,
+                &mut [0; MAX_PACKET],
+            ),
+        }
+    }
+
+    /// From now on the words are these: those of the next incarnation.
+    pub fn renew(&mut self, words: W)
+        ensures renewed { self.new ≡ record self.old { words = words } }
+        ensures station { IsStation self.new }
+    {
+        self.words = words;
+    }
+
+    /// Gives all permits back, and hands the charges out, in their order.
+    pub fn finish(self) -> Vec<Charge>
+        ensures { result.items ≡ self.charges }
+    {
+        let Pump {
+            alloc: _,
+            charges,
+            agenda,
+            words,
+        } = self;
+        drop(agenda);
+        drop(words);
+        charges
+    }
+
+    /// The place of the charge of this stream.
+    fn place_of(&self, stream: u32) -> Option<usize>
+        ensures found { IfSome result (λ place. slice_get (streams_of self.now.host.modes) place ≡ Some stream) }
+        ensures within { IfSome result (λ place. place < length self.now.charges) }
+        ensures absent { IfNone result (¬ (Contains (streams_of self.now.host.modes) stream)) }
+        ensures station { IsStation self.now }
+    {
+        self.agenda.place_of(stream)
+    }
+
+    /// Performs this act at the charge in this place, and notes what it answered.
+    pub(crate) fn perform(
+        &mut self,
+        book: &Book,
+        pass: &mut Pass,
+        now: u64,
+        place: usize,
+        act: HostAct<'_>,
+        out: &mut [u8; MAX_PACKET],
+    ) -> Result<Turned, PumpFault>
+        requires together { BelongTogether book.now pass.old self.old }
+        requires place { place < length self.old.charges }
+        requires suits { (c : ChargeState) → slice_get self.old.charges place ≡ Some c → Suits act c }
+        requires free { (was : Mode) → MayOpen (act_of act) was → open_count self.old.host.permits < self.old.host.limit }
+        ensures done { IfOk result (Performed self.old self.new pass.old pass.new out.old out.new place now act.entry) }
+        ensures fault { IfErr result (λ fault. Nothing self.old self.new pass.old pass.new out.old out.new × (fault ≢ PumpFault.NoWord)) }
+        ensures words { self.new.words ≡ self.old.words }
+        ensures memory { IfErr result (λ fault. fault ≡ PumpFault.NoMemory → Carries act.entry) }
+        ensures station { IsStation self.new × BelongTogether book.now pass.new self.new }
+    {
+        let charge = &mut self.charges[place];
+        let side = charge.side();
+        let stream = charge.stream();
+        let done = act.perform(self.alloc, book, pass, charge, out)?;
+        self.agenda.note(place, act.is_resend(), done.mode, now);
+        Ok(Turned::Did(side, stream, act.kind(), done))
+    }
+}
+
+/// What a host knows of these charges at first.
+fn agenda_of(alloc: Global, charges: &[Charge], window: usize) -> Result<Agenda, WindowFault>
+    requires lawful { CanBeDriven charges.now window }
+    requires rest { Each IsAtRest charges.now }
+    ensures begins { IfOk result (λ h. (h ≡ fresh h.side (map stream_mode_of charges.now) window) × IsHost h) }
+    ensures side { IfOk result (λ h. Each (IsOfSide h.side) charges.now) }
+    ensures limits { ¬ (IsErrOf result WindowFault.Limits) }
+{
+    let side = charges[0].side();
+    let modes = modes_of(alloc, charges)?;
+    Agenda::new(alloc, side, modes, window)
+}

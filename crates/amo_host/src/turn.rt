@@ -1,0 +1,143 @@
+//! A pump's turns.
+ghost use Rattle.std.specs.Prelude.{◌≡◌, ◌≢◌, ◌<◌, ◌+◌, ℕ, IfOk, IfErr, IfSome, IfNone, Some, None, length};
+ghost use Rattle.std.specs.Borrow.{Bor};
+ghost use Rattle.amo_packet.specs.Packet.{packet_of, body_of};
+ghost use Rattle.amo_host.specs.Host.{IsNext, IsFor};
+ghost use Rattle.amo_host.specs.Station.{IsStation, BelongTogether, moved_past};
+ghost use Rattle.amo_host.specs.Turn.{Turns, TurnsAlone, TurnsWith, Fails, Drew, DrewFor, BringsBytes};
+
+use crate::agenda::Task;
+use crate::host_act::HostAct;
+use crate::{Pump, PumpFault, Turned};
+use amo_book::{Book, Pass};
+use amo_packet::{Body, MAX_PACKET, NEWEST_VERSION, Packet, read};
+use amo_word::Words;
+
+impl<W: Words + Drop> Pump<W> {
+    /// One turn, which makes at most one event. With a datagram, it is read, and delivered if it is a packet for one of the charges:
+    /// a needuid with the next word, any other packet with the word 0. Without one, the first stream that is due is resent, or
+    /// else the next quiet charge is started with the next word, if a permit is free. What is emitted stands at the front of the buffer.
+    ///
+    /// Where the turn fails no event was made. Only a message with a byte needs memory.
+    pub fn turn(
+        &mut self,
+        book: &Book,
+        pass: &mut Pass,
+        now: u64,
+        input: Option<&[u8]>,
+        out: &mut [u8; MAX_PACKET],
+    ) -> Result<Turned, PumpFault>
+        requires { BelongTogether book.now pass.old self.old }
+        ensures turned { IfOk result (Turns W.to_come NEWEST_VERSION input.entry now self.old self.new pass.old pass.new out.old out.new) }
+        ensures failed { IfErr result (Fails W.to_come self.old self.new pass.old pass.new out.old out.new) }
+        ensures memory { IfErr result (λ fault. fault ≡ PumpFault.NoMemory → BringsBytes NEWEST_VERSION input.entry) }
+        ensures station { IsStation self.new × BelongTogether book.now pass.new self.new }
+    {
+        match input {
+            None => self.turn_alone(book, pass, now, out),
+            Some(bytes) => self.turn_with(book, pass, now, bytes, out),
+        }
+    }
+
+    /// A turn without input.
+    fn turn_alone(
+        &mut self,
+        book: &Book,
+        pass: &mut Pass,
+        now: u64,
+        out: &mut [u8; MAX_PACKET],
+    ) -> Result<Turned, PumpFault>
+        requires { BelongTogether book.now pass.old self.old }
+        ensures turned { IfOk result (TurnsAlone W.to_come now self.old self.new pass.old pass.new out.old out.new) }
+        ensures failed { IfErr result (Fails W.to_come self.old self.new pass.old pass.new out.old out.new) }
+        ensures memory { IfErr result (λ fault. fault ≢ PumpFault.NoMemory) }
+        ensures station { IsStation self.new × BelongTogether book.now pass.new self.new }
+    {
+        match self.next(now) {
+            Task::Idle => Ok(Turned::Idle),
+            Task::Resend(place) => self.perform(book, pass, now, place, HostAct::Resend, out),
+            Task::Start(place) => {
+                let word = self.draw()?;
+                self.move_past(place);
+                self.perform(book, pass, now, place, HostAct::Start(word), out)
+            }
+        }
+    }
+
+    /// A turn with a datagram.
+    fn turn_with(
+        &mut self,
+        book: &Book,
+        pass: &mut Pass,
+        now: u64,
+        bytes: &[u8],
+        out: &mut [u8; MAX_PACKET],
+    ) -> Result<Turned, PumpFault>
+        requires { BelongTogether book.now pass.old self.old }
+        ensures turned { IfOk result (TurnsWith W.to_come NEWEST_VERSION bytes.now now self.old self.new pass.old pass.new out.old out.new) }
+        ensures failed { IfErr result (Fails W.to_come self.old self.new pass.old pass.new out.old out.new) }
+        ensures memory { IfErr result (λ fault. fault ≡ PumpFault.NoMemory → BringsBytes NEWEST_VERSION (Some bytes.entry)) }
+        ensures station { IsStation self.new × BelongTogether book.now pass.new self.new }
+    {
+        let _agenda = &self.agenda;
+        let packet = match read(bytes) {
+            Err(fault) => return Ok(Turned::Unread(fault)),
+            Ok(packet) => packet,
+        };
+        let Some(place) = self.addressed(&packet) else {
+            return Ok(Turned::Stranger);
+        };
+        let word = self.word_for(&packet)?;
+        self.perform(book, pass, now, place, HostAct::Deliver(packet, word), out)
+    }
+
+    /// What to do next without input.
+    fn next(&self, now: u64) -> Task
+        ensures next { IsNext self.now.host now result }
+        ensures station { IsStation self.now }
+    {
+        self.agenda.next(now)
+    }
+
+    /// The place of the charge that a packet is for.
+    fn addressed(&self, packet: &Packet<'_>) -> Option<usize>
+        ensures found { IfSome result (λ place. IsFor self.now.host place (packet_of packet.now)) }
+        ensures absent { IfNone result ((place : ℕ) → ¬ (IsFor self.now.host place (packet_of packet.now))) }
+        ensures station { IsStation self.now }
+    {
+        self.agenda.addressed(packet)
+    }
+
+    /// A start of the charge in this place was chosen.
+    fn move_past(&mut self, place: usize)
+        requires { place < length self.old.host.modes }
+        ensures moved { self.new ≡ moved_past self.old place }
+        ensures station { IsStation self.new }
+    {
+        self.agenda.move_past(place);
+    }
+
+    /// The next word.
+    fn draw(&mut self) -> Result<u64, PumpFault>
+        ensures drawn { IfOk result (Drew W.to_come self.old.words self.new.words) }
+        ensures lacks { IfErr result (λ fault. (fault ≡ PumpFault.NoWord) × (W.to_come self.old.words 0 ≡ None) × ((k : ℕ) → W.to_come self.new.words k ≡ W.to_come self.old.words (k + 1))) }
+        ensures rest { self.new ≡ record self.old { words = self.new.words } }
+        ensures station { IsStation self.new }
+    {
+        self.words.next().ok_or(PumpFault::NoWord)
+    }
+
+    /// The word that a packet is delivered with.
+    fn word_for(&mut self, packet: &Packet<'_>) -> Result<u64, PumpFault>
+        ensures drawn { IfOk result (DrewFor W.to_come (body_of packet.now.body) self.old.words self.new.words) }
+        ensures lacks { IfErr result (λ fault. (fault ≡ PumpFault.NoWord) × (W.to_come self.old.words 0 ≡ None) × ((k : ℕ) → W.to_come self.new.words k ≡ W.to_come self.old.words (k + 1))) }
+        ensures rest { self.new ≡ record self.old { words = self.new.words } }
+        ensures station { IsStation self.new }
+    {
+        let _words = &self.words;
+        match packet.body {
+            Body::NeedUid(_) => self.draw(),
+            _ => Ok(0),
+        }
+    }
+}

@@ -1,0 +1,32 @@
+//! What a turn answers.
+use amo_book::Done;
+use amo_object::End;
+use amo_packet::ReadFault;
+
+/// What a host did, with the word of a start or a delivery.
+#[derive(Clone, Copy, Debug, PartialEq, Eq)]
+pub enum Kind {
+    /// A handshake was begun, if a message waited, under this word.
+    Start(u64),
+    /// The packet of the mode was emitted again.
+    Resend,
+    /// A packet was delivered, with this word for an accept.
+    Deliver(u64),
+    /// The side went down.
+    Crash,
+    /// The side came up again.
+    Recover,
+}
+
+/// What came of a turn.
+#[derive(Clone, Copy, Debug, PartialEq, Eq)]
+pub enum Turned {
+    /// There was nothing to do.
+    Idle,
+    /// The datagram is no packet, for this reason.
+    Unread(ReadFault),
+    /// The packet, or the stream, is for none of the charges.
+    Stranger,
+    /// One event happened: at this side of this stream, of this kind, with this answer.
+    Did(End, u32, Kind, Done),
+}
