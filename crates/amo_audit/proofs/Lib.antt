@@ -1,0 +1,14 @@
+pub mod Fields
+pub mod Written
+pub mod Unambiguous
+pub mod Packets
+pub mod InFront
+pub mod Gaps
+pub mod ReadOn
+pub mod Found
+pub mod Good
+pub mod Sight
+pub mod Greedy
+pub mod Kept
+pub mod Steps
+pub mod Places

@@ -1,0 +1,32 @@
+-- The bytes of packets.
+use Rattle.std.proofs.Common.{◌≡◌, ℕ, suc, List, [], ◌∷◌, ◌++◌, length, subst}
+use Rattle.std.specs.List.{AllByRecursion}
+use Rattle.byteorder.specs.Endian.{big_bytes}
+use Rattle.hex.specs.Hex.{IsBytes}
+use Rattle.amo_packet.specs.declared.packet.OwnedPacket.{OwnedPacket}
+use Rattle.amo_packet.specs.declared.packet.OwnedBody.{OwnedBody}
+use Rattle.amo_packet.specs.declared.packet.OwnedBody.TheVariants.{NeedUid, Accept, Send, Ack, Cleanup}
+use Rattle.amo_packet.specs.Grammar.{header, version_of, kind_of, fields_of, spelling, messages_of, Spells}
+use Rattle.amo_audit.specs.Fields.{IsPacket}
+
+-- what stands behind is made of bytes, too
+bytes_behind : (xs ys : List ℕ) → IsBytes (xs ++ ys) → IsBytes ys
+bytes_behind [] ys bytes = bytes
+bytes_behind (x ∷ xs) ys bytes = bytes_behind xs ys (λ i. bytes (suc i))
+
+in_fields : (body : OwnedBody) → IsBytes (fields_of body) → AllByRecursion IsBytes (messages_of body)
+in_fields (NeedUid jd) bytes = tt
+in_fields (Accept jd id) bytes = tt
+in_fields (Send id m) bytes = (bytes_behind (big_bytes 8 id ++ big_bytes 2 (length m)) m bytes, tt)
+in_fields (Ack id got) bytes = tt
+in_fields (Cleanup id) bytes = tt
+
+-- the messages of a packet that bytes spell are made of bytes
+messages_in : (p : OwnedPacket) → IsBytes (spelling p) → AllByRecursion IsBytes (messages_of p.body)
+unfolding spelling
+messages_in p bytes = in_fields p.body (bytes_behind (header (version_of p.body) (kind_of p.body) p.stream) (fields_of p.body) bytes)
+
+-- what bytes spell is a packet of a field
+pub packet_spelt : (bytes : List ℕ) (newest : ℕ) (p q : OwnedPacket) → IsBytes bytes → Spells newest bytes p → q ≡ p → IsPacket q × (bytes ≡ spelling q)
+packet_spelt bytes newest p q known spells same =
+    rw same ((spells.fits, messages_in p (subst IsBytes spells.exact known)), spells.exact)

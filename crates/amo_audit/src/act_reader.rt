@@ -1,0 +1,108 @@
+//! Reads the act of a line.
+ghost use Rattle.std.specs.Prelude.{◌≡◌, ◌≢◌, ℕ, ◌<◌, ◌^◌, ◌∷◌, ◌++◌, List, codes, IfOk, IfSome, IfNone};
+ghost use Rattle.amo_packet.specs.declared.packet.OwnedPacket.{OwnedPacket};
+ghost use Rattle.amo_packet.specs.Grammar.{spelling};
+ghost use Rattle.amo_core.specs.declared.act.Act.{Act};
+ghost use Rattle.amo_text.specs.Hexadecimal.{hex};
+ghost use Rattle.amo_audit.specs.Fields.{IsAct, IsPacket, act_and};
+
+use crate::line_reader::next_number;
+use amo_packet::{MAX_PACKET, OwnedPacket, read};
+use amo_text::{next_field, read_hex, read_message};
+use amo_world::Act;
+use std::alloc::{AllocError, Global};
+
+/// The act in front, at whichever side, and what stands behind the space after it.
+pub(crate) fn next_act(alloc: Global, text: &[u8]) -> Result<Option<(Act, &[u8])>, AllocError>
+    ensures found { IfOk result (λ read. IfSome read (λ a. IsAct a.0 × (text.now ≡ act_and a.0 a.1.now))) }
+    ensures none { IfOk result (λ read. IfNone read ((a : Act) (rest : List ℕ) → IsAct a → text.now ≢ act_and a rest)) }
+{
+    let Some((command, rest)) = next_field(text) else {
+        return Ok(None);
+    };
+    if command == b"put".as_slice() {
+        next_put(alloc, rest)
+    } else if command == b"get".as_slice() {
+        Ok(Some((Act::Get, rest)))
+    } else if command == b"ack".as_slice() {
+        Ok(Some((Act::Ack, rest)))
+    } else if command == b"start".as_slice() {
+        Ok(next_start(rest))
+    } else if command == b"resend".as_slice() {
+        Ok(Some((Act::Resend, rest)))
+    } else if command == b"deliver".as_slice() {
+        next_delivery(alloc, rest)
+    } else if command == b"crash".as_slice() {
+        Ok(Some((Act::Crash, rest)))
+    } else if command == b"recover".as_slice() {
+        Ok(Some((Act::Recover, rest)))
+    } else {
+        Ok(None)
+    }
+}
+
+/// The put of which these are the fields after the first, and what stands behind it.
+fn next_put(alloc: Global, text: &[u8]) -> Result<Option<(Act, &[u8])>, AllocError>
+    ensures found { IfOk result (λ read. IfSome read (λ a. IsAct a.0 × (codes "put" ++ 32 ∷ text.now ≡ act_and a.0 a.1.now))) }
+    ensures none { IfOk result (λ read. IfNone read ((a : Act) (rest : List ℕ) → IsAct a → codes "put" ++ 32 ∷ text.now ≢ act_and a rest)) }
+{
+    let Some((field, rest)) = next_field(text) else {
+        return Ok(None);
+    };
+    let Some(message) = read_message(alloc, field)? else {
+        return Ok(None);
+    };
+    Ok(Some((Act::Put(message), rest)))
+}
+
+/// The start of which these are the fields after the first, and what stands behind it.
+fn next_start(text: &[u8]) -> Option<(Act, &[u8])>
+    ensures found { IfSome result (λ a. IsAct a.0 × (codes "start" ++ 32 ∷ text.now ≡ act_and a.0 a.1.now)) }
+    ensures none { IfNone result ((a : Act) (rest : List ℕ) → IsAct a → codes "start" ++ 32 ∷ text.now ≢ act_and a rest) }
+{
+    let (word, rest) = next_number(text)?;
+    Some((Act::Start(word), rest))
+}
+
+/// The delivery of which these are the fields after the first, and what stands behind it.
+fn next_delivery(alloc: Global, text: &[u8]) -> Result<Option<(Act, &[u8])>, AllocError>
+    ensures found { IfOk result (λ read. IfSome read (λ a. IsAct a.0 × (codes "deliver" ++ 32 ∷ text.now ≡ act_and a.0 a.1.now))) }
+    ensures none { IfOk result (λ read. IfNone read ((a : Act) (rest : List ℕ) → IsAct a → codes "deliver" ++ 32 ∷ text.now ≢ act_and a rest)) }
+{
+    let Some((field, rest)) = next_field(text) else {
+        return Ok(None);
+    };
+    let Some((word, rest)) = next_number(rest) else {
+        return Ok(None);
+    };
+    let Some(packet) = read_packet(alloc, field)? else {
+        return Ok(None);
+    };
+    Ok(Some((Act::Deliver(packet, word), rest)))
+}
+
+/// The packet that this field spells.
+fn read_packet(alloc: Global, field: &[u8]) -> Result<Option<OwnedPacket>, AllocError>
+    ensures found { IfOk result (λ read. IfSome read (λ p. IsPacket p × (field.now ≡ hex (spelling p)))) }
+    ensures none { IfOk result (λ read. IfNone read ((p : OwnedPacket) → IsPacket p → field.now ≢ hex (spelling p))) }
+{
+    let mut room = [0; MAX_PACKET];
+    let Some(count) = read_hex(field, &mut room) else {
+        return Ok(None);
+    };
+    let Some(packet) = owned_packet(alloc, &room[..count])? else {
+        return Ok(None);
+    };
+    Ok(Some(packet))
+}
+
+/// The packet that these bytes spell, with its message copied.
+fn owned_packet(alloc: Global, bytes: &[u8]) -> Result<Option<OwnedPacket>, AllocError>
+    ensures found { IfOk result (λ read. IfSome read (λ p. IsPacket p × (bytes.now ≡ spelling p))) }
+    ensures none { IfOk result (λ read. IfNone read ((p : OwnedPacket) → IsPacket p → bytes.now ≢ spelling p)) }
+{
+    let Ok(packet) = read(bytes) else {
+        return Ok(None);
+    };
+    Ok(Some(packet.copied(alloc)?))
+}

@@ -1,0 +1,102 @@
+//! Writes journals.
+ghost use Rattle.std.specs.Prelude.{◌≡◌, ◌<◌, ◌↔◌, ◌⊎◌, ◌++◌, ◌∷◌, [], ℕ, List, All, OnOk, OnErr, IfErr, IsErrOf};
+ghost use Rattle.std.specs.Io.KnownBytes.{Appends};
+ghost use Rattle.amo_text.specs.Line.{text_of, line_of};
+ghost use Rattle.amo_text.specs.Side.{letter_of};
+ghost use Rattle.amo_text.specs.Sink.{AppendsFront};
+ghost use Rattle.amo_audit.specs.Journal.{CanSpell, IsJournal, act_fields, fields_of};
+
+use crate::JournalFault;
+use amo_object::End;
+use amo_packet::{MAX_PACKET, OwnedPacket, write};
+use amo_text::{Sink, push_decimal, push_hex, push_reply, write_all};
+use amo_world::{Act, Event};
+use std::alloc::{AllocError, Global};
+
+/// Writes the journal of these events, in the order of time, each of which has a line ([`crate::can_spell`]).
+///
+/// A line is made whole and then written. Where memory or the sink fails, a beginning of the journal was appended.
+pub fn write_journal<W: Sink>(
+    alloc: Global,
+    events: &[Event],
+    sink: &mut W,
+) -> Result<(), JournalFault>
+    requires { All CanSpell events.now }
+    ensures written { OnOk result ((bytes : List ℕ) × IsJournal events.now bytes × Appends (W.written sink.old) (W.written sink.new) bytes) }
+    ensures begun { OnErr result ((bytes : List ℕ) × IsJournal events.now bytes × AppendsFront (W.written sink.old) (W.written sink.new) bytes) }
+    ensures faults { IfErr result (λ fault. (fault ≡ JournalFault.NoMemory) ⊎ (fault ≡ JournalFault.Device)) }
+    ensures device { IsErrOf result JournalFault.Device ↔ (W.failures sink.old < W.failures sink.new) }
+{
+    let mut text = Vec::new(alloc);
+    for number in 0..events.len() {
+        text.clear();
+        push_line(&mut text, number as u64, &events[number])?;
+        write_all(sink, text.as_slice())?;
+    }
+    Ok(())
+}
+
+/// Appends the line of the event of this number.
+fn push_line(text: &mut Vec<u8>, number: u64, event: &Event) -> Result<(), AllocError>
+    ensures { OnOk result (text.new.items ≡ text.old.items ++ line_of (fields_of (record { number = number; event = event.now }))) }
+{
+    push_decimal(text, number)?;
+    text.push(b' ')?;
+    push_decimal(text, event.pass as u64)?;
+    text.push(b' ')?;
+    push_side(text, event.side)?;
+    text.push(b' ')?;
+    push_decimal(text, event.stream as u64)?;
+    text.push(b' ')?;
+    push_act(text, &event.act)?;
+    text.push(b' ')?;
+    push_reply(text, &event.reply)?;
+    text.push(b'\n')?;
+    Ok(())
+}
+
+/// Appends the letter of a side.
+fn push_side(text: &mut Vec<u8>, side: End) -> Result<(), AllocError>
+    ensures { OnOk result (text.new.items ≡ text.old.items ++ letter_of side) }
+{
+    text.extend_from_slice(match side {
+        End::Sender => b"s",
+        End::Receiver => b"r",
+    })
+}
+
+/// Appends the fields of an act.
+fn push_act(text: &mut Vec<u8>, act: &Act) -> Result<(), AllocError>
+    ensures { OnOk result (text.new.items ≡ text.old.items ++ text_of (act_fields act.now)) }
+{
+    match act {
+        Act::Put(message) => {
+            text.extend_from_slice(b"put ")?;
+            push_hex(text, message.bytes())
+        }
+        Act::Get => text.extend_from_slice(b"get"),
+        Act::Ack => text.extend_from_slice(b"ack"),
+        Act::Start(word) => {
+            text.extend_from_slice(b"start ")?;
+            push_decimal(text, *word)
+        }
+        Act::Resend => text.extend_from_slice(b"resend"),
+        Act::Deliver(packet, word) => push_delivery(text, packet, *word),
+        Act::Crash => text.extend_from_slice(b"crash"),
+        Act::Recover => text.extend_from_slice(b"recover"),
+    }
+}
+
+/// Appends the fields of a delivery.
+fn push_delivery(text: &mut Vec<u8>, packet: &OwnedPacket, word: u64) -> Result<(), AllocError>
+    ensures { OnOk result (text.new.items ≡ text.old.items ++ text_of (act_fields (Act.Deliver packet.now word))) }
+{
+    let mut room = [0; MAX_PACKET];
+    let Ok(length) = write(&packet.as_packet(), &mut room) else {
+        unreachable!()
+    };
+    text.extend_from_slice(b"deliver ")?;
+    push_hex(text, &room[..length])?;
+    text.push(b' ')?;
+    push_decimal(text, word)
+}
