@@ -6,6 +6,8 @@ use thiserror::Error;
 pub enum Settings {
     /// Replay the schedule in this file.
     Replay(String),
+    /// Audit the journal in this file.
+    Audit(String),
 }
 
 /// Why the program's arguments are no settings.

@@ -1,5 +1,5 @@
-//! The program `amo`: replays schedules on both automata of 256 streams, and prints what they reply and emit.
-//! It opens no socket and starts no thread yet.
+//! The program `amo`: replays schedules on a book with both sides of 256 streams, and prints what they reply and emit; and
+//! audits journals. It opens no socket and starts no thread yet.
 //!
 //! `arguments` reads the program's arguments, and `choice` is what they choose.
 #![tactic(auto)]
@@ -13,6 +13,7 @@ mod tests;
 
 use crate::arguments::{not_text, settings};
 use crate::choice::{ArgumentsFault, Settings};
+use amo_audit::{JournalFault, report};
 use amo_replay::{Ending, ToolFault, ending, replay};
 use amo_text::Out;
 use std::io::{BufWriter, ErrorKind, Printer, Write};
@@ -22,7 +23,7 @@ use std::rt::{Env, Files};
 use std::sync::ledger::{Blank, Ledger};
 use std::{env, fs, io};
 
-/// The status where memory or a device failed.
+/// The status where memory or a device failed, or a book was busy.
 const FAILED: u8 = 4;
 
 fn main(rt: HostRuntime) -> ExitCode {
@@ -33,6 +34,7 @@ fn main(rt: HostRuntime) -> ExitCode {
 fn run<R: AllocGlobal + Env + Files + Print + Eprint, E: Write + Drop>(rt: &R, errors: E) -> u8 {
     let done = match choose(rt) {
         Ok(Settings::Replay(file)) => replay_file(rt, file.as_str(), errors),
+        Ok(Settings::Audit(file)) => audit_file(rt, file.as_str()),
         Err(ArgumentsFault::Text(text, status)) => show(rt, text.as_str(), status),
         Err(ArgumentsFault::NoMemory) => Err(ToolFault::NoMemory),
     };
@@ -82,6 +84,12 @@ fn replay_file<R: AllocGlobal + Files + Print, E: Write + Drop>(
     tell_ending::<R, E, Brand>(rt, &how, errors, Blank::new(1))
 }
 
+/// Audits a file, tells the verdict, and answers the status to end with.
+fn audit_file<R: AllocGlobal + Files + Print>(rt: &R, file: &str) -> Result<u8, ToolFault> {
+    let bytes = read_file(rt, file)?;
+    audit_bytes::<R, Brand>(rt, bytes.as_slice(), Blank::new(1))
+}
+
 /// The bytes of a file.
 fn read_file<R: AllocGlobal + Files>(rt: &R, file: &str) -> Result<Vec<u8>, ToolFault> {
     match fs::read(rt, file) {
@@ -120,6 +128,25 @@ fn replay_bytes<R: AllocGlobal + Print, L: Ledger>(
     }
 }
 
+/// Tells the verdict on the bytes of a journal on standard output. What was written has left when it answers.
+fn audit_bytes<R: AllocGlobal + Print, L: Ledger>(
+    rt: &R,
+    bytes: &[u8],
+    blank: Blank,
+) -> Result<u8, ToolFault>
+    requires name { blank.name ≡ L.name }
+    requires parts { blank.parts ≡ L.parts }
+    requires some { 0 < L.parts }
+{
+    let mut out = Out::<Printer<'_, R>, L>::new(io::writer(rt), blank);
+    let told = report(rt.alloc(), bytes, &mut out);
+    match (told, out.into_inner().flush()) {
+        (Ok(status), Ok(())) => Ok(status),
+        (Err(JournalFault::NoMemory), _) => Err(ToolFault::NoMemory),
+        (_, _) => Err(ToolFault::Device),
+    }
+}
+
 /// Tells how a replay ended, and answers the status to end with, which stays where standard error does not take it.
 fn tell_ending<R: AllocGlobal, E: Write + Drop, L: Ledger>(
     rt: &R,
@@ -134,6 +161,6 @@ fn tell_ending<R: AllocGlobal, E: Write + Drop, L: Ledger>(
     let mut out = Out::<E, L>::new(errors, blank);
     match ending(rt.alloc(), how, &mut out) {
         Err(ToolFault::Device) => Ok(how.status()),
-        told => told,
+        status => status,
     }
 }

@@ -19,20 +19,23 @@ Usage: amo <COMMAND>
 
 Commands:
   replay  Replays a schedule, and prints a line for each event
+  audit   Audits a journal, and prints a line with the verdict
   help    Print this message or the help of the given subcommand(s)
 
 Options:
   -h, --help     Print help
   -V, --version  Print version
 
-Example:
+Examples:
   amo replay examples/handshake.schedule
+  amo audit examples/good_journal.journal
 
 Status:
-  0  done
-  2  a malformed schedule, or arguments that do not parse
+  0  done; of an audit: yes
+  1  an audit found a wrong reply
+  2  a malformed schedule or journal, a gap in a journal, or arguments that do not parse
   3  a premise is broken: a packet that nobody emitted, or a word used twice
-  4  out of memory, or a file or standard output that cannot be opened, read or written
+  4  out of memory, busy, or a file or standard output that cannot be opened, read or written
 
 Faults go to standard error. `amo: device` is a file or standard output that failed,
 also where there is no such file.
@@ -66,6 +69,7 @@ Replies are ok, full, down, got HEX, nothing, yes, no, notyet and done.
 
 Limits:
   256 streams, numbered from 1; 1,024 bytes a message; 16 messages waiting on a stream
+  K and WORD are from 0 to 18446744073709551615; no number has a leading zero
 
 Status:
   0  every line was replayed
@@ -73,10 +77,52 @@ Status:
   3  `amo: line L: unsent`: it delivers a packet that was not emitted before
      `amo: line L: repeat`: it uses a word a second time
   4  `amo: out of memory`
+     `amo: busy`: another call was at work at a side
      `amo: device`: the file or standard output failed, or there is no such file
 
 Example:
   amo replay examples/handshake.schedule
+";
+
+const AUDIT_HELP: &str = "Audits a journal, and prints a line with the verdict
+
+Usage: amo audit <FILE>
+
+Arguments:
+  <FILE>  The journal
+
+Options:
+  -h, --help  Print help
+
+A journal is a list of lines, each with one line feed at its end, numbered from 0 in order:
+  NUMBER PASS SIDE STREAM ACT REPLY
+
+PASS is 0 to 63, SIDE is s for a sender and r for a receiver, STREAM is 1 to 256. ACT and REPLY are:
+  put HEX           at s:  ok, full or down
+  ack               at s:  yes, no, notyet or down
+  get               at r:  got HEX, nothing or down
+  start WORD        at s:  done
+  resend            done
+  deliver HEX WORD  done; HEX is a packet of that stream
+  crash             done
+  recover           done
+
+Verdicts, each a line on standard output, and their status:
+  0  `yes`: each reply is the protocol's, each packet delivered was emitted before, no word is
+     used twice; so each stream's clients saw what the at-most-once queue allows
+  1  `wrong reply at line L`: of the event of line L, counted from 1
+  2  `malformed at line L`: line L is no line
+     `gap at line L`: its number is not L - 1
+  3  `unsent at line L`: it delivers a packet that was not emitted before
+     `repeat at line L`: it uses a word a second time
+The first malformed line is told, else the first gap, else the first event at fault.
+
+Faults, on standard error:
+  4  `amo: out of memory`
+     `amo: device`: the file or standard output failed, or there is no such file
+
+Example:
+  amo audit examples/good_journal.journal
 ";
 
 const NO_FILE: &str = "error: the following required arguments were not provided:
@@ -90,12 +136,13 @@ For more information, try '--help'.
 /// The texts that users see, whole.
 #[test]
 fn shows_its_texts(rt: HostRuntime) -> Result<(), Fail> {
-    let rows: [(&[&str], u8, &str); 6] = [
+    let rows: [(&[&str], u8, &str); 7] = [
         (&["amo"], 2, HELP),
         (&["amo", "--help"], 0, HELP),
         (&["amo", "-h"], 0, HELP),
         (&["amo", "replay"], 2, NO_FILE),
         (&["amo", "replay", "--help"], 0, REPLAY_HELP),
+        (&["amo", "audit", "--help"], 0, AUDIT_HELP),
         (&["amo", "--version"], 0, "amo 0.1.0\n"),
     ];
     for (given, status, text) in rows {
@@ -117,10 +164,14 @@ fn reads_the_arguments(rt: HostRuntime) -> Result<(), Fail> {
     assert!(rt; matches!(&chosen, Ok(Settings::Replay(file)) if file.as_str() == "a b"));
     let dash = settings(rt.alloc(), arguments(rt.alloc(), &["amo", "replay", "-"])?);
     assert!(rt; matches!(&dash, Ok(Settings::Replay(file)) if file.as_str() == "-"));
-    let rows: [(&[&str], u8, &str); 3] = [
+    let audited = settings(rt.alloc(), arguments(rt.alloc(), &["amo", "audit", "a"])?);
+    assert!(rt; matches!(&audited, Ok(Settings::Audit(file)) if file.as_str() == "a"));
+    let rows: [(&[&str], u8, &str); 5] = [
         (&["amo", "replay"], 2, "<FILE>"),
         (&["amo", "replay", "a", "b"], 2, "unexpected argument 'b'"),
-        (&["amo", "audit", "a"], 2, "unrecognized subcommand 'audit'"),
+        (&["amo", "audit"], 2, "<FILE>"),
+        (&["amo", "audit", "a", "b"], 2, "unexpected argument 'b'"),
+        (&["amo", "run"], 2, "unrecognized subcommand 'run'"),
     ];
     for (given, status, part) in rows {
         let refused = settings(rt.alloc(), arguments(rt.alloc(), given)?);
@@ -129,5 +180,17 @@ fn reads_the_arguments(rt: HostRuntime) -> Result<(), Fail> {
             "{given:?}"
         );
     }
+    Ok(())
+}
+
+#[test]
+fn tells_each_fault(rt: HostRuntime) -> Result<(), Fail> {
+    let alloc = rt.alloc();
+    let text = ArgumentsFault::Text(String::from_str(alloc, "error: no such word")?, 2);
+    assert_eq!(rt; text.to_string(alloc)?.as_str(), "error: no such word");
+    assert_eq!(rt;
+        ArgumentsFault::NoMemory.to_string(alloc)?.as_str(),
+        "amo: out of memory"
+    );
     Ok(())
 }
