@@ -1,4 +1,4 @@
--- Packets that compare equal are one.
+-- What compares equal is one: flags, and packets.
 use Rattle.std.proofs.Common.{◌≡◌, ℕ, Bool, true, false, List, refl, ◌∙◌, ap}
 use Rattle.std.specs.declared.cmp.Ordering.{Ordering}
 use Rattle.std.specs.declared.cmp.Ordering.TheVariants.{Less, Equal, Greater}
@@ -10,19 +10,19 @@ use Rattle.amo_packet.specs.declared.packet.OwnedBody.TheVariants.{NeedUid, Acce
 use Rattle.amo_packet.specs.contracts.packet.OwnedPacketOrd.TheImpl as packet_order
 use Rattle.amo_packet.specs.contracts.packet.OwnedBodyOrd.TheImpl as body_order
 
-less : Less ≡ Equal → ⊥
+pub less : Less ≡ Equal → ⊥
 less e = cc
 
-greater : Greater ≡ Equal → ⊥
+pub greater : Greater ≡ Equal → ⊥
 greater e = cc
 
 -- two orders, one after the other, tie where both do
-both_tie : (a b : Ordering) → ordering_then a b ≡ Equal → (a ≡ Equal) × (b ≡ Equal)
+pub both_tie : (a b : Ordering) → ordering_then a b ≡ Equal → (a ≡ Equal) × (b ≡ Equal)
 both_tie Less b e = absurd (less e)
 both_tie Equal b e = (refl, e)
 both_tie Greater b e = absurd (greater e)
 
-flags_tie : (x y : Bool) → bool_cmp x y ≡ Equal → x ≡ y
+pub flags_tie : (x y : Bool) → bool_cmp x y ≡ Equal → x ≡ y
 flags_tie false false e = refl
 flags_tie false true e = absurd (less e)
 flags_tie true false e = absurd (greater e)

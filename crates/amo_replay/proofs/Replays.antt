@@ -1,5 +1,5 @@
 -- What a replay has written after some lines.
-use Rattle.std.proofs.Common.{◌≡◌, ℕ, ◌+◌, Option, Result, Ok, Err, List, [], ◌∷◌, ◌++◌, length, take, drop, refl, sym, ◌∙◌, ap, subst, append_assoc, suc}
+use Rattle.std.proofs.Common.{◌≡◌, ℕ, ◌+◌, Option, Result, Ok, Err, IfOk, List, [], ◌∷◌, ◌++◌, length, take, drop, refl, sym, ◌∙◌, ap, subst, append_assoc, suc}
 use Rattle.std.proofs.lemmas.List.{append-nil, take-append-drop, take_at}
 use Rattle.std.proofs.lemmas.Grind.{flat_map-append}
 use Rattle.std.specs.List.{AllByRecursion, flat_map}
@@ -17,6 +17,7 @@ use Rattle.amo_schedule.specs.declared.line.ScheduleLine.{ScheduleLine}
 use Rattle.amo_replay.specs.Stop.{IsWhole, StopsWriting, StopsReplay}
 use Rattle.amo_replay.specs.declared.stop.Stop.{Stop}
 use Rattle.amo_replay.specs.declared.stop.Stop.TheVariants.{Ended, Failed}
+use Rattle.amo_replay.specs.declared.fault.ToolFault.{ToolFault}
 use Rattle.amo_replay.specs.declared.fault.ToolFault.TheVariants.{NoMemory, Busy, Device}
 use Rattle.amo_replay.specs.declared.endings.Ending.{Ending}
 use Rattle.amo_replay.specs.declared.endings.Ending.TheVariants.{Done, Malformed, Unsent, Repeat}
@@ -301,3 +302,12 @@ pub done_at_end : (bytes left : List ℕ) (past : List Event) (old new : Option 
 done_at_end bytes left past old new to end lines spelt =
     let all = one_schedule bytes lines to.before spelt (to.known, to.read ∙ ap (λ (t : List ℕ). flat_map spelling_of to.before ++ t) end ∙ append-nil _) in
     lines_done old new to.before lines to.apply all to.written
+
+-- where lines stop a replay, what it answers is their ending
+pub stopped_transcript : (bytes : List ℕ) (lines : List ScheduleLine) (answer : Result Ending ToolFault) (stop : Stop) (old new : Option (List ℕ)) (calm failed : ℕ)
+    → SpellsSchedule bytes lines → IfOk answer (λ ending. stop ≡ Ended ending) → StopsReplay lines old new calm failed stop
+    → IfOk answer (λ ending. (texts : List (List ℕ)) × IsTranscript bytes texts ending × Appends old new (flatten texts))
+stopped_transcript bytes lines (Ok ending) stop old new calm failed spelt is stops =
+    let whole = (subst (λ (s : Stop). StopsReplay lines old new calm failed s) is stops).0 in
+    (transcript lines, is_transcript bytes lines ending spelt whole.0, whole.1)
+stopped_transcript bytes lines (Err fault) stop old new calm failed spelt is stops = tt

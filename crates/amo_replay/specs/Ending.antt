@@ -1,6 +1,7 @@
 -- How the program tells a replay's ending.
 use Rattle.std.specs.Prelude.{ℕ, List, [], ◌∷◌, ◌++◌, codes}
 use Rattle.std.specs.Fmt.{decimal}
+use Rattle.amo_packet.specs.Codes.{no_memory_code}
 use Rattle.amo_book.specs.declared.fault.DriveFault.{DriveFault}
 use Rattle.amo_book.specs.declared.fault.DriveFault.TheVariants as drive
 use Rattle.amo_book.specs.Fault.{busy_code}
@@ -29,7 +30,7 @@ status_of (Repeat line) = 3
 
 -- the number of a fault
 abbrev pub fault_code : ToolFault → ℕ
-fault_code NoMemory = 9
+fault_code NoMemory = no_memory_code
 fault_code Busy = busy_code
 fault_code Device = 71
 

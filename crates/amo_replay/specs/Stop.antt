@@ -3,13 +3,21 @@ use Rattle.std.specs.Prelude.{◌≡◌, ℕ, ◌+◌, Option, Result, Ok, Err, 
 use Rattle.std.specs.Io.KnownBytes.{Appends}
 use Rattle.amo_world.specs.declared.event.Event.{Event}
 use Rattle.amo_text.specs.Sink.{AppendsFront}
+use Rattle.amo_schedule.specs.declared.fault.ScheduleFault.{ScheduleFault}
+use Rattle.amo_schedule.specs.declared.fault.ScheduleFault.TheVariants as schedule
 use Rattle.amo_schedule.specs.declared.line.ScheduleLine.{ScheduleLine}
 use Rattle.amo_replay.specs.Transcript.{applied, line_text, transcript, flatten, ending_of}
 use Rattle.amo_replay.specs.declared.endings.Ending.{Ending}
+use Rattle.amo_replay.specs.declared.endings.Ending.TheVariants.{Malformed}
 use Rattle.amo_replay.specs.declared.fault.ToolFault.{ToolFault}
 use Rattle.amo_replay.specs.declared.fault.ToolFault.TheVariants.{NoMemory, Busy, Device}
 use Rattle.amo_replay.specs.declared.stop.Stop.{Stop}
 use Rattle.amo_replay.specs.declared.stop.Stop.TheVariants.{Ended, Failed}
+
+-- what a schedule's fault makes of a replay
+abbrev pub stop_of : ScheduleFault → Stop
+stop_of schedule.NoMemory = Failed NoMemory
+stop_of (schedule.Malformed line) = Ended (Malformed line)
 
 -- memory ran out, or the book was busy
 abbrev pub IsRefusal : ToolFault → Type 0

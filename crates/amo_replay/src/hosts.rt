@@ -17,7 +17,7 @@ ghost use Rattle.amo_replay.specs.Stop.{StopsAs};
 ghost use Rattle.amo_replay.specs.declared.endings.Ending.TheVariants as ending;
 ghost use Rattle.amo_replay.specs.declared.stop.Stop.TheVariants as stop;
 
-use crate::sides::Sides;
+use crate::sides::BookSides;
 use crate::stop::Stop;
 use crate::transcript::push_event;
 use crate::{Ending, ToolFault};
@@ -32,13 +32,13 @@ use std::marker::Model;
 /// Both hosts. Contracts see the history that the world accepted, and the one that pass 0 has seen of the book. They are the same
 /// where no other pass made an event, and that is known once the hosts are closed.
 #[derive(Drop)]
-pub(crate) struct Hosts {
+pub(crate) struct BothHosts {
     alloc: Global,
-    sides: Sides,
+    sides: BookSides,
     world: World,
 }
 
-impl Model for Hosts {
+impl Model for BothHosts {
     ghost use Rattle.amo_replay.specs.Hosts.{HostsState};
 
     ghost Value = { HostsState };
@@ -63,16 +63,16 @@ impl Page {
     }
 }
 
-impl Hosts {
+impl BothHosts {
     /// Both hosts, with nothing done yet.
-    pub(crate) fn new(alloc: Global) -> Result<Hosts, AllocError>
+    pub(crate) fn new(alloc: Global) -> Result<BothHosts, AllocError>
         ensures { IfOk result (λ hosts. (hosts.history ≡ []) × (hosts.seen ≡ [])) }
     {
-        let sides = Sides::new(alloc)?;
+        let sides = BookSides::new(alloc)?;
         let Ok(world) = World::new(alloc) else {
             return Err(AllocError);
         };
-        Ok(Hosts {
+        Ok(BothHosts {
             alloc,
             sides,
             world,

@@ -11,10 +11,10 @@ ghost use Rattle.amo_replay.specs.Hosts.{Agree};
 ghost use Rattle.amo_replay.specs.Stop.{StopsWriting, IsWhole, StopsReplay};
 ghost use Rattle.amo_replay.specs.declared.endings.Ending.TheVariants as ending;
 
-use crate::hosts::{Hosts, Page};
+use crate::hosts::{BothHosts, Page};
 use crate::stop::Stop;
 use crate::{Ending, ToolFault};
-use amo_schedule::{Schedule, ScheduleFault, ScheduleLine};
+use amo_schedule::{Schedule, ScheduleLine};
 use amo_text::{Sink, write_all};
 use std::alloc::Global;
 
@@ -37,13 +37,11 @@ pub fn replay<W: Sink>(alloc: Global, bytes: &[u8], sink: &mut W) -> Result<Endi
 {
     let mut schedule = match Schedule::of(bytes) {
         Ok(schedule) => schedule,
-        Err(ScheduleFault::NoMemory) => return Err(ToolFault::NoMemory),
-        Err(ScheduleFault::Malformed(line)) => return Ok(Ending::Malformed(line)),
+        Err(fault) => return Stop::from(fault).answer(),
     };
     match replay_lines(alloc, &mut schedule, sink) {
         Ok(()) => Ok(Ending::Done),
-        Err(Stop::Ended(ending)) => Ok(ending),
-        Err(Stop::Failed(fault)) => Err(fault),
+        Err(stop) => stop.answer(),
     }
 }
 
@@ -60,7 +58,7 @@ fn replay_lines<W: Sink>(
     ensures stopped { IfErr result (λ stop. (lines : List ScheduleLine) → SpellsSchedule schedule.old lines
         → StopsReplay lines (W.written sink.old) (W.written sink.new) (W.failures sink.old) (W.failures sink.new) stop) }
 {
-    let mut hosts = Hosts::new(alloc)?;
+    let mut hosts = BothHosts::new(alloc)?;
     let end = apply_lines(alloc, &mut hosts, schedule, sink);
     hosts.close();
     end
@@ -69,7 +67,7 @@ fn replay_lines<W: Sink>(
 /// Applies the lines of a schedule to new hosts, and writes the line of each event.
 fn apply_lines<W: Sink>(
     alloc: Global,
-    hosts: &mut Hosts,
+    hosts: &mut BothHosts,
     schedule: &mut Schedule<'_>,
     sink: &mut W,
 ) -> Result<(), Stop>
@@ -90,7 +88,7 @@ fn apply_lines<W: Sink>(
 
 /// Applies a line, and writes the line of its event, which is made whole first.
 fn replay_line<W: Sink>(
-    hosts: &mut Hosts,
+    hosts: &mut BothHosts,
     line: ScheduleLine,
     page: &mut Page,
     sink: &mut W,
@@ -106,8 +104,6 @@ fn replay_line<W: Sink>(
         StopsWriting hosts.old.history line (W.written sink.old) (W.written sink.new) (W.failures sink.old) (W.failures sink.new) stop) }
 {
     hosts.apply(line, page)?;
-    match write_all(sink, page.text.as_slice()) {
-        Ok(()) => Ok(()),
-        Err(_) => Err(Stop::Failed(ToolFault::Device)),
-    }
+    write_all(sink, page.text.as_slice())?;
+    Ok(())
 }

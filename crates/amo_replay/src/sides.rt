@@ -25,13 +25,13 @@ const PASSES: usize = 2;
 /// Both sides of streams 1 to [`STREAMS`], on a book of their own. Contracts see the history that its pass 0 has seen. That no
 /// event in it is another's is known once the book is closed.
 #[derive(Drop)]
-pub(crate) struct Sides {
+pub(crate) struct BookSides {
     book: Book,
     passes: Vec<Pass>,
     charges: Vec<Charge>,
 }
 
-impl Model for Sides {
+impl Model for BookSides {
     ghost use Rattle.std.specs.Prelude.{List};
     ghost use Rattle.amo_world.specs.declared.event.Event.{Event};
     ghost use Rattle.amo_replay.specs.Sides.{seen_of, Represents};
@@ -43,13 +43,13 @@ impl Model for Sides {
     ghost invariant = { λ s. Represents s.book s.passes.items s.charges.items };
 }
 
-impl Sides {
+impl BookSides {
     /// All sides, with nothing done yet.
-    pub(crate) fn new(alloc: Global) -> Result<Sides, AllocError>
+    pub(crate) fn new(alloc: Global) -> Result<BookSides, AllocError>
         ensures { IfOk result (λ sides. sides ≡ []) }
     {
         match Book::open(alloc, all_sides(alloc)?, PASSES) {
-            Ok((book, passes, charges)) => Ok(Sides {
+            Ok((book, passes, charges)) => Ok(BookSides {
                 book,
                 passes,
                 charges,
@@ -162,7 +162,7 @@ impl Sides {
     pub(crate) fn close(self)
         ensures { IsOwn self }
     {
-        let Sides {
+        let BookSides {
             book,
             passes,
             charges,

@@ -1,10 +1,11 @@
-//! Schedules and their transcripts, and a device that fails.
+//! Schedules and their transcripts, and a device that fails; and the worlds that a replay stands on.
 ghost use Rattle.std.specs.Prelude.{◌≡◌, ◌<◌};
+
+mod worlds;
 
 use super::*;
 use amo_text::Out;
 use std::alloc::Global;
-use std::io::{self, ErrorKind, Write};
 use std::marker::Brand;
 use std::sync::ledger::{Blank, Ledger};
 use std::test::Fail;
@@ -114,74 +115,45 @@ fn tells_each_fault(rt: HostRuntime) -> Result<(), Fail> {
     Ok(())
 }
 
-/// A writer that takes so many calls, and three bytes a call.
-#[derive(Drop)]
-struct Failing {
-    text: Vec<u8>,
-    calls: usize,
-}
-
-impl Write for Failing {
-    fn write(&mut self, bytes: &[u8]) -> io::Result<usize> {
-        if self.calls == 0 {
-            return Err(ErrorKind::Other.into());
-        }
-        self.calls -= 1;
-        let count = bytes.len().min(3);
-        self.text.extend_from_slice(&bytes[..count])?;
-        Ok(count)
-    }
-
-    fn flush(&mut self) -> io::Result<()> {
-        Ok(())
-    }
-}
-
-/// What a writer that takes so many calls was written of a replay, or of a fault's line, and how that ended.
+/// How a replay, or the line of a fault, ends that is written into this room.
 fn written<L: Ledger>(
     alloc: Global,
     schedule: Option<&[u8]>,
-    calls: usize,
+    room: &mut [u8],
     blank: Blank,
-) -> (Vec<u8>, Result<(), ToolFault>)
+) -> Result<(), ToolFault>
     requires name { blank.name ≡ L.name }
     requires parts { blank.parts ≡ L.parts }
     requires some { 0 < L.parts }
 {
-    let writer = Failing {
-        text: Vec::new(alloc),
-        calls,
-    };
-    let mut out = Out::<Failing, L>::new(writer, blank);
-    let how = match schedule {
+    let mut out = Out::<&mut [u8], L>::new(room, blank);
+    match schedule {
         Some(bytes) => replay(alloc, bytes, &mut out).map(|_| ()),
         None => ending(alloc, &Ending::Malformed(12), &mut out).map(|_| ()),
-    };
-    (out.into_inner().text, how)
+    }
 }
 
-/// Of a device that fails at its k-th call, for each k: the fault is told, and a beginning stands.
+/// Of a device with room for so many bytes, for each number: the fault is told, and all that there is room for stands.
 #[test]
 fn stops_where_the_device_fails(rt: HostRuntime) {
-    let rows: [(Option<&[u8]>, &[u8], usize); 2] = [
+    let rows: [(Option<&[u8]>, &[u8]); 2] = [
         (
             Some(b"put 1 61\nack 1\nget 1\n"),
             b"0 ok\n1 notyet\n2 nothing\n",
-            9,
         ),
-        (None, b"amo: line 12: malformed\n", 8),
+        (None, b"amo: line 12: malformed\n"),
     ];
-    for (schedule, whole, enough) in rows {
-        for calls in 0..12 {
-            let (text, how) = written::<Brand>(rt.alloc(), schedule, calls, Blank::new(1));
-            let outcome = if calls < enough {
-                Err(ToolFault::Device)
-            } else {
-                Ok(())
-            };
-            assert_eq!(rt; how, outcome, "{calls} calls");
-            assert!(rt; whole.starts_with(text.as_slice()), "{calls} calls");
-            assert_eq!(rt; text.len() == whole.len(), calls >= enough, "{calls} calls");
+    for (schedule, whole) in rows {
+        for count in 0..whole.len() + 1 {
+            let mut room = [b'_'; 32];
+            let how = written::<Brand>(rt.alloc(), schedule, &mut room[..count], Blank::new(1));
+            let fails = count < whole.len();
+            assert_eq!(rt;
+                how.err(),
+                fails.then_some(ToolFault::Device),
+                "{count} bytes"
+            );
+            assert_eq!(rt; &room[..count], &whole[..count], "{count} bytes");
         }
     }
 }

@@ -18,7 +18,7 @@ use Rattle.amo_core.specs.Automaton.{row, used_word}
 use Rattle.amo_world.specs.declared.emission.Emission.{Emission}
 use Rattle.amo_world.specs.declared.emission.Emitted.{Emitted}
 use Rattle.amo_world.specs.declared.emission.Emitted.TheVariants.{Nothing, Again, First}
-use Rattle.amo_world.specs.declared.index.Index.{Index}
+use Rattle.amo_world.specs.declared.index.PacketIndex.{PacketIndex}
 use Rattle.amo_world.specs.declared.key.Key.{Key}
 use Rattle.amo_world.specs.declared.kept_side.KeptSide.{KeptSide}
 use Rattle.amo_world.specs.Key.{key_of, order, with_place}
@@ -210,4 +210,4 @@ advanced_side mid now side stored a emitted act state index keeps = record {
 }
   where
     same : (key : Key) → place_at now key ≡ place_at mid key
-    same key = ap (λ (i : Index). get order i.places key) index
+    same key = ap (λ (i : PacketIndex). get order i.places key) index

@@ -1,38 +1,20 @@
 -- Keys that tie are one, and what that means where places stand under keys.
 use Rattle.std.proofs.Common.{◌≡◌, ℕ, Bool, true, false, cond, Option, Some, refl, sym, ◌∙◌, ap}
-use Rattle.std.specs.declared.cmp.Ordering.{Ordering}
-use Rattle.std.specs.declared.cmp.Ordering.TheVariants.{Less, Equal, Greater}
-use Rattle.std.specs.Ordering.{ordering_then, bool_cmp}
+use Rattle.std.specs.declared.cmp.Ordering.TheVariants.{Equal}
 use Rattle.std.specs.Option.{unwrap_or}
 use Rattle.std.specs.Cmp.{Equal-is}
 use Rattle.std.specs.BTreeMap.{is_at}
 use Rattle.std.proofs.lemmas.Cmp.{tied_itself}
 use Rattle.std.proofs.lemmas.Map.Lookups.{exact_unsigned}
+use Rattle.amo_packet.proofs.Ties.{less, greater, both_tie, flags_tie}
 use Rattle.amo_world.specs.declared.key.Key.{Key}
-use Rattle.amo_world.specs.declared.key.Kind.{Kind}
-use Rattle.amo_world.specs.declared.key.Kind.TheVariants.{NeedUid, Accept, Send, Ack, Cleanup}
+use Rattle.amo_world.specs.declared.key.PacketKind.{PacketKind}
+use Rattle.amo_world.specs.declared.key.PacketKind.TheVariants.{NeedUid, Accept, Send, Ack, Cleanup}
 use Rattle.amo_world.specs.contracts.key.KeyOrd.TheImpl.Laws.{total-law}
-use Rattle.amo_world.specs.contracts.key.KindOrd.TheImpl as kind_order
+use Rattle.amo_world.specs.contracts.key.PacketKindOrd.TheImpl as kind_order
 use Rattle.amo_world.specs.Key.{key, order, with_place}
 
-less : Less ≡ Equal → ⊥
-less e = cc
-
-greater : Greater ≡ Equal → ⊥
-greater e = cc
-
-both_tie : (a b : Ordering) → ordering_then a b ≡ Equal → (a ≡ Equal) × (b ≡ Equal)
-both_tie Less b e = absurd (less e)
-both_tie Equal b e = (refl, e)
-both_tie Greater b e = absurd (greater e)
-
-flags_tie : (x y : Bool) → bool_cmp x y ≡ Equal → x ≡ y
-flags_tie false false e = refl
-flags_tie false true e = absurd (less e)
-flags_tie true false e = absurd (greater e)
-flags_tie true true e = refl
-
-kinds_tie : (j k : Kind) → kind_order.cmp-value.it j k ≡ Equal → j ≡ k
+kinds_tie : (j k : PacketKind) → kind_order.cmp-value.it j k ≡ Equal → j ≡ k
 kinds_tie NeedUid NeedUid e = refl
 kinds_tie NeedUid Accept e = absurd (less e)
 kinds_tie NeedUid Send e = absurd (less e)
@@ -62,7 +44,7 @@ kinds_tie Cleanup Cleanup e = refl
 keys_tie : (j k : Key) → order j k ≡ Equal → j ≡ k
 keys_tie j k e =
     let both = both_tie _ _ e in
-    ap (key j.kind) (exact_unsigned j.identifier k.identifier both.0) ∙ ap (λ (x : Kind). key x k.identifier) (kinds_tie j.kind k.kind both.1)
+    ap (key j.kind) (exact_unsigned j.identifier k.identifier both.0) ∙ ap (λ (x : PacketKind). key x k.identifier) (kinds_tie j.kind k.kind both.1)
 
 pub same_key : (j k : Key) → is_at (order j) k ≡ true → j ≡ k
 same_key j k e = keys_tie j k ((Equal-is (order j k)).0 e)

@@ -22,7 +22,7 @@ use Rattle.amo_core.specs.Sender as sender
 use Rattle.amo_core.specs.Receiver as receiver
 use Rattle.amo_world.specs.declared.event.Event.{Event}
 use Rattle.amo_world.specs.declared.key.Key.{Key}
-use Rattle.amo_world.specs.declared.key.Kind.TheVariants.{NeedUid, Accept}
+use Rattle.amo_world.specs.declared.key.PacketKind.TheVariants.{NeedUid, Accept}
 use Rattle.amo_world.specs.Key.{key, key_of, key_of_word}
 use Rattle.amo_world.specs.Stream.{Stream, after, word_of, emission_of, emitted_by, words_of}
 use Rattle.amo_world.specs.History.{stream_after, stream_before, after_if, IsHonest, IsFresh}

@@ -8,12 +8,12 @@ use Rattle.amo_object.specs.declared.step.End.TheVariants.{Sender, Receiver}
 use Rattle.amo_packet.specs.declared.packet.OwnedBody.{OwnedBody}
 use Rattle.amo_packet.specs.declared.packet.OwnedBody.TheVariants as packet
 use Rattle.amo_world.specs.declared.key.Key.{Key}
-use Rattle.amo_world.specs.declared.key.Kind.{Kind}
-use Rattle.amo_world.specs.declared.key.Kind.TheVariants.{NeedUid, Accept, Send, Ack, Cleanup}
+use Rattle.amo_world.specs.declared.key.PacketKind.{PacketKind}
+use Rattle.amo_world.specs.declared.key.PacketKind.TheVariants.{NeedUid, Accept, Send, Ack, Cleanup}
 use Rattle.amo_world.specs.contracts.key.KeyOrd.TheImpl as key_order
 
 -- a key of this kind, with this identifier
-abbrev pub key : Kind → ℕ → Key
+abbrev pub key : PacketKind → ℕ → Key
 key kind identifier = record { identifier = identifier; kind = kind }
 
 -- the key of a packet that says this

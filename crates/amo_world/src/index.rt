@@ -22,18 +22,18 @@ struct Found {
 /// The place of each packet that a side emitted, under its key. It knows what it was asked last: a packet that is emitted
 /// again and again is found without a search.
 #[derive(Drop)]
-pub(crate) struct Index {
+pub(crate) struct PacketIndex {
     places: BTreeMap<Key, usize>,
     latest: Option<Found>,
     ghost stands: { (found : Found) → latest ≡ Some found → get order places found.key ≡ Some found.place } by { Prim.hlevel props },
 }
 
-impl Index {
+impl PacketIndex {
     /// An index in which nothing stands.
-    pub(crate) fn new(alloc: Global) -> Index
+    pub(crate) fn new(alloc: Global) -> PacketIndex
         ensures { (key : Key) → get order result.places key ≡ None }
     {
-        Index {
+        PacketIndex {
             places: BTreeMap::new(alloc),
             latest: None,
         }

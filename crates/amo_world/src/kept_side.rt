@@ -13,7 +13,7 @@ ghost use Rattle.amo_world.specs.LogRoom.{IsSameLog, HasRoom};
 
 use crate::WorldFault;
 use crate::emission::Emitted;
-use crate::index::Index;
+use crate::index::PacketIndex;
 use crate::key::key_of;
 use crate::log::Log;
 use amo_core::{Act, Automaton};
@@ -24,7 +24,7 @@ use std::alloc::{AllocError, Global};
 #[derive(Drop)]
 pub(crate) struct KeptSide {
     pub(crate) automaton: Automaton,
-    index: Index,
+    index: PacketIndex,
 }
 
 impl KeptSide {
@@ -34,7 +34,7 @@ impl KeptSide {
     {
         KeptSide {
             automaton,
-            index: Index::new(alloc),
+            index: PacketIndex::new(alloc),
         }
     }
 

@@ -7,7 +7,7 @@ use amo_packet::Body;
 
 /// The kind of a packet, with what an ack says.
 #[derive(Clone, Copy, Debug, PartialEq, Eq, PartialOrd, Ord)]
-pub(crate) enum Kind {
+pub(crate) enum PacketKind {
     NeedUid,
     Accept,
     Send,
@@ -21,7 +21,7 @@ pub(crate) enum Kind {
 #[derive(Clone, Copy, Debug, PartialEq, Eq, PartialOrd, Ord)]
 pub(crate) struct Key {
     pub(crate) identifier: u64,
-    pub(crate) kind: Kind,
+    pub(crate) kind: PacketKind,
 }
 
 /// The key of a packet that says this.
@@ -29,11 +29,11 @@ pub(crate) fn key_of(body: Body<'_>) -> Key
     ensures { result ≡ key_of (body_of body.entry) }
 {
     let (identifier, kind) = match body {
-        Body::NeedUid(jd) => (jd, Kind::NeedUid),
-        Body::Accept(_, id) => (id, Kind::Accept),
-        Body::Send(id, _) => (id, Kind::Send),
-        Body::Ack(id, got) => (id, Kind::Ack(got)),
-        Body::Cleanup(id) => (id, Kind::Cleanup),
+        Body::NeedUid(jd) => (jd, PacketKind::NeedUid),
+        Body::Accept(_, id) => (id, PacketKind::Accept),
+        Body::Send(id, _) => (id, PacketKind::Send),
+        Body::Ack(id, got) => (id, PacketKind::Ack(got)),
+        Body::Cleanup(id) => (id, PacketKind::Cleanup),
     };
     Key { identifier, kind }
 }

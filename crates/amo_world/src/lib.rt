@@ -40,8 +40,6 @@ mod kept_stream;
 mod key;
 pub mod laws;
 mod log;
-#[cfg(test)]
-mod tests;
 mod world;
 
 pub use amo_core::{Act, Reply};

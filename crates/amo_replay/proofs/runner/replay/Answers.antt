@@ -1,7 +1,7 @@
 use Rattle.std.proofs.Common.{sym}
 use Rattle.amo_replay.specs.Transcript.{transcript}
 use Rattle.amo_replay.specs.declared.endings.Ending.TheVariants.{Done}
-use Rattle.amo_replay.proofs.Replays.{is_transcript}
+use Rattle.amo_replay.proofs.Replays.{is_transcript, stopped_transcript}
 use Rattle.amo_replay.proofs.runner.replay.Goals as goal
 
 pub returns-in-Ok-replay_lines-clause-ok : goal.returns-in-Ok-replay_lines-clause-ok
@@ -13,14 +13,11 @@ returns-in-Ok-replay_lines-clause-ok g c =
 pub returns-in-Ok-replay_lines-clause-malformed : goal.returns-in-Ok-replay_lines-clause-malformed
 returns-in-Ok-replay_lines-clause-malformed g c = λ none. let (lines, spelt) = c.in-Ok.ensures.whole.1 in absurd (none lines spelt)
 
-pub returns-in-Err-Ended-clause-ok : goal.returns-in-Err-Ended-clause-ok
-returns-in-Err-Ended-clause-ok g c =
+pub returns-in-Err-replay_lines-clause-ok : goal.returns-in-Err-replay_lines-clause-ok
+returns-in-Err-replay_lines-clause-ok g c =
     let (lines, spelt) = c.in-Ok.ensures.whole.1 in
-    let whole = ((rw c.in-Err-Ended.field-0-is at c.in-Err-Ended.ensures.stopped) lines (rw (sym c.in-Ok.ensures.whole.0) at spelt)).0 in
-    (transcript lines, is_transcript c.args.bytes.now lines c.in-Err-Ended.ending spelt whole.0, whole.1)
+    let stopped = c.in-Err-replay_lines.ensures.stopped lines (rw (sym c.in-Ok.ensures.whole.0) at spelt) in
+    stopped_transcript _ _ _ _ _ _ _ _ spelt c.answer-in-Err-replay_lines.ensures.ended stopped
 
-pub returns-in-Err-Ended-clause-malformed : goal.returns-in-Err-Ended-clause-malformed
-returns-in-Err-Ended-clause-malformed g c = λ none. let (lines, spelt) = c.in-Ok.ensures.whole.1 in absurd (none lines spelt)
-
-pub returns-in-Err-Failed-clause-malformed : goal.returns-in-Err-Failed-clause-malformed
-returns-in-Err-Failed-clause-malformed g c = λ none. let (lines, spelt) = c.in-Ok.ensures.whole.1 in absurd (none lines spelt)
+pub returns-in-Err-replay_lines-clause-malformed : goal.returns-in-Err-replay_lines-clause-malformed
+returns-in-Err-replay_lines-clause-malformed g c = λ none. let (lines, spelt) = c.in-Ok.ensures.whole.1 in absurd (none lines spelt)

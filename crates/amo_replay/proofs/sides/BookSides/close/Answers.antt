@@ -1,6 +1,6 @@
 use Rattle.std.proofs.Common.{sym}
 use Rattle.amo_replay.proofs.Owning.{passes_belong, charges_belong, none_lacks, own_at_close}
-use Rattle.amo_replay.proofs.sides.Sides.close.Goals as goal
+use Rattle.amo_replay.proofs.sides.BookSides.close.Goals as goal
 
 pub close-requires-clause-passes : goal.close-requires-clause-passes
 close-requires-clause-passes c = passes_belong _ _ _ c.self.invariant

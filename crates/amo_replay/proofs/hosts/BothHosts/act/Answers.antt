@@ -8,8 +8,8 @@ use Rattle.amo_replay.specs.Transcript.{event_at}
 use Rattle.amo_replay.specs.Sides.{AddsWriting}
 use Rattle.amo_replay.proofs.Applying.{checked_event, refused}
 use Rattle.amo_replay.proofs.Answering.{own_before, right_after, replied_right, writes_after, line_is, nothing_unsent}
-use Rattle.amo_replay.proofs.hosts.Hosts.act.Goals.{in-Ok, in-Err}
-use Rattle.amo_replay.proofs.hosts.Hosts.act.Goals as goal
+use Rattle.amo_replay.proofs.hosts.BothHosts.act.Goals.{in-Ok, in-Err}
+use Rattle.amo_replay.proofs.hosts.BothHosts.act.Goals as goal
 
 pub returns-in_err-write_line-clause-own : goal.returns-in_err-write_line-clause-own
 returns-in_err-write_line-clause-own c = rw (sym c.self.view_is) (own_before _ _ _ c.in_ok-reply.ensures.acted.0)

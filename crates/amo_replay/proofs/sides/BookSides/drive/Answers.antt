@@ -1,8 +1,8 @@
 use Rattle.std.proofs.Common.{sym, ◌∙◌}
 use Rattle.amo_core.specs.declared.act.Act.TheVariants.{Start, Resend, Crash, Recover}
 use Rattle.amo_replay.proofs.Owning.{pass_belongs, charge_belongs, charge_drives, driven_there, driven_after, starts_sender, silently}
-use Rattle.amo_replay.proofs.sides.Sides.drive.Goals.{in-Start+in_ok-start-in-Start, in-Resend+in_ok-resend-in-Resend, in-Crash+in_ok-crash-in-Crash, in-Recover+in_ok-recover-in-Recover}
-use Rattle.amo_replay.proofs.sides.Sides.drive.Goals as goal
+use Rattle.amo_replay.proofs.sides.BookSides.drive.Goals.{in-Start+in_ok-start-in-Start, in-Resend+in_ok-resend-in-Resend, in-Crash+in_ok-crash-in-Crash, in-Recover+in_ok-recover-in-Recover}
+use Rattle.amo_replay.proofs.sides.BookSides.drive.Goals as goal
 
 pub start-requires-clause-book : goal.start-requires-clause-book
 start-requires-clause-book c = (

@@ -2,7 +2,7 @@ use Rattle.std.proofs.Common.{Err, ap}
 use Rattle.amo_book.specs.declared.fault.OpenFault.{OpenFault}
 use Rattle.amo_replay.proofs.Places.{lawful}
 use Rattle.amo_replay.proofs.Owning.{opened}
-use Rattle.amo_replay.proofs.sides.Sides.new.Goals as goal
+use Rattle.amo_replay.proofs.sides.BookSides.new.Goals as goal
 
 pub invariant_of-result : goal.invariant_of-result
 invariant_of-result c = opened _ _ _ _ c.in_ok-all_sides.ensures c.in-Ok.ensures.opened.1

@@ -1,8 +1,9 @@
-//! Worlds in which a handshake begins, what they refuse, and what was emitted by then.
+//! Worlds in which a handshake begins, what they refuse, and what was emitted by then. These tests stand above `amo_world`
+//! since a crate with tests is proved twice, and no crate takes longer.
 ghost use Rattle.std.specs.Prelude.{◌≡◌, IfOk};
 
-use crate::{Act, End, Event, NoMemory, Reply, STREAMS, World, WorldFault};
 use amo_packet::{Message, MessageFault, OwnedBody, OwnedPacket};
+use amo_world::{Act, End, Event, NoMemory, Reply, STREAMS, World, WorldFault};
 use std::alloc::Global;
 use std::test::Fail;
 

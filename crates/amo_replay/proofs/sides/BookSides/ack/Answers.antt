@@ -3,7 +3,7 @@ use Rattle.amo_object.specs.declared.step.End.TheVariants.{Sender}
 use Rattle.amo_core.specs.declared.act.Act.TheVariants as act
 use Rattle.amo_book.specs.Calls.{ack_answer}
 use Rattle.amo_replay.proofs.Owning.{pass_belongs, has_side, pass_after, grown_same, called_adds, called_busy}
-use Rattle.amo_replay.proofs.sides.Sides.ack.Goals as goal
+use Rattle.amo_replay.proofs.sides.BookSides.ack.Goals as goal
 
 pub get_ack-answer-requires : goal.get_ack-answer-requires
 get_ack-answer-requires c = record { book = pass_belongs _ _ _ c.self.invariant _ _ c.index_mut.ensures.value }

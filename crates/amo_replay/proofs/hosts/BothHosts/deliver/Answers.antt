@@ -15,8 +15,8 @@ use Rattle.amo_replay.specs.Sides.{AddsWriting}
 use Rattle.amo_replay.specs.Stop.{StopsAs}
 use Rattle.amo_replay.proofs.Applying.{checked_event, refused}
 use Rattle.amo_replay.proofs.Answering.{own_before, right_after, replied_right, writes_after, line_is, delivered, not_none}
-use Rattle.amo_replay.proofs.hosts.Hosts.deliver.Goals.{in-Ok, in-Err}
-use Rattle.amo_replay.proofs.hosts.Hosts.deliver.Goals as goal
+use Rattle.amo_replay.proofs.hosts.BothHosts.deliver.Goals.{in-Ok, in-Err}
+use Rattle.amo_replay.proofs.hosts.BothHosts.deliver.Goals as goal
 
 pub returns-in_err-write_line-clause-own : goal.returns-in_err-write_line-clause-own
 returns-in_err-write_line-clause-own c = rw (sym c.self.view_is) (own_before _ _ _ c.in_ok-length.ensures.added.0)

@@ -2,7 +2,7 @@ use Rattle.amo_core.specs.declared.act.Act.TheVariants.{Deliver}
 use Rattle.amo_packet.specs.Packet.{packet_of}
 use Rattle.std.proofs.Common.{sym}
 use Rattle.amo_replay.proofs.Owning.{pass_belongs, charge_belongs, charge_drives, driven_there, driven_after}
-use Rattle.amo_replay.proofs.sides.Sides.deliver.Goals as goal
+use Rattle.amo_replay.proofs.sides.BookSides.deliver.Goals as goal
 
 pub deliver-requires-clause-book : goal.deliver-requires-clause-book
 deliver-requires-clause-book c = (

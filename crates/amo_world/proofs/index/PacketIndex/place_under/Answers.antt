@@ -2,7 +2,7 @@ use Rattle.std.proofs.Common.{◌≡◌, Some, rules, ◌∙◌, sym, ap}
 use Rattle.std.specs.BTreeMap.{get}
 use Rattle.amo_world.specs.Key.{order}
 use Rattle.amo_world.proofs.KeyTies.{already_there}
-use Rattle.amo_world.proofs.index.Index.place_under.Goals as goal
+use Rattle.amo_world.proofs.index.PacketIndex.place_under.Goals as goal
 
 pub returns-clause-found : goal.returns-clause-found
 returns-clause-found c =
