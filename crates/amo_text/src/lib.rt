@@ -16,7 +16,7 @@
 //!   [`first_malformed`] finds the first line that spells none.
 //! - [`Sink`] is a place that takes bytes, [`write_all`] fills it, and [`Out`] makes one of any writer of
 //!   the standard library. Contracts see what a sink was written, where it tells that, and how many of its
-//!   calls failed.
+//!   calls failed: [`Failures`] is that count, here and for whatever else has a device behind it.
 //! - [`laws`]: a number, some bytes and a line of fields have one spelling each. So a grammar of such lines
 //!   is unambiguous as soon as no two of its items have the same fields, and one line of what it does not spell
 //!   is the first that is malformed.
@@ -27,6 +27,7 @@
 
 mod act;
 mod decimal;
+mod failures;
 mod hexadecimal;
 mod items;
 pub mod laws;
@@ -41,6 +42,7 @@ mod tests;
 
 pub use act::{ActName, read_act_name};
 pub use decimal::{push_decimal, read_decimal};
+pub use failures::Failures;
 pub use hexadecimal::{hex_length, push_hex, read_hex};
 pub use items::{CheckedItem, LineItem, LinesFault, first_malformed, item_in_front, read_items};
 pub use line::{cut, next_field, next_line};

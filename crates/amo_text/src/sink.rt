@@ -3,9 +3,10 @@ ghost use Rattle.std.specs.Prelude.{◌≡◌, ◌+◌, ◌<◌, ◌≤◌, leng
 ghost use Rattle.std.specs.Io.KnownBytes.{Appends, Keeps};
 ghost use Rattle.amo_text.specs.Sink.{AppendsFront};
 
+use crate::Failures;
 use std::io::{self, Write};
 use std::marker::Model;
-use std::sync::ledger::{Blank, Book, Ledger, Share};
+use std::sync::ledger::{Blank, Ledger};
 use thiserror::Error;
 
 /// A call of a sink failed: the device's fault. The call appended nothing.
@@ -48,43 +49,6 @@ pub fn write_all<W: Sink>(sink: &mut W, bytes: &[u8]) -> Result<(), SinkFault>
         done += sink.write(&bytes[done..])?;
     }
     Ok(())
-}
-
-/// How many calls have failed: a number without a greatest value, which takes no bytes.
-#[derive(Drop)]
-struct Failures<L: Ledger> {
-    book: Book<L>,
-    share: Share<L>,
-}
-
-impl<L: Ledger> Model for Failures<L> {
-    ghost use Rattle.std.specs.Prelude.{ℕ, ◌<◌};
-
-    ghost Value = { ℕ };
-
-    ghost view = { λ f. f.book.total };
-
-    ghost invariant = { λ f. 0 < f.share.parts };
-}
-
-impl<L: Ledger> Failures<L> {
-    /// None yet.
-    fn new(blank: Blank) -> Failures<L>
-        requires name { blank.name ≡ L.name }
-        requires parts { blank.parts ≡ L.parts }
-        requires some { 0 < L.parts }
-        ensures { result ≡ 0 }
-    {
-        let (book, share) = blank.open::<L>();
-        Failures { book, share }
-    }
-
-    /// Counts one more.
-    fn count(&mut self)
-        ensures { self.new ≡ self.old + 1 }
-    {
-        self.book.add(&mut self.share, 1);
-    }
 }
 
 /// A sink over any writer, seen by contracts as that writer and how many calls have failed.

@@ -1,0 +1,137 @@
+//! The datagrams on their way from one end to the other.
+ghost use Rattle.std.specs.Prelude.{◌≡◌, ◌↔◌, IsTrue, ◌≢◌, ◌≤◌, ◌++◌, ◌%◌, ◌-◌, [], min, take, drop, length, Some, IfOk, OnOk, OnErr, slice_get, remove};
+ghost use Rattle.amo_net.specs.Lossy.{copies, queued_copies, sent};
+
+use crate::MAX_DATAGRAM;
+use std::alloc::{AllocError, Global};
+use std::marker::Model;
+
+/// The most datagrams that a direction of a channel holds.
+pub const MAX_QUEUED: usize = 64;
+
+/// Contracts see a datagram as its bytes.
+#[derive(Drop)]
+pub(crate) struct Datagram {
+    bytes: Vec<u8>,
+}
+
+impl Model for Datagram {
+    ghost use Rattle.std.specs.Prelude.{List, ℕ, ◌≤◌, length};
+    ghost use Rattle.amo_net.specs.declared.link.TheConstants.{MAX_DATAGRAM};
+
+    ghost Value = { List ℕ };
+
+    ghost view = { λ d. d.bytes.items };
+
+    ghost invariant = { λ d. length d.bytes.items ≤ MAX_DATAGRAM };
+}
+
+impl Datagram {
+    /// A datagram of these bytes, or of as many at their front as a buffer holds.
+    #[tactic(auto, using(std::proofs::lemmas::List::take_min))]
+    fn copy(alloc: Global, bytes: &[u8]) -> Result<Datagram, AllocError>
+        ensures { IfOk result (λ d. d ≡ take MAX_DATAGRAM bytes.now) }
+    {
+        let length = MAX_DATAGRAM.min(bytes.len());
+        let bytes = Vec::from_slice(alloc, &bytes[..length])?;
+        Ok(Datagram { bytes })
+    }
+
+    /// Puts it at the front of the buffer, and answers its length.
+    pub(crate) fn fill(&self, buffer: &mut [u8; MAX_DATAGRAM]) -> usize
+        ensures length { (result ≡ length self.now) × (result ≤ MAX_DATAGRAM) }
+        ensures front { buffer.new ≡ self.now ++ drop result buffer.old }
+    {
+        let length = self.bytes.len();
+        buffer[..length].copy_from_slice(self.bytes.as_slice());
+        length
+    }
+}
+
+/// At most [`MAX_QUEUED`] datagrams. Contracts see their list, the one that was sent first at the front.
+#[derive(Drop)]
+pub(crate) struct Direction {
+    alloc: Global,
+    datagrams: Vec<Datagram>,
+}
+
+impl Model for Direction {
+    ghost use Rattle.std.specs.Prelude.{List, ℕ, ◌≤◌, length};
+    ghost use Rattle.amo_net.specs.declared.direction.TheConstants.{MAX_QUEUED};
+
+    ghost Value = { List (List ℕ) };
+
+    ghost view = { λ d. d.datagrams.items };
+
+    ghost invariant = { λ d. length d.datagrams.items ≤ MAX_QUEUED };
+}
+
+impl Direction {
+    pub(crate) fn new(alloc: Global) -> Direction
+        ensures { result ≡ [] }
+    {
+        Direction {
+            alloc,
+            datagrams: Vec::new(alloc),
+        }
+    }
+
+    pub(crate) fn is_empty(&self) -> bool
+        ensures { IsTrue result ↔ (self.now ≡ []) }
+    {
+        self.datagrams.is_empty()
+    }
+
+    /// How many datagrams it has room for.
+    fn room(&self) -> usize
+        ensures { result ≡ MAX_QUEUED - length self.now }
+    {
+        MAX_QUEUED - self.datagrams.len()
+    }
+
+    /// Does with a datagram of these bytes what the word says.
+    pub(crate) fn send(&mut self, word: u64, bytes: &[u8]) -> Result<(), AllocError>
+        ensures ok { OnOk result (self.new ≡ sent word bytes.now self.old) }
+        ensures memory { OnErr result (self.new ≡ self.old) }
+        ensures needed { OnErr result (queued_copies word self.old ≢ 0) }
+    {
+        match copies(word).min(self.room()) {
+            0 => Ok(()),
+            1 => {
+                let only = Datagram::copy(self.alloc, bytes)?;
+                self.datagrams.reserve(1)?;
+                self.datagrams.push_reserved(only);
+                Ok(())
+            }
+            _ => {
+                let first = Datagram::copy(self.alloc, bytes)?;
+                let second = Datagram::copy(self.alloc, bytes)?;
+                self.datagrams.reserve(2)?;
+                self.datagrams.push_reserved(first);
+                self.datagrams.push_reserved(second);
+                Ok(())
+            }
+        }
+    }
+
+    /// Takes out the datagram that the word names.
+    pub(crate) fn pick(&mut self, word: u64) -> Datagram
+        requires { self.old ≢ [] }
+        ensures one { slice_get self.old (word % length self.old) ≡ Some result }
+        ensures rest { self.new ≡ remove self.old (word % length self.old) }
+    {
+        let place = (word % self.datagrams.len() as u64) as usize;
+        self.datagrams.remove(place)
+    }
+}
+
+/// How many copies of a datagram a word asks for.
+fn copies(word: u64) -> usize
+    ensures { result ≡ copies word }
+{
+    match word % 8 {
+        0 => 0,
+        1 => 2,
+        _ => 1,
+    }
+}
