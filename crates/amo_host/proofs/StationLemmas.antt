@@ -12,14 +12,16 @@ use Rattle.amo_host.specs.Charges.{IsOfSide, stream_mode_of}
 use Rattle.amo_host.specs.Host.{Host, IsHost, IsAt, IsFor, Noted, streams_of}
 use Rattle.amo_host.specs.Station.{Station, IsStation}
 use Rattle.amo_host.proofs.ChargeLemmas.{each_at, each_set}
-use Rattle.amo_host.proofs.Drives.{no_length}
+use Rattle.amo_host.proofs.Drives.{no_length, crash_is_silent, recover_is_silent}
 use Rattle.amo_object.specs.declared.step.End.{End}
 use Rattle.amo_world.specs.Stream.{Stream, emission_of}
 use Rattle.amo_book.specs.Pass.{PassState}
 use Rattle.amo_host.specs.declared.host_act.HostAct.{HostAct}
+use Rattle.amo_host.specs.declared.host_act.HostAct.TheVariants.{Start, Resend, Deliver, Crash, Recover}
 use Rattle.amo_host.specs.declared.turned.Turned.{Turned}
 use Rattle.amo_host.specs.declared.turned.Turned.TheVariants.{Idle, Unread, Stranger, Did}
-use Rattle.amo_host.specs.HostAct.{act_of, kind_of, is_resend}
+use Rattle.amo_host.specs.HostAct.{act_of, kind_of, is_resend, IsDownOrUp, Suits, Carries}
+use Rattle.amo_host.specs.Modes.{MayOpen}
 use Rattle.amo_host.specs.Turn.{Happened, Performed, GoesDownOrUp}
 
 -- what was read in a place stands there
@@ -59,6 +61,44 @@ module _ {W : Type 0} (s : Station W) (is : IsStation s) (place : ℕ) where
   -- and is for a place of the host
   pub for_place : (p : OwnedPacket) → IsFor s.host place p → place < length s.charges
   for_place p fits = is_place (omega (arith, length-map s.host.modes (λ (m : StreamMode). m.stream), slice_get_within (streams_of s.host.modes) place p.stream fits.stream))
+
+-- a crash or a recovery is asked of any charge
+pub suits_any : (a : HostAct) (c : ChargeState) → IsDownOrUp a → Suits a c
+suits_any (Start word) c never = absurd never
+suits_any Resend c never = absurd never
+suits_any (Deliver p word) c never = absurd never
+suits_any Crash c down = tt
+suits_any Recover c down = tt
+
+-- it opens no handshake
+pub opens_none : (a : HostAct) (was : Mode) → IsDownOrUp a → ¬ (MayOpen (act_of a) was)
+opens_none (Start word) was never opens = never
+opens_none Resend was never opens = never
+opens_none (Deliver p word) was never opens = never
+opens_none Crash was down opens = opens
+opens_none Recover was down opens = opens
+
+-- it emits nothing, takes no memory, and is no resend
+pub is_silent : (a : HostAct) → IsDownOrUp a → (x : Stream) (side : End) → emission_of x side (act_of a) ≡ None
+is_silent (Start word) never = absurd never
+is_silent Resend never = absurd never
+is_silent (Deliver p word) never = absurd never
+is_silent Crash down = crash_is_silent
+is_silent Recover down = recover_is_silent
+
+pub carries_none : (a : HostAct) → IsDownOrUp a → ¬ (Carries a)
+carries_none (Start word) never carries = never
+carries_none Resend never carries = never
+carries_none (Deliver p word) never carries = never
+carries_none Crash down carries = carries
+carries_none Recover down carries = carries
+
+pub is_once : (a : HostAct) → IsDownOrUp a → is_resend a ≡ false
+is_once (Start word) never = refl
+is_once Resend never = absurd never
+is_once (Deliver p word) never = refl
+is_once Crash down = refl
+is_once Recover down = refl
 
 -- an act that emits nothing, of the charge of this stream
 pub goes : {W : Type 0} (s t : Station W) (v w : PassState) (old new : List ℕ) (place now stream : ℕ) (a : HostAct) (turned : Turned)

@@ -31,6 +31,12 @@ abbrev pub is_resend : HostAct → Bool
 is_resend Resend = true
 is_resend _ = false
 
+-- a crash or a recovery
+abbrev pub IsDownOrUp : HostAct → Type 0
+IsDownOrUp Crash = Unit {0}
+IsDownOrUp Recover = Unit {0}
+IsDownOrUp _ = ⊥
+
 -- what a book asks: a start is a sender's; a delivered packet is for the charge's stream, with no message that is too long
 abbrev pub Suits : HostAct → ChargeState → Type 0
 Suits (Start word) c = c.side ≡ Sender

@@ -1,9 +1,11 @@
 pub mod Agenda
 pub mod Charges
+pub mod Division
 pub mod Fault
 pub mod Handshakes
 pub mod Host
 pub mod HostAct
 pub mod Modes
+pub mod Room
 pub mod Station
 pub mod Turn

@@ -1,6 +1,6 @@
 //! Why a pump was not made, and why a turn failed.
 ghost use Rattle.std.specs.Prelude.{◌≡◌};
-ghost use Rattle.amo_host.specs.Fault.{pump_code, new_pump_code};
+ghost use Rattle.amo_host.specs.Fault.{pump_code, new_pump_code, divide_code};
 
 use amo_book::{Charge, DriveFault};
 use thiserror::Error;
@@ -64,6 +64,28 @@ impl<W> NewPumpFault<W> {
         match self {
             NewPumpFault::NoMemory(_, _) => 9,
             NewPumpFault::Limits(_, _) => 31,
+        }
+    }
+}
+
+/// Why charges were not divided, with the charges and words that were handed in, in their order.
+#[derive(Drop)]
+pub enum DivideFault<W> {
+    /// The pumps are not 1 to 4, or the words are not as many, or there is no charge or no handshake for each, or a pump could not have
+    /// the charges.
+    Limits(Vec<Charge>, Vec<W>),
+    /// Memory was refused. The caller may try again later.
+    NoMemory(Vec<Charge>, Vec<W>),
+}
+
+impl<W> DivideFault<W> {
+    /// The number of this fault.
+    pub fn code(&self) -> u8
+        ensures { result ≡ divide_code self.now }
+    {
+        match self {
+            DivideFault::NoMemory(_, _) => 9,
+            DivideFault::Limits(_, _) => 31,
         }
     }
 }

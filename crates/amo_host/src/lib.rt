@@ -19,16 +19,19 @@
 
 mod agenda;
 mod charges;
+mod division;
 mod fault;
 mod handshakes;
 mod host_act;
 mod modes;
 mod pump;
+mod room;
 #[cfg(test)]
 mod tests;
 mod turn;
 mod turned;
 
-pub use fault::{NewPumpFault, PumpFault};
+pub use division::{MAX_PUMPS, divide};
+pub use fault::{DivideFault, NewPumpFault, PumpFault};
 pub use pump::Pump;
 pub use turned::{Kind, Turned};

@@ -8,7 +8,7 @@ ghost use Rattle.amo_host.specs.declared.turned.Kind.TheVariants as kind;
 ghost use Rattle.amo_host.specs.Charges.{CanBeDriven, IsAtRest, IsOfSide, stream_mode_of};
 ghost use Rattle.amo_host.specs.Handshakes.{open_count};
 ghost use Rattle.amo_host.specs.Host.{IsHost, fresh, streams_of};
-ghost use Rattle.amo_host.specs.HostAct.{act_of, Suits, Carries};
+ghost use Rattle.amo_host.specs.HostAct.{act_of, kind_of, IsDownOrUp, Suits, Carries};
 ghost use Rattle.amo_host.specs.Modes.{MayOpen};
 ghost use Rattle.amo_host.specs.Station.{IsStation, BelongTogether, Begins, Refuses};
 ghost use Rattle.amo_host.specs.Turn.{Nothing, Performed, GoesDownOrUp};
@@ -86,17 +86,7 @@ impl<W: Words + Drop> Pump<W> {
         ensures busy { IfErr result (λ fault. (self.new ≡ self.old) × (pass.new ≡ pass.old) × (fault ≡ PumpFault.Busy)) }
         ensures station { IsStation self.new × BelongTogether book.now pass.new self.new }
     {
-        match self.place_of(stream) {
-            None => Ok(Turned::Stranger),
-            Some(place) => self.perform(
-                book,
-                pass,
-                now,
-                place,
-                HostAct::Crash,
-                &mut [0; MAX_PACKET],
-            ),
-        }
+        self.go(book, pass, now, stream, HostAct::Crash)
     }
 
     /// The side of this stream is up again.
@@ -112,17 +102,7 @@ impl<W: Words + Drop> Pump<W> {
         ensures busy { IfErr result (λ fault. (self.new ≡ self.old) × (pass.new ≡ pass.old) × (fault ≡ PumpFault.Busy)) }
         ensures station { IsStation self.new × BelongTogether book.now pass.new self.new }
     {
-        match self.place_of(stream) {
-            None => Ok(Turned::Stranger),
-            Some(place) => self.perform(
-                book,
-                pass,
-                now,
-                place,
-                HostAct::Recover,
-                &mut [0; MAX_PACKET],
-            ),
-        }
+        self.go(book, pass, now, stream, HostAct::Recover)
     }
 
     /// From now on the words are these: those of the next incarnation.
@@ -146,6 +126,27 @@ impl<W: Words + Drop> Pump<W> {
         drop(agenda);
         drop(words);
         charges
+    }
+
+    /// Does this act, a crash or a recovery, at the charge of this stream.
+    fn go(
+        &mut self,
+        book: &Book,
+        pass: &mut Pass,
+        now: u64,
+        stream: u32,
+        act: HostAct<'_>,
+    ) -> Result<Turned, PumpFault>
+        requires together { BelongTogether book.now pass.old self.old }
+        requires act { IsDownOrUp act }
+        ensures ok { IfOk result (GoesDownOrUp (act_of act.entry) (kind_of act.entry) stream now self.old self.new pass.old pass.new) }
+        ensures busy { IfErr result (λ fault. (self.new ≡ self.old) × (pass.new ≡ pass.old) × (fault ≡ PumpFault.Busy)) }
+        ensures station { IsStation self.new × BelongTogether book.now pass.new self.new }
+    {
+        match self.place_of(stream) {
+            None => Ok(Turned::Stranger),
+            Some(place) => self.perform(book, pass, now, place, act, &mut [0; MAX_PACKET]),
+        }
     }
 
     /// The place of the charge of this stream.

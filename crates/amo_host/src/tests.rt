@@ -15,6 +15,10 @@ use amo_word::FixedWords;
 use std::alloc::Global;
 use std::test::Fail;
 
+mod allocations;
+mod division;
+mod hostile;
+mod threads;
 mod told;
 mod turns;
 mod window;
