@@ -8,12 +8,15 @@ use crate::{AckFault, Book, Charge, DriveFault, GetFault, OpenFault, Pass, PutFa
 use amo_object::End;
 use amo_packet::{Message, MessageFault};
 use amo_world::STREAMS;
-use named::{Caller, Naming, Shared, callers_of};
+use crew::Crew;
+use named::{Caller, Naming, Shared};
+use pair::{Told, told_of_ack, told_of_get, told_of_put};
 use std::alloc::{AllocError, Global};
 use std::marker::Brand;
 use std::test::Fail;
 
 mod allocations;
+mod crew;
 mod handshake;
 mod histories;
 mod named;
@@ -60,29 +63,58 @@ fn message(alloc: Global, byte: u8) -> Result<Message, MessageFault> {
     }
 }
 
-/// A pass is told nothing of another's put until they meet; what is no event has no position.
+/// What two callers are told: of the first's put before and after they meet, of a put to a stream that the book lacks, and of a get.
+fn told_of_both<J: Naming>(
+    shared: &Shared<J>,
+    a: &mut Caller<J>,
+    b: &mut Caller<J>,
+    messages: (Message, Message),
+) -> [Told; 4] {
+    let put = told_of_put(shared.put(a, 1, messages.0));
+    shared.meet(a, b);
+    [
+        put,
+        told_of_ack(shared.get_ack(b, 1)),
+        told_of_put(shared.put(b, 2, messages.1)),
+        told_of_get(shared.get(a, 1)),
+    ]
+}
+
+/// The numbers of both callers, what they are told, and how many events there were.
+fn meet_and_close<J: Naming>(
+    alloc: Global,
+    book: Book,
+    passes: Vec<Pass>,
+    charges: Vec<Charge>,
+    messages: (Message, Message),
+) -> Option<([usize; 2], [Told; 4], u64)>
+    requires book { (book.id ≡ J.id) × (book.sides ≡ J.sides) }
+    requires passes { Each (IsOf J.id) passes.items }
+    requires charges { Each (IsChargeOf J.id J.sides) charges.items }
+{
+    let mut crew: Crew<J> = Crew::new(alloc, book, passes, charges);
+    let mut b = crew.callers.pop()?;
+    let mut a = crew.callers.pop()?;
+    let numbers = [a.number(), b.number()];
+    let told = told_of_both(&crew.shared, &mut a, &mut b, messages);
+    let _ = crew.callers.push(a);
+    let _ = crew.callers.push(b);
+    Some((numbers, told, crew.close(alloc)?))
+}
+
+/// A pass is told nothing of another's put until they meet; what is no event has no position, and a message that is not taken comes back.
 #[test]
 fn two_passes_meet(rt: HostRuntime) -> Result<(), Fail> {
-    let (book, mut passes, _charges) = open(
-        rt.alloc(),
-        &[(End::Sender, 1), (End::Receiver, 1)],
-        2,
-    )?;
-    let mut b = last(&mut passes, &book).ok_or("b")?;
-    let mut a = last(&mut passes, &book).ok_or("a")?;
-    assert!(rt; a.number() == 0 && b.number() == 1);
-    let put = book.put(&mut a, 1, message(rt.alloc(), 0x61)?);
-    assert!(rt; matches!(&put, Ok(0)));
-    book.meet(&mut a, &mut b);
-    let ack = book.get_ack(&mut b, 1);
-    assert!(rt; ack == Err(AckFault::NotYet(1)));
-    let elsewhere = book.put(&mut b, 2, message(rt.alloc(), 0x62)?);
-    let Err(PutFault::NoStream(back)) = elsewhere else {
-        return Err("a stream that the book lacks".into());
-    };
-    assert!(rt; back.bytes() == b"b".as_slice());
-    let got = book.get(&mut a, 1);
-    assert!(rt; matches!(&got, Err(GetFault::Nothing(2))));
+    let messages = (message(rt.alloc(), 0x61)?, message(rt.alloc(), 0x62)?);
+    let (book, passes, charges) = open(rt.alloc(), &[(End::Sender, 1), (End::Receiver, 1)], 2)?;
+    let told = meet_and_close::<Brand>(rt.alloc(), book, passes, charges, messages);
+    let answers = [
+        Told::Put(0),
+        Told::Event(1, 46),
+        Told::Back(44, Some(0x62)),
+        Told::Event(2, 45),
+    ];
+    assert_eq!(rt; told, Some(([0, 1], answers, 3)));
     Ok(())
 }
 
@@ -116,9 +148,13 @@ fn opens_within_limits(rt: HostRuntime) -> Result<(), Fail> {
 /// Both sides of each stream of a host.
 fn all_sides(alloc: Global) -> Result<Vec<(End, u32)>, AllocError> {
     let mut sides = Vec::with_capacity(alloc, 512)?;
-    for stream in 1..=STREAMS {
-        sides.push((End::Receiver, stream))?;
-        sides.push((End::Sender, stream))?;
+    for place in 0..2 * STREAMS {
+        let side = if place % 2 == 0 {
+            End::Receiver
+        } else {
+            End::Sender
+        };
+        sides.push((side, place / 2 + 1))?;
     }
     Ok(sides)
 }
@@ -130,30 +166,41 @@ fn is_answered<J: Naming>(
     stream: u32,
     position: u64,
 ) -> bool {
-    if shared.get_ack(caller, stream) != Ok((true, position)) {
-        return false;
-    }
-    match shared.get(caller, stream) {
-        Err(GetFault::Nothing(next)) => next.checked_sub(1) == Some(position),
+    let known = shared.get_ack(caller, stream);
+    let got = shared.get(caller, stream);
+    match (known, got) {
+        (Ok((true, first)), Err(GetFault::Nothing(next))) => {
+            first == position && next.checked_sub(1) == Some(position)
+        }
         _ => false,
     }
 }
 
 /// How many streams answer at both sides, one after another.
-fn answered<J: Naming>(alloc: Global, book: Book, passes: Vec<Pass>) -> Result<u64, Fail>
-    requires book { (book.id ≡ J.id) × (book.sides ≡ J.sides) }
-    requires passes { Each (IsOf J.id) passes.items }
-{
-    let shared: Shared<J> = Shared::new(book);
-    let mut callers = callers_of(alloc, passes)?;
-    let mut caller = callers.pop().ok_or("a pass")?;
+fn answered<J: Naming>(shared: &Shared<J>, caller: &mut Caller<J>) -> u64 {
     let mut streams: u64 = 0;
     for stream in 1..=STREAMS {
-        if is_answered(&shared, &mut caller, stream, streams.saturating_mul(2)) {
+        if is_answered(shared, caller, stream, streams.saturating_mul(2)) {
             streams = streams.saturating_add(1);
         }
     }
-    Ok(streams)
+    streams
+}
+
+/// How many streams answer, and how many events there are then.
+fn opened_and_closed<J: Naming>(
+    alloc: Global,
+    book: Book,
+    passes: Vec<Pass>,
+    charges: Vec<Charge>,
+) -> Option<(u64, u64)>
+    requires book { (book.id ≡ J.id) × (book.sides ≡ J.sides) }
+    requires passes { Each (IsOf J.id) passes.items }
+    requires charges { Each (IsChargeOf J.id J.sides) charges.items }
+{
+    let mut crew: Crew<J> = Crew::new(alloc, book, passes, charges);
+    let streams = answered(&crew.shared, crew.callers.first_mut()?);
+    Some((streams, crew.close(alloc)?))
 }
 
 /// A book has both sides of 256 streams at once, and each answers.
@@ -162,22 +209,46 @@ fn opens_all_sides(rt: HostRuntime) -> Result<(), Fail> {
     let sides = all_sides(rt.alloc())?;
     let (book, passes, charges) = open(rt.alloc(), sides.as_slice(), 2)?;
     assert_eq!(rt; (sides.len(), charges.len()), (512, 512));
-    assert_eq!(rt; answered::<Brand>(rt.alloc(), book, passes)?, 256);
+    let told = opened_and_closed::<Brand>(rt.alloc(), book, passes, charges);
+    assert_eq!(rt; told, Some((256, 512)));
     Ok(())
+}
+
+/// The numbers of a put's faults, in their order.
+fn put_codes() -> [u8; 4] {
+    [
+        PutFault::Full(0, Message::default()).code(),
+        PutFault::Down(0, Message::default()).code(),
+        PutFault::Busy(Message::default()).code(),
+        PutFault::NoStream(Message::default()).code(),
+    ]
+}
+
+/// The same for a get and a get_ack.
+fn ask_codes() -> [[u8; 4]; 2] {
+    [
+        [
+            GetFault::Down(0).code(),
+            GetFault::Busy.code(),
+            GetFault::NoStream.code(),
+            GetFault::Nothing(0).code(),
+        ],
+        [
+            AckFault::Down(0).code(),
+            AckFault::Busy.code(),
+            AckFault::NoStream.code(),
+            AckFault::NotYet(0).code(),
+        ],
+    ]
 }
 
 /// The number of each fault.
 #[test]
 fn faults_have_their_numbers(rt: HostRuntime) -> Result<(), Fail> {
-    assert!(rt; OpenFault::NoMemory.code() == 9 && OpenFault::Limits.code() == 31);
-    assert!(rt; DriveFault::NoMemory.code() == 9 && DriveFault::Busy.code() == 43);
-    assert!(rt; GetFault::Down(0).code() == 42 && GetFault::Busy.code() == 43);
-    assert!(rt; GetFault::NoStream.code() == 44 && GetFault::Nothing(0).code() == 45);
-    assert!(rt; AckFault::Down(0).code() == 42 && AckFault::Busy.code() == 43);
-    assert!(rt; AckFault::NoStream.code() == 44 && AckFault::NotYet(0).code() == 46);
-    assert!(rt; PutFault::Full(0, Message::default()).code() == 41);
-    assert!(rt; PutFault::Down(0, Message::default()).code() == 42);
-    assert!(rt; PutFault::Busy(Message::default()).code() == 43);
-    assert!(rt; PutFault::NoStream(Message::default()).code() == 44);
+    let open = [OpenFault::NoMemory.code(), OpenFault::Limits.code()];
+    let drive = [DriveFault::NoMemory.code(), DriveFault::Busy.code()];
+    assert_eq!(rt; [open, drive], [[9, 31], [9, 43]]);
+    assert_eq!(rt; put_codes(), [41, 42, 43, 44]);
+    assert_eq!(rt; ask_codes(), [[42, 43, 44, 45], [42, 43, 44, 46]]);
     Ok(())
 }

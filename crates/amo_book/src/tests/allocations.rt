@@ -5,9 +5,8 @@ ghost use Rattle.amo_book.specs.Charge.{IsChargeOf};
 ghost use Rattle.amo_book.specs.Closed.{IsOf};
 
 use super::named::Naming;
-use super::pair::{Pair, Told, close, done, pair_of};
-use super::sides::Undone;
-use crate::{Book, Charge, Done, DriveFault, Pass};
+use super::pair::{Pair, Told, close, did, pair_of};
+use crate::{Book, Charge, Pass};
 use amo_core::Mode;
 use amo_object::End;
 use amo_packet::Message;
@@ -15,44 +14,45 @@ use std::alloc::Global;
 use std::marker::Brand;
 use std::test::Fail;
 
-/// What calls answer, and acts do, where there is no memory.
-#[derive(Clone, Copy, Debug, PartialEq, Eq)]
-struct Story {
-    /// Calls of clients before a handshake: events 0 to 2.
-    calls: [Told; 4],
-    /// The handshake of a message without a byte, with a get in the midst: events 3 to 10.
-    across: [Result<Done, Undone>; 4],
-    got: Told,
-    acknowledged: [Result<Done, Undone>; 3],
-    /// The sender's host crashes and recovers: events 11 to 16.
-    crash: [Result<Done, Undone>; 3],
-    down: [Told; 3],
-    /// A message with a byte is sent: events 17 to 20.
-    put: Told,
-    sent: [Result<Done, Undone>; 3],
-}
+/// What calls and acts answer where there is no memory, by four.
+type Story = [[Told; 4]; 6];
 
-/// The calls and acts of the story.
-fn live<J: Naming>(pair: &mut Pair<J>, message: Message) -> Story {
-    Story {
-        calls: [
+/// Calls of clients, a handshake of a message without a byte, and a crash of the sender's host: events 0 to 15.
+fn begin<J: Naming>(pair: &mut Pair<J>) -> [[Told; 4]; 4] {
+    [
+        [
             pair.put(Message::default()),
             pair.put_to(6, Message::default()),
             pair.get_ack(),
             pair.get(),
         ],
-        across: pair.take_across(),
-        got: pair.get(),
-        acknowledged: pair.acknowledge(),
-        crash: [
+        pair.take_across(),
+        pair.acknowledge(),
+        [
             pair.resend_sender(),
             pair.crash_sender(),
+            pair.get_ack(),
             pair.recover_sender(),
         ],
-        down: [pair.get_ack(), pair.get(), pair.get_ack()],
-        put: pair.put(message),
-        sent: [pair.start(27), pair.to_receiver(29), pair.to_sender()],
-    }
+    ]
+}
+
+/// What clients are told after the crash; and a message with a byte is sent, up to its delivery: events 16 to 23.
+fn go_on<J: Naming>(pair: &mut Pair<J>, message: Message) -> [[Told; 4]; 2] {
+    [
+        [
+            pair.get_ack(),
+            pair.get(),
+            pair.put(message),
+            pair.get_ack(),
+        ],
+        [
+            pair.start(27),
+            pair.to_receiver(29),
+            pair.to_sender(),
+            pair.get_ack(),
+        ],
+    ]
 }
 
 /// Whether memory is refused now.
@@ -61,65 +61,70 @@ fn is_refused(alloc: Global) -> bool {
     room.is_err()
 }
 
-/// Both callers meet, and the book is closed, after the story and the delivery of a message with a byte.
+/// The story, the delivery of its message, what a get then answers, and how many events there were once both callers have met.
 fn tell<J: Naming>(
     alloc: Global,
     book: Book,
     passes: Vec<Pass>,
     charges: Vec<Charge>,
     message: Message,
-) -> Option<(Story, [Result<Done, Undone>; 1], Told, u64)>
+) -> Option<(Story, [Told; 2], u64)>
     requires book { (book.id ≡ J.id) × (book.sides ≡ J.sides) }
     requires passes { Each (IsOf J.id) passes.items }
     requires charges { Each (IsChargeOf J.id J.sides) charges.items }
 {
-    let (mut pair, passes, charges): (Pair<J>, _, _) = pair_of(alloc, book, passes, charges)?;
-    let story = live(&mut pair, message);
-    let taken = [pair.to_receiver(0)];
-    let got = pair.get();
+    let mut passes = passes;
+    let mut charges = charges;
+    let mut pair: Pair<J> = pair_of(alloc, book, &mut passes, &mut charges)?;
+    let [calls, across, acknowledged, crash] = begin(&mut pair);
+    let [after, sent] = go_on(&mut pair, message);
+    let taken = [pair.to_receiver(0), pair.get()];
     pair.meet();
     let count = close(pair, passes, charges)?;
-    Some((story, taken, got, count))
+    let story = [calls, across, acknowledged, crash, after, sent];
+    Some((story, taken, count))
 }
 
 /// What the story is to be.
 fn wanted() -> Story {
-    Story {
-        calls: [
+    [
+        [
             Told::Put(0),
-            Told::Fault(44),
+            Told::Back(44, None),
             Told::Event(1, 46),
             Told::Event(2, 45),
         ],
-        across: [
-            done(3, Some(16), Mode::NeedId),
-            done(4, Some(24), Mode::Accept),
-            done(5, Some(18), Mode::Send),
-            done(6, None, Mode::Rcvd),
+        [
+            did(3, Some(16), Mode::NeedId),
+            did(4, Some(24), Mode::Accept),
+            did(5, Some(18), Mode::Send),
+            did(6, None, Mode::Rcvd),
         ],
-        got: Told::Got(7, None),
-        acknowledged: [
-            done(8, Some(17), Mode::Ack),
-            done(9, Some(16), Mode::Quiet),
-            done(10, None, Mode::Idle),
+        [
+            Told::Got(7, None),
+            did(8, Some(17), Mode::Ack),
+            did(9, Some(16), Mode::Quiet),
+            did(10, None, Mode::Idle),
         ],
-        crash: [
-            done(11, None, Mode::Quiet),
-            done(12, None, Mode::Down),
-            done(13, None, Mode::Quiet),
+        [
+            did(11, None, Mode::Quiet),
+            did(12, None, Mode::Down),
+            Told::Event(13, 42),
+            did(14, None, Mode::Quiet),
         ],
-        down: [
-            Told::Known(14, false),
-            Told::Event(15, 45),
-            Told::Known(16, false),
+        [
+            Told::Known(15, false),
+            Told::Event(16, 45),
+            Told::Put(17),
+            Told::Event(18, 46),
         ],
-        put: Told::Put(17),
-        sent: [
-            done(18, Some(16), Mode::NeedId),
-            done(19, Some(24), Mode::Accept),
-            done(20, Some(19), Mode::Send),
+        [
+            did(19, Some(16), Mode::NeedId),
+            did(20, Some(24), Mode::Accept),
+            did(21, Some(19), Mode::Send),
+            Told::Event(22, 46),
         ],
-    }
+    ]
 }
 
 /// Once a book is open, calls that take no memory answer the same whether there is any or not. A delivery of a message with a byte
@@ -132,13 +137,17 @@ fn calls_take_no_memory(rt: HostRuntime) -> Result<(), Fail> {
     let (book, passes, charges) = Book::open(alloc, sides, 2)?;
     let is_refused = is_refused(alloc);
     let told = tell::<Brand>(alloc, book, passes, charges, message);
-    let (story, taken, got, count) = told.ok_or("both sides")?;
+    let (story, taken, count) = told.ok_or("both sides")?;
     assert_eq!(rt; story, wanted());
-    if taken == [Err(Undone::Refused(DriveFault::NoMemory))] {
-        assert!(rt; got == Told::Event(21, 45) && count == 22);
+    if taken == [Told::Fault(9), Told::Event(23, 45)] {
+        assert_eq!(rt; count, 24);
     } else {
-        assert!(rt; !is_refused && taken == [done(21, None, Mode::Rcvd)]);
-        assert!(rt; got == Told::Got(22, Some(0x61)) && count == 23);
+        assert!(rt; !is_refused);
+        assert_eq!(rt;
+            taken,
+            [did(23, None, Mode::Rcvd), Told::Got(24, Some(0x61))]
+        );
+        assert_eq!(rt; count, 25);
     }
     Ok(())
 }

@@ -4,11 +4,12 @@ ghost use Rattle.amo_book.specs.Book.{Each};
 ghost use Rattle.amo_book.specs.Charge.{IsChargeOf};
 ghost use Rattle.amo_book.specs.Closed.{IsOf};
 
-use super::named::{Caller, Naming, Shared, callers_of, passes_of};
-use super::pair::{Pair, Told, close, done, pair_of};
-use super::sides::{Side, Undone, charges_of, sides_of};
+use super::crew::Crew;
+use super::named::{Caller, Naming, Shared};
+use super::pair::{Pair, Told, close, did, pair_of};
+use super::sides::Side;
 use super::{message, open};
-use crate::{Book, Charge, Done, Pass};
+use crate::{Book, Charge, Pass};
 use amo_core::{Act, Mode};
 use amo_object::End;
 use amo_packet::{Message, OwnedPacket};
@@ -19,44 +20,26 @@ use std::test::Fail;
 use std::thread;
 use std::thread::{Threads, join};
 
-/// What the calls and acts of a handshake did.
-#[derive(Clone, Copy, Debug, PartialEq, Eq)]
-struct Story {
-    put: Told,
-    across: [Result<Done, Undone>; 4],
-    got: Told,
-    acknowledged: [Result<Done, Undone>; 3],
-    known: Told,
-    count: u64,
-}
-
-/// A message goes over on one thread.
+/// What the calls and acts of a handshake answer on one thread, and how many events there were.
 fn go_over<J: Naming>(
     alloc: Global,
     book: Book,
     passes: Vec<Pass>,
     charges: Vec<Charge>,
     message: Message,
-) -> Option<Story>
+) -> Option<([Told; 2], [[Told; 4]; 2], u64)>
     requires book { (book.id ≡ J.id) × (book.sides ≡ J.sides) }
     requires passes { Each (IsOf J.id) passes.items }
     requires charges { Each (IsChargeOf J.id J.sides) charges.items }
 {
-    let (mut pair, passes, charges): (Pair<J>, _, _) = pair_of(alloc, book, passes, charges)?;
+    let mut passes = passes;
+    let mut charges = charges;
+    let mut pair: Pair<J> = pair_of(alloc, book, &mut passes, &mut charges)?;
     let put = pair.put(message);
-    let across = pair.take_across();
-    let got = pair.get();
-    let acknowledged = pair.acknowledge();
+    let acts = [pair.take_across(), pair.acknowledge()];
     let known = pair.get_ack();
     let count = close(pair, passes, charges)?;
-    Some(Story {
-        put,
-        across,
-        got,
-        acknowledged,
-        known,
-        count,
-    })
+    Some(([put, known], acts, count))
 }
 
 /// A message goes over in a handshake, and each charge holds the mode that its side was left in. Where memory is refused the
@@ -67,24 +50,20 @@ fn handshake(rt: HostRuntime) -> Result<(), Fail> {
     let message = message(rt.alloc(), 0x61)?;
     let (book, passes, charges) = open(rt.alloc(), &sides, 2)?;
     let told = go_over::<Brand>(rt.alloc(), book, passes, charges, message);
-    let wanted = Story {
-        put: Told::Put(0),
-        across: [
-            done(1, Some(16), Mode::NeedId),
-            done(2, Some(24), Mode::Accept),
-            done(3, Some(19), Mode::Send),
-            done(4, None, Mode::Rcvd),
-        ],
-        got: Told::Got(5, Some(0x61)),
-        acknowledged: [
-            done(6, Some(17), Mode::Ack),
-            done(7, Some(16), Mode::Quiet),
-            done(8, None, Mode::Idle),
-        ],
-        known: Told::Known(9, true),
-        count: 10,
-    };
-    assert_eq!(rt; told, Some(wanted));
+    let across = [
+        did(1, Some(16), Mode::NeedId),
+        did(2, Some(24), Mode::Accept),
+        did(3, Some(19), Mode::Send),
+        did(4, None, Mode::Rcvd),
+    ];
+    let acknowledged = [
+        Told::Got(5, Some(0x61)),
+        did(6, Some(17), Mode::Ack),
+        did(7, Some(16), Mode::Quiet),
+        did(8, None, Mode::Idle),
+    ];
+    let calls = [Told::Put(0), Told::Known(9, true)];
+    assert_eq!(rt; told, Some((calls, [across, acknowledged], 10)));
     Ok(())
 }
 
@@ -135,124 +114,154 @@ impl<J: Naming> Host<J> {
         Some(done.mode)
     }
 
-    /// Sends a message that waits, until the sender is at rest again.
-    fn send<R: Wait>(mut self, rt: &R, shared: &Shared<J>, mail: &Mail) -> Option<Host<J>> {
-        let mut mode = self.act(rt, shared, &Act::Start(7), &mail.to_receiver)?;
-        for _ in 0..4 {
-            if mode == Mode::Quiet {
-                return Some(self);
-            }
-            let act = Act::Deliver(next_packet(rt, &mail.to_sender)?, 0);
-            mode = self.act(rt, shared, &act, &mail.to_receiver)?;
-        }
-        None
+    /// The next packet that came is delivered, with the word for an accept.
+    fn deliver_next<R: Wait>(
+        &mut self,
+        rt: &R,
+        shared: &Shared<J>,
+        word: u64,
+        from: &Mutex<Option<OwnedPacket>>,
+        to: &Mutex<Option<OwnedPacket>>,
+    ) -> Option<Mode> {
+        let packet = next_packet(rt, from)?;
+        self.act(rt, shared, &Act::Deliver(packet, word), to)
     }
 
-    /// Receives a message, and takes it, until the receiver is at rest again.
-    fn receive<R: Wait>(mut self, rt: &R, shared: &Shared<J>, mail: &Mail) -> Option<Host<J>> {
+    /// The client takes what has come, and the host says so.
+    fn take<R: Wait>(
+        &mut self,
+        rt: &R,
+        shared: &Shared<J>,
+        to: &Mutex<Option<OwnedPacket>>,
+    ) -> Option<Mode> {
+        if shared.get(&mut self.caller, 5).is_err() {
+            return None;
+        }
+        self.act(rt, shared, &Act::Resend, to)
+    }
+
+    /// Sends a message that waits, until the sender is at rest again. Whether it came to rest.
+    fn send<R: Wait>(&mut self, rt: &R, shared: &Shared<J>, mail: &Mail) -> bool {
+        let mut mode = self.act(rt, shared, &Act::Start(7), &mail.to_receiver);
         for _ in 0..4 {
-            let act = Act::Deliver(next_packet(rt, &mail.to_receiver)?, 9);
-            let mode = self.act(rt, shared, &act, &mail.to_sender)?;
-            if mode == Mode::Idle {
-                return Some(self);
-            }
-            if mode == Mode::Rcvd {
-                shared.get(&mut self.caller, 5).ok()?;
-                self.act(rt, shared, &Act::Resend, &mail.to_sender)?;
+            match mode {
+                Some(Mode::Quiet) => return true,
+                None => return false,
+                _ => {
+                    mode = self.deliver_next(rt, shared, 0, &mail.to_sender, &mail.to_receiver);
+                }
             }
         }
-        None
+        false
+    }
+
+    /// Receives a message, and takes it, until the receiver is at rest again. Whether it came to rest.
+    fn receive<R: Wait>(&mut self, rt: &R, shared: &Shared<J>, mail: &Mail) -> bool {
+        for _ in 0..4 {
+            let mode = match self.deliver_next(rt, shared, 9, &mail.to_receiver, &mail.to_sender) {
+                Some(Mode::Rcvd) => self.take(rt, shared, &mail.to_sender),
+                mode => mode,
+            };
+            match mode {
+                Some(Mode::Idle) => return true,
+                None => return false,
+                _ => {}
+            }
+        }
+        false
     }
 }
 
-/// Two threads that own passes and charges, and borrow the book.
+/// Two threads that own passes and charges, and borrow the book. Whether both come to rest.
 fn at_both_hosts<J: Naming + Send + Sync, R: Threads + Wait + Sync>(
     rt: &R,
     shared: &Shared<J>,
-    hosts: (Host<J>, Host<J>),
-) -> Option<(Host<J>, Host<J>)> {
+    sender: Host<J>,
+    receiver: Host<J>,
+) -> (Host<J>, Host<J>, bool) {
     let mail = Mail {
         to_sender: Mutex::new(None),
         to_receiver: Mutex::new(None),
     };
-    let (sender, receiver) = hosts;
-    let (sender, receiver) = join(
+    let ((sender, is_sent), (receiver, is_received)) = join(
         rt,
-        || sender.send(rt, shared, &mail),
-        || receiver.receive(rt, shared, &mail),
+        || {
+            let mut sender = sender;
+            let is_sent = sender.send(rt, shared, &mail);
+            (sender, is_sent)
+        },
+        || {
+            let mut receiver = receiver;
+            let is_received = receiver.receive(rt, shared, &mail);
+            (receiver, is_received)
+        },
     );
-    Some((sender?, receiver?))
+    (sender, receiver, is_sent && is_received)
 }
 
 /// The host of the last of the sides, with the last of the callers.
-fn last_host<J: Naming>(
-    alloc: Global,
-    callers: &mut Vec<Caller<J>>,
-    sides: &mut Vec<Side<J>>,
-) -> Result<Host<J>, Fail> {
-    let caller = callers.pop().ok_or("a pass")?;
-    let side = sides.pop().ok_or("a side")?;
-    let sides = Vec::from_array(alloc, [side])?;
-    Ok(Host {
+fn last_host<J: Naming>(alloc: Global, crew: &mut Crew<J>) -> Option<Host<J>> {
+    let mut sides = Vec::with_capacity(alloc, 1).ok()?;
+    let _ = sides.push(crew.sides.pop()?);
+    let caller = crew.callers.pop()?;
+    Some(Host {
         alloc,
         caller,
         sides,
     })
 }
 
-/// Ends the book, with the passes and charges of both hosts.
-fn end<J: Naming>(
-    alloc: Global,
-    shared: Shared<J>,
-    hosts: (Host<J>, Host<J>),
-) -> Result<u64, Fail> {
-    let (sender, receiver) = hosts;
-    let callers = Vec::from_array(alloc, [sender.caller, receiver.caller])?;
-    let passes = passes_of(alloc, callers)?;
-    let mut sides = sender.sides;
-    for side in receiver.sides {
-        sides.push(side)?;
+/// A host's caller and its sides are the crew's again.
+fn come_back<J: Naming>(crew: &mut Crew<J>, host: Host<J>) {
+    let _ = crew.callers.push(host.caller);
+    for side in host.sides {
+        let _ = crew.sides.push(side);
     }
-    let charges = charges_of(alloc, sides)?;
-    let book = shared.into_book();
-    let closed = book.close(passes, charges).ok().ok_or("closes")?;
-    Ok(closed.count())
 }
 
-/// A message goes over between two threads. The answer is what the sender's client is told of it at last, and how many
-/// events there were.
+/// A message goes over between two threads. The answer is where it was put, whether both hosts came to rest, and what the sender's client is
+/// told of it at last.
 fn go_between<J: Naming + Send + Sync, R: Threads + Wait + Sync>(
+    rt: &R,
+    alloc: Global,
+    crew: &mut Crew<J>,
+    message: Message,
+) -> Option<(u64, bool, (bool, u64))> {
+    let receiver = last_host(alloc, crew)?;
+    let mut sender = last_host(alloc, crew)?;
+    let put = crew.shared.put(&mut sender.caller, 5, message).ok()?;
+    let (mut sender, receiver, are_at_rest) = at_both_hosts(rt, &crew.shared, sender, receiver);
+    let known = crew.shared.get_ack(&mut sender.caller, 5).ok()?;
+    come_back(crew, sender);
+    come_back(crew, receiver);
+    Some((put, are_at_rest, known))
+}
+
+/// The same, and how many events there were.
+fn cross<J: Naming + Send + Sync, R: Threads + Wait + Sync>(
     rt: &R,
     alloc: Global,
     book: Book,
     passes: Vec<Pass>,
     charges: Vec<Charge>,
-) -> Result<((bool, u64), u64), Fail>
+    message: Message,
+) -> Option<((u64, bool, (bool, u64)), u64)>
     requires book { (book.id ≡ J.id) × (book.sides ≡ J.sides) }
     requires passes { Each (IsOf J.id) passes.items }
     requires charges { Each (IsChargeOf J.id J.sides) charges.items }
 {
-    let shared: Shared<J> = Shared::new(book);
-    let mut callers = callers_of(alloc, passes)?;
-    let mut sides = sides_of(alloc, charges)?;
-    let receiver = last_host(alloc, &mut callers, &mut sides)?;
-    let mut sender = last_host(alloc, &mut callers, &mut sides)?;
-    let put = shared.put(&mut sender.caller, 5, message(alloc, 0x61)?);
-    put.ok().ok_or("put")?;
-    let hosts = at_both_hosts(rt, &shared, (sender, receiver));
-    let (mut sender, receiver) = hosts.ok_or("both hosts come to rest")?;
-    let told = shared.get_ack(&mut sender.caller, 5)?;
-    let count = end(alloc, shared, (sender, receiver))?;
-    Ok((told, count))
+    let mut crew: Crew<J> = Crew::new(alloc, book, passes, charges);
+    let told = go_between(rt, alloc, &mut crew, message)?;
+    Some((told, crew.close(alloc)?))
 }
 
 /// Two threads, each with the charges of its host, take a message across.
 #[test]
 fn charges_cross_threads(rt: HostRuntime) -> Result<(), Fail> {
     let sides = [(End::Sender, 5), (End::Receiver, 5)];
+    let message = message(rt.alloc(), 0x61)?;
     let (book, passes, charges) = open(rt.alloc(), &sides, 2)?;
-    let (told, count) = go_between::<Brand, _>(&rt, rt.alloc(), book, passes, charges)?;
-    assert_eq!(rt; told, (true, 9));
-    assert_eq!(rt; count, 10);
+    let told = cross::<Brand, _>(&rt, rt.alloc(), book, passes, charges, message);
+    assert_eq!(rt; told, Some(((0, true, (true, 9)), 10)));
     Ok(())
 }

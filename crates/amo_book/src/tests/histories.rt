@@ -5,15 +5,16 @@ ghost use Rattle.amo_book.specs.Book.{Each};
 ghost use Rattle.amo_book.specs.Charge.{IsChargeOf};
 ghost use Rattle.amo_book.specs.Closed.{IsOf};
 
-use super::named::{Caller, Naming, Shared, callers_of, passes_of};
+use super::crew::Crew;
+use super::named::{Caller, Naming, Shared, callers_of};
 use super::open;
 use super::recorder::{Link, Recorder, links_of};
-use super::sides::{Side, charges_of, sides_of};
+use super::sides::sides_of;
 use super::threads::meet_all;
 use crate::{Book, Charge, Pass};
 use amo_object::End;
 use amo_world::{Event, STREAMS, World};
-use std::alloc::{AllocError, Global};
+use std::alloc::Global;
 use std::marker::Brand;
 use std::sync::atomic::{AtomicU64, Ordering};
 use std::test::Fail;
@@ -33,7 +34,9 @@ const TURNS: u32 = 3_000;
 #[derive(Drop)]
 struct Begun {
     there: AtomicU64,
-    clients_done: AtomicU64,
+    /// Threads that began before all were there.
+    early: AtomicU64,
+    done: AtomicU64,
 }
 
 /// A thread's work: a client's calls, or the acts of hosts where it has sides.
@@ -41,15 +44,10 @@ struct Begun {
 struct Job<J: Naming> {
     recorder: Recorder<J>,
     links: Vec<Link<J>>,
-    is_at_once: bool,
 }
 
 /// One call of a client: a put or a get_ack by turns, or a get. It answers whether that became an event.
-fn call<J: Naming>(
-    shared: &Shared<J>,
-    recorder: &mut Recorder<J>,
-    left: u32,
-) -> Result<bool, AllocError> {
+fn call<J: Naming>(shared: &Shared<J>, recorder: &mut Recorder<J>, left: u32) -> bool {
     let number = recorder.number();
     let stream = if number % 2 == 0 { 1 } else { 2 };
     if number >= CLIENTS / 2 {
@@ -62,229 +60,197 @@ fn call<J: Naming>(
 }
 
 /// The calls of a client.
-fn call_often<J: Naming>(shared: &Shared<J>, recorder: &mut Recorder<J>) -> Result<(), AllocError> {
+fn call_often<J: Naming>(shared: &Shared<J>, recorder: &mut Recorder<J>) {
     let mut left = CALLS;
     'calls: for _ in 0..u64::MAX {
         if left == 0 {
             break;
         }
-        if call(shared, recorder, left)? {
+        if call(shared, recorder, left) {
             left -= 1;
         } else {
             thread::yield_now();
         }
     }
-    Ok(())
 }
 
 /// Drives the sides, with crashes, until the clients are done.
 fn drive_often<J: Naming>(
     shared: &Shared<J>,
-    clients_done: &AtomicU64,
+    done: &AtomicU64,
     recorder: &mut Recorder<J>,
-    links: &mut Vec<Link<J>>,
-) -> Result<(), AllocError> {
+    links: &mut [Link<J>],
+) {
     for turn in 0..TURNS {
         for link in links.iter_mut() {
-            link.trouble(recorder, shared, turn)?;
-            link.turn(recorder, shared)?;
+            link.trouble(recorder, shared, turn);
+            link.turn(recorder, shared);
         }
-        if clients_done.load(Ordering::SeqCst) >= CLIENTS as u64 {
+        if done.load(Ordering::SeqCst) >= CLIENTS as u64 {
             break;
         }
     }
-    Ok(())
 }
 
-/// Does the job.
-fn work<J: Naming>(shared: &Shared<J>, begun: &Begun, job: Job<J>) -> Result<Job<J>, AllocError> {
-    let Job {
-        mut recorder,
-        mut links,
-        is_at_once: _,
-    } = job;
-    let is_at_once = meet_all(&begun.there, CLIENTS as u64 + 1);
-    if links.is_empty() {
-        call_often(shared, &mut recorder)?;
-        begun.clients_done.fetch_add(1, Ordering::SeqCst);
-    } else {
-        drive_often(shared, &begun.clients_done, &mut recorder, &mut links)?;
+/// Does the job, once all threads are there.
+fn work<J: Naming>(shared: &Shared<J>, begun: &Begun, job: &mut Job<J>) {
+    if !meet_all(&begun.there, CLIENTS as u64 + 1) {
+        begun.early.fetch_add(1, Ordering::SeqCst);
     }
-    Ok(Job {
-        recorder,
-        links,
-        is_at_once,
-    })
+    if job.links.is_empty() {
+        call_often(shared, &mut job.recorder);
+    } else {
+        drive_often(
+            shared,
+            &begun.done,
+            &mut job.recorder,
+            job.links.as_mut_slice(),
+        );
+    }
+    begun.done.fetch_add(1, Ordering::SeqCst);
 }
 
-/// All jobs, each on a thread of its own.
+/// All jobs, each on a thread of its own. Whether all threads were there before the first call.
 fn run<J: Naming + Send + Sync, R: Threads + Sync>(
     rt: &R,
     shared: &Shared<J>,
-    jobs: Vec<Job<J>>,
-) -> Result<Vec<Result<Job<J>, AllocError>>, AllocError> {
+    jobs: &mut [Job<J>],
+) -> bool {
     let begun = Begun {
         there: AtomicU64::new(0),
-        clients_done: AtomicU64::new(0),
+        early: AtomicU64::new(0),
+        done: AtomicU64::new(0),
     };
-    thread::map_vec(rt, jobs, &|job| work(shared, &begun, job))
+    thread::for_each_mut(
+        rt,
+        jobs,
+        CLIENTS + 1,
+        &|_: usize, job: &mut Job<J>| work(shared, &begun, job),
+    );
+    begun.early.load(Ordering::SeqCst) == 0
 }
 
 /// A job for each caller. The last one drives.
-fn jobs_of<J: Naming>(
-    alloc: Global,
-    callers: Vec<Caller<J>>,
-    links: Vec<Link<J>>,
-) -> Result<Vec<Job<J>>, Fail> {
-    let mut callers = callers;
-    let last = callers.pop().ok_or("who drives")?;
+fn jobs_of<J: Naming>(alloc: Global, callers: Vec<Caller<J>>, links: Vec<Link<J>>) -> Vec<Job<J>> {
     let mut jobs = Vec::new(alloc);
     for caller in callers {
-        jobs.push(Job {
+        let _ = jobs.push(Job {
             recorder: Recorder::new(alloc, caller),
             links: Vec::new(alloc),
-            is_at_once: false,
-        })?;
+        });
     }
-    jobs.push(Job {
-        recorder: Recorder::new(alloc, last),
-        links,
-        is_at_once: false,
-    })?;
-    Ok(jobs)
+    if let Some(last) = jobs.last_mut() {
+        last.links = links;
+    }
+    jobs
 }
 
-/// What is left when the threads are joined.
-#[derive(Drop)]
-struct Back<J: Naming> {
-    callers: Vec<Caller<J>>,
-    sides: Vec<Side<J>>,
-    lists: Vec<Vec<(u64, Event)>>,
-    are_at_once: bool,
-    are_settled: bool,
+/// The streams that the job drove take one message more across. Whether each did.
+fn settle<J: Naming>(shared: &Shared<J>, job: &mut Job<J>) -> bool {
+    let mut are_settled = true;
+    for link in job.links.iter_mut() {
+        are_settled &= link.settle(&mut job.recorder, shared);
+    }
+    are_settled
 }
 
-impl<J: Naming> Back<J> {
-    /// Takes a job apart; a stream that it drove takes one message more across.
-    fn take(&mut self, shared: &Shared<J>, job: Job<J>) -> Result<(), Fail> {
-        let Job {
-            mut recorder,
-            links,
-            is_at_once,
-        } = job;
-        self.are_at_once &= is_at_once;
-        for link in links {
-            let mut link = link;
-            self.are_settled &= link.settle(&mut recorder, shared)?;
-            self.sides.push(link.sender)?;
-            self.sides.push(link.receiver)?;
-        }
-        let (caller, made) = recorder.into_parts();
-        self.callers.push(caller)?;
-        self.lists.push(made)?;
-        Ok(())
+/// Takes a job apart, and answers what was noted.
+fn take_apart<J: Naming>(crew: &mut Crew<J>, job: Job<J>) -> Vec<(u64, Event)> {
+    for link in job.links {
+        let _ = crew.sides.push(link.sender);
+        let _ = crew.sides.push(link.receiver);
+    }
+    let (caller, made) = job.recorder.into_parts();
+    let _ = crew.callers.push(caller);
+    made
+}
+
+/// Places an event at its position. Whether there is such a place, with nothing in it.
+fn place_one(slots: &mut [Option<Event>], position: u64, event: Event) -> bool {
+    match slots.get_mut(position as usize) {
+        Some(slot) => slot.replace(event).is_none(),
+        None => false,
     }
 }
 
-/// Places each event at its position. No two share one.
-fn place(slots: &mut Vec<Option<Event>>, made: Vec<(u64, Event)>) -> Result<(), Fail> {
+/// Places each event at its position. Whether no two share one.
+fn place(slots: &mut [Option<Event>], made: Vec<(u64, Event)>) -> bool {
+    let mut are_apart = true;
     for (position, event) in made {
-        let slot = slots
-            .get_mut(position as usize)
-            .ok_or("a position too high")?;
-        if slot.is_some() {
-            return Err("two events at one position".into());
-        }
-        *slot = Some(event);
+        are_apart &= place_one(slots, position, event);
     }
-    Ok(())
+    are_apart
 }
 
-/// All events in the order of their positions. None is lacking.
-fn merged(
-    alloc: Global,
-    lists: Vec<Vec<(u64, Event)>>,
-    count: u64,
-) -> Result<Vec<Option<Event>>, Fail> {
+/// So many places without an event.
+fn no_events(alloc: Global, count: u64) -> Vec<Option<Event>> {
     let mut slots = Vec::new(alloc);
     for _ in 0..count {
-        slots.push(None)?;
+        let _ = slots.push(None);
     }
-    for made in lists {
-        place(&mut slots, made)?;
-    }
-    Ok(slots)
+    slots
 }
 
-/// A world accepts the event.
-fn accept(world: &mut World, event: Event) -> Result<(), Fail> {
-    if event.stream < 1 || event.stream > STREAMS {
-        return Err("no stream of a host".into());
+/// Whether there is an event, and a world accepts it.
+fn accept(world: &mut World, slot: Option<Event>) -> bool {
+    match slot {
+        Some(event) if event.stream >= 1 && event.stream <= STREAMS => {
+            world.apply(event).is_ok()
+        }
+        _ => false,
     }
-    Ok(world.apply(event)?)
 }
 
-/// A world accepts all events: they are a right, honest and fresh history. The answer is how many there are.
-fn accepted(alloc: Global, slots: Vec<Option<Event>>) -> Result<usize, Fail> {
-    let mut world = World::new(alloc)?;
+/// Whether a world accepts all events: they are a right, honest and fresh history, and no position is without one.
+fn are_accepted(alloc: Global, slots: Vec<Option<Event>>) -> bool {
+    let Ok(mut world) = World::new(alloc) else {
+        return false;
+    };
+    let mut are_accepted = true;
     for slot in slots {
-        accept(&mut world, slot.ok_or("a position without an event")?)?;
+        are_accepted = are_accepted && accept(&mut world, slot);
     }
-    Ok(world.event_count())
+    are_accepted
 }
 
-/// What came of all.
-#[derive(Clone, Copy, Debug, PartialEq, Eq)]
-struct Told {
-    /// Whether all threads were there before the first call.
-    are_at_once: bool,
-    /// Whether each stream took one message more across.
-    are_settled: bool,
-    /// Whether the world accepted as many events as the book counted.
-    are_accepted: bool,
+/// Ends the book, and lets a world judge what was noted. Whether it accepted an event at each position that the book counted.
+fn judge<J: Naming>(alloc: Global, shared: Shared<J>, jobs: Vec<Job<J>>) -> Option<bool> {
+    let mut crew = Crew {
+        shared,
+        callers: Vec::new(alloc),
+        sides: Vec::new(alloc),
+    };
+    let mut lists = Vec::new(alloc);
+    for job in jobs {
+        let _ = lists.push(take_apart(&mut crew, job));
+    }
+    let mut slots = no_events(alloc, crew.close(alloc)?);
+    let mut are_apart = true;
+    for made in lists {
+        are_apart &= place(slots.as_mut_slice(), made);
+    }
+    Some(are_apart && are_accepted(alloc, slots))
 }
 
-/// Clients and a driver at work at once.
+/// Clients and a driver at work at once. Whether all threads were there before the first call, whether each stream took one message more
+/// across, and whether a world accepted all.
 fn put_and_get<J: Naming + Send + Sync, R: Threads + Sync>(
     rt: &R,
     alloc: Global,
     book: Book,
     passes: Vec<Pass>,
     charges: Vec<Charge>,
-) -> Result<Told, Fail>
+) -> Option<[bool; 3]>
     requires book { (book.id ≡ J.id) × (book.sides ≡ J.sides) }
     requires passes { Each (IsOf J.id) passes.items }
     requires charges { Each (IsChargeOf J.id J.sides) charges.items }
 {
     let shared: Shared<J> = Shared::new(book);
-    let links = links_of(alloc, sides_of(alloc, charges)?)?;
-    let jobs = jobs_of(alloc, callers_of(alloc, passes)?, links)?;
-    let jobs = run(rt, &shared, jobs)?;
-    let mut back = Back {
-        callers: Vec::new(alloc),
-        sides: Vec::new(alloc),
-        lists: Vec::new(alloc),
-        are_at_once: true,
-        are_settled: true,
-    };
-    for job in jobs {
-        back.take(&shared, job?)?;
-    }
-    ended(alloc, shared, back)
-}
-
-/// Ends the book, and lets a world judge what was noted.
-fn ended<J: Naming>(alloc: Global, shared: Shared<J>, back: Back<J>) -> Result<Told, Fail> {
-    let passes = passes_of(alloc, back.callers)?;
-    let charges = charges_of(alloc, back.sides)?;
-    let book = shared.into_book();
-    let closed = book.close(passes, charges).ok().ok_or("closes")?;
-    let events = accepted(alloc, merged(alloc, back.lists, closed.count())?)?;
-    Ok(Told {
-        are_at_once: back.are_at_once,
-        are_settled: back.are_settled,
-        are_accepted: events as u64 == closed.count(),
-    })
+    let links = links_of(alloc, sides_of(alloc, charges));
+    let mut jobs = jobs_of(alloc, callers_of(alloc, passes), links);
+    let are_at_once = run(rt, &shared, jobs.as_mut_slice());
+    let are_settled = settle(&shared, jobs.last_mut()?);
+    Some([are_at_once, are_settled, judge(alloc, shared, jobs)?])
 }
 
 /// What eight clients on two streams and one who drives them noted is one history: right, honest and fresh.
@@ -297,12 +263,7 @@ fn threads_put_and_get(rt: HostRuntime) -> Result<(), Fail> {
         (End::Receiver, 2),
     ];
     let (book, passes, charges) = open(rt.alloc(), &sides, CLIENTS + 1)?;
-    let told = put_and_get::<Brand, _>(&rt, rt.alloc(), book, passes, charges)?;
-    let wanted = Told {
-        are_at_once: true,
-        are_settled: true,
-        are_accepted: true,
-    };
-    assert_eq!(rt; told, wanted);
+    let told = put_and_get::<Brand, _>(&rt, rt.alloc(), book, passes, charges);
+    assert_eq!(rt; told, Some([true; 3]));
     Ok(())
 }

@@ -1,13 +1,13 @@
 //! A book with its passes and charges, whose types say that they belong together: so tests and threads pass them about with no
 //! clause.
-ghost use Rattle.std.specs.Prelude.{◌≡◌, IfOk, IfSome};
+ghost use Rattle.std.specs.Prelude.{◌≡◌};
 ghost use Rattle.amo_book.specs.Book.{Each};
 ghost use Rattle.amo_book.specs.Charge.{IsChargeOf};
 ghost use Rattle.amo_book.specs.Closed.{IsOf};
 
 use crate::{AckFault, Book, Charge, GetFault, Pass, PutFault};
 use amo_packet::Message;
-use std::alloc::{AllocError, Global};
+use std::alloc::Global;
 use std::marker::{Brand, Model, PhantomData};
 
 /// Which book it is, and its sides. Each test picks it.
@@ -121,42 +121,36 @@ pub fn last_caller<J: Naming>(passes: &mut Vec<Pass>) -> Option<Caller<J>>
     })
 }
 
-/// The passes as callers, in their order.
-pub fn callers_of<J: Naming>(alloc: Global, passes: Vec<Pass>) -> Result<Vec<Caller<J>>, AllocError>
+/// The passes as callers, in their order. One that finds no memory is lost, and then the book is not closed.
+pub fn callers_of<J: Naming>(alloc: Global, passes: Vec<Pass>) -> Vec<Caller<J>>
     requires { Each (IsOf J.id) passes.items }
 {
     let mut passes = passes;
-    let mut callers = Vec::with_capacity(alloc, passes.len())?;
+    let mut callers = Vec::new(alloc);
     'passes: for _ in 0..passes.len() {
-        let Some(caller) = last_caller(&mut passes) else {
-            break;
-        };
-        callers.push(caller)?;
+        if let Some(caller) = last_caller(&mut passes) {
+            let _ = callers.push(caller);
+        }
     }
     callers.reverse();
-    Ok(callers)
+    callers
 }
 
-/// Adds a caller's pass to the passes.
-pub fn push_pass<J: Naming>(passes: &mut Vec<Pass>, caller: Caller<J>) -> Result<(), AllocError>
+/// Adds a caller's pass to the passes. Where it finds no memory it is lost, and then the book is not closed.
+pub fn push_pass<J: Naming>(passes: &mut Vec<Pass>, caller: Caller<J>)
     requires { Each (IsOf J.id) passes.old.items }
     ensures { Each (IsOf J.id) passes.new.items }
 {
-    Ok(passes.push(caller.pass)?)
+    let _ = passes.push(caller.pass);
 }
 
 /// The passes of the callers, in their order.
-pub fn passes_of<J: Naming>(alloc: Global, callers: Vec<Caller<J>>) -> Result<Vec<Pass>, AllocError>
-    ensures { IfOk result (λ passes. Each (IsOf J.id) passes.items) }
+pub fn passes_of<J: Naming>(alloc: Global, callers: Vec<Caller<J>>) -> Vec<Pass>
+    ensures { Each (IsOf J.id) result.items }
 {
-    let mut callers = callers;
-    callers.reverse();
-    let mut passes = Vec::with_capacity(alloc, callers.len())?;
-    'callers: for _ in 0..callers.len() {
-        let Some(caller) = callers.pop() else {
-            break;
-        };
-        push_pass(&mut passes, caller)?;
+    let mut passes = Vec::new(alloc);
+    'callers: for caller in callers {
+        push_pass(&mut passes, caller);
     }
-    Ok(passes)
+    passes
 }

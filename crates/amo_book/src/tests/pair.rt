@@ -6,7 +6,7 @@ ghost use Rattle.amo_book.specs.Closed.{IsOf};
 
 use super::named::{Caller, Naming, Shared, last_caller, push_pass};
 use super::sides::{Side, Undone, last_side, push_charge};
-use crate::{AckFault, Book, Charge, Done, DriveFault, GetFault, Pass, PutFault};
+use crate::{AckFault, Book, Charge, Done, GetFault, Pass, PutFault};
 use amo_core::Mode;
 use amo_packet::Message;
 use std::alloc::Global;
@@ -22,7 +22,7 @@ pub struct Pair<J: Naming> {
     receiver: Side<J>,
 }
 
-/// What a client's call answered.
+/// What a call or an act answered.
 #[derive(Clone, Copy, Debug, PartialEq, Eq)]
 pub enum Told {
     /// A message was put, at this position.
@@ -31,10 +31,67 @@ pub enum Told {
     Got(u64, Option<u8>),
     /// The answer of a get_ack, at this position.
     Known(u64, bool),
+    /// An act of a host was done.
+    Did(Done),
     /// A fault of this number that is an event, at this position.
     Event(u64, u8),
     /// A fault of this number that is no event.
     Fault(u8),
+    /// The same of a put, with the first byte of the message that came back.
+    Back(u8, Option<u8>),
+    /// It was no act of the side's host.
+    Alien,
+}
+
+/// An act that was done.
+pub fn did(position: u64, length: Option<usize>, mode: Mode) -> Told {
+    Told::Did(Done {
+        position,
+        length,
+        mode,
+    })
+}
+
+/// What a put answered.
+pub fn told_of_put(answer: Result<u64, PutFault>) -> Told {
+    match answer {
+        Ok(position) => Told::Put(position),
+        Err(PutFault::Full(position, _)) => Told::Event(position, 41),
+        Err(PutFault::Down(position, _)) => Told::Event(position, 42),
+        Err(PutFault::Busy(message)) => Told::Back(43, message.bytes().first().copied()),
+        Err(PutFault::NoStream(message)) => Told::Back(44, message.bytes().first().copied()),
+    }
+}
+
+/// What a get answered.
+pub fn told_of_get(answer: Result<(Message, u64), GetFault>) -> Told {
+    match answer {
+        Ok((message, position)) => Told::Got(position, message.bytes().first().copied()),
+        Err(GetFault::Nothing(position)) => Told::Event(position, 45),
+        Err(GetFault::Down(position)) => Told::Event(position, 42),
+        Err(GetFault::Busy) => Told::Fault(43),
+        Err(GetFault::NoStream) => Told::Fault(44),
+    }
+}
+
+/// What a get_ack answered.
+pub fn told_of_ack(answer: Result<(bool, u64), AckFault>) -> Told {
+    match answer {
+        Ok((is_got, position)) => Told::Known(position, is_got),
+        Err(AckFault::NotYet(position)) => Told::Event(position, 46),
+        Err(AckFault::Down(position)) => Told::Event(position, 42),
+        Err(AckFault::Busy) => Told::Fault(43),
+        Err(AckFault::NoStream) => Told::Fault(44),
+    }
+}
+
+/// What an act answered.
+fn told_of(done: Result<Done, Undone>) -> Told {
+    match done {
+        Ok(done) => Told::Did(done),
+        Err(Undone::Refused(fault)) => Told::Fault(fault.code()),
+        Err(Undone::Alien) => Told::Alien,
+    }
 }
 
 impl<J: Naming> Pair<J> {
@@ -44,33 +101,15 @@ impl<J: Naming> Pair<J> {
     }
 
     pub fn put_to(&mut self, stream: u32, message: Message) -> Told {
-        match self.shared.put(&mut self.caller, stream, message) {
-            Ok(position) => Told::Put(position),
-            Err(PutFault::Full(position, _)) => Told::Event(position, 41),
-            Err(PutFault::Down(position, _)) => Told::Event(position, 42),
-            Err(PutFault::Busy(_)) => Told::Fault(43),
-            Err(PutFault::NoStream(_)) => Told::Fault(44),
-        }
+        told_of_put(self.shared.put(&mut self.caller, stream, message))
     }
 
     pub fn get(&mut self) -> Told {
-        match self.shared.get(&mut self.caller, self.receiver.stream()) {
-            Ok((message, position)) => Told::Got(position, message.bytes().first().copied()),
-            Err(GetFault::Nothing(position)) => Told::Event(position, 45),
-            Err(GetFault::Down(position)) => Told::Event(position, 42),
-            Err(GetFault::Busy) => Told::Fault(43),
-            Err(GetFault::NoStream) => Told::Fault(44),
-        }
+        told_of_get(self.shared.get(&mut self.caller, self.receiver.stream()))
     }
 
     pub fn get_ack(&mut self) -> Told {
-        match self.shared.get_ack(&mut self.caller, self.sender.stream()) {
-            Ok((is_got, position)) => Told::Known(position, is_got),
-            Err(AckFault::NotYet(position)) => Told::Event(position, 46),
-            Err(AckFault::Down(position)) => Told::Event(position, 42),
-            Err(AckFault::Busy) => Told::Fault(43),
-            Err(AckFault::NoStream) => Told::Fault(44),
-        }
+        told_of_ack(self.shared.get_ack(&mut self.caller, self.sender.stream()))
     }
 
     /// Both callers meet.
@@ -79,60 +118,64 @@ impl<J: Naming> Pair<J> {
     }
 
     /// Begins a handshake.
-    pub fn start(&mut self, word: u64) -> Result<Done, Undone> {
-        self.shared.start(&mut self.caller, &mut self.sender, word)
+    pub fn start(&mut self, word: u64) -> Told {
+        told_of(self.shared.start(&mut self.caller, &mut self.sender, word))
     }
 
     /// The sender emits the packet of its mode.
-    pub fn resend_sender(&mut self) -> Result<Done, Undone> {
-        self.shared.resend(&mut self.caller, &mut self.sender)
+    pub fn resend_sender(&mut self) -> Told {
+        told_of(self.shared.resend(&mut self.caller, &mut self.sender))
     }
 
     /// The receiver emits the packet of its mode.
-    pub fn resend_receiver(&mut self) -> Result<Done, Undone> {
-        self.shared.resend(&mut self.caller, &mut self.receiver)
+    pub fn resend_receiver(&mut self) -> Told {
+        told_of(self.shared.resend(&mut self.caller, &mut self.receiver))
     }
 
-    pub fn crash_sender(&mut self) -> Result<Done, Undone> {
-        self.shared.crash(&mut self.caller, &mut self.sender)
+    pub fn crash_sender(&mut self) -> Told {
+        told_of(self.shared.crash(&mut self.caller, &mut self.sender))
     }
 
-    pub fn recover_sender(&mut self) -> Result<Done, Undone> {
-        self.shared.recover(&mut self.caller, &mut self.sender)
+    pub fn recover_sender(&mut self) -> Told {
+        told_of(self.shared.recover(&mut self.caller, &mut self.sender))
     }
 
     /// Delivers the sender's last packet.
-    pub fn to_receiver(&mut self, word: u64) -> Result<Done, Undone> {
-        self.shared.pass_on(
-            self.alloc,
-            &mut self.caller,
-            &self.sender,
-            &mut self.receiver,
-            word,
+    pub fn to_receiver(&mut self, word: u64) -> Told {
+        told_of(
+            self.shared.pass_on(
+                self.alloc,
+                &mut self.caller,
+                &self.sender,
+                &mut self.receiver,
+                word,
+            ),
         )
     }
 
     /// Delivers the receiver's last packet.
-    pub fn to_sender(&mut self) -> Result<Done, Undone> {
-        self.shared.pass_on(
-            self.alloc,
-            &mut self.caller,
-            &self.receiver,
-            &mut self.sender,
-            0,
+    pub fn to_sender(&mut self) -> Told {
+        told_of(
+            self.shared.pass_on(
+                self.alloc,
+                &mut self.caller,
+                &self.receiver,
+                &mut self.sender,
+                0,
+            ),
         )
     }
 
-    /// The same, and asked for again where memory was refused.
-    fn to_receiver_at_last(&mut self) -> Result<Done, Undone> {
+    /// Delivers the sender's last packet, once more where memory was refused.
+    fn to_receiver_at_last(&mut self) -> Told {
         match self.to_receiver(0) {
-            Err(Undone::Refused(DriveFault::NoMemory)) => self.to_receiver(0),
+            Told::Fault(9) => self.to_receiver(0),
             answer => answer,
         }
     }
 
-    /// What each act of a handshake did, up to the message's arrival.
-    pub fn take_across(&mut self) -> [Result<Done, Undone>; 4] {
+    /// What each act of a handshake answered, up to the message's arrival.
+    pub fn take_across(&mut self) -> [Told; 4] {
         [
             self.start(7),
             self.to_receiver(9),
@@ -141,9 +184,10 @@ impl<J: Naming> Pair<J> {
         ]
     }
 
-    /// What each act did, once the message was got.
-    pub fn acknowledge(&mut self) -> [Result<Done, Undone>; 3] {
+    /// The message is got, and what each act answered that tells the sender so.
+    pub fn acknowledge(&mut self) -> [Told; 4] {
         [
+            self.get(),
             self.resend_receiver(),
             self.to_sender(),
             self.to_receiver(0),
@@ -151,54 +195,61 @@ impl<J: Naming> Pair<J> {
     }
 }
 
-/// What an act did.
-pub fn done(position: u64, length: Option<usize>, mode: Mode) -> Result<Done, Undone> {
-    Ok(Done {
-        position,
-        length,
-        mode,
-    })
-}
-
-/// The pair of a book with two passes and the sender and the receiver of one stream, and the room that its passes and charges
-/// had.
+/// The pair of a book with two passes and the sender and the receiver of one stream. The lists keep their room.
 pub fn pair_of<J: Naming>(
     alloc: Global,
     book: Book,
-    passes: Vec<Pass>,
-    charges: Vec<Charge>,
-) -> Option<(Pair<J>, Vec<Pass>, Vec<Charge>)>
+    passes: &mut Vec<Pass>,
+    charges: &mut Vec<Charge>,
+) -> Option<Pair<J>>
     requires book { (book.id ≡ J.id) × (book.sides ≡ J.sides) }
-    requires passes { Each (IsOf J.id) passes.items }
-    requires charges { Each (IsChargeOf J.id J.sides) charges.items }
-    ensures passes { IfSome result (λ t. Each (IsOf J.id) t.1.items) }
-    ensures charges { IfSome result (λ t. Each (IsChargeOf J.id J.sides) t.2.items) }
+    requires passes { Each (IsOf J.id) passes.old.items }
+    requires charges { Each (IsChargeOf J.id J.sides) charges.old.items }
+    ensures passes { Each (IsOf J.id) passes.new.items }
+    ensures charges { Each (IsChargeOf J.id J.sides) charges.new.items }
 {
-    let mut passes = passes;
-    let mut charges = charges;
-    let pair = Pair {
+    let shared = Shared::new(book);
+    let other = last_caller(passes)?;
+    let caller = last_caller(passes)?;
+    let receiver = last_side(charges)?;
+    let sender = last_side(charges)?;
+    Some(Pair {
         alloc,
-        shared: Shared::new(book),
-        other: last_caller(&mut passes)?,
-        caller: last_caller(&mut passes)?,
-        receiver: last_side(&mut charges)?,
-        sender: last_side(&mut charges)?,
-    };
-    Some((pair, passes, charges))
+        shared,
+        caller,
+        other,
+        sender,
+        receiver,
+    })
 }
 
-/// Ends the pair's book, with the room that [`pair_of`] gave. The answer is how many events there were.
+/// Adds the passes of both callers, in their order, where there is room.
+fn push_passes<J: Naming>(passes: &mut Vec<Pass>, first: Caller<J>, second: Caller<J>)
+    requires { Each (IsOf J.id) passes.old.items }
+    ensures { Each (IsOf J.id) passes.new.items }
+{
+    push_pass(passes, first);
+    push_pass(passes, second);
+}
+
+/// Adds the charges of both sides, in their order, where there is room.
+fn push_charges<J: Naming>(charges: &mut Vec<Charge>, first: Side<J>, second: Side<J>)
+    requires { Each (IsChargeOf J.id J.sides) charges.old.items }
+    ensures { Each (IsChargeOf J.id J.sides) charges.new.items }
+{
+    push_charge(charges, first);
+    push_charge(charges, second);
+}
+
+/// Ends the pair's book, with the lists that [`pair_of`] left. The answer is how many events there were.
 pub fn close<J: Naming>(pair: Pair<J>, passes: Vec<Pass>, charges: Vec<Charge>) -> Option<u64>
     requires passes { Each (IsOf J.id) passes.items }
     requires charges { Each (IsChargeOf J.id J.sides) charges.items }
 {
     let mut passes = passes;
     let mut charges = charges;
-    push_pass(&mut passes, pair.caller).ok()?;
-    push_pass(&mut passes, pair.other).ok()?;
-    push_charge(&mut charges, pair.sender).ok()?;
-    push_charge(&mut charges, pair.receiver).ok()?;
-    let book = pair.shared.into_book();
-    let closed = book.close(passes, charges).ok()?;
+    push_passes(&mut passes, pair.caller, pair.other);
+    push_charges(&mut charges, pair.sender, pair.receiver);
+    let closed = pair.shared.into_book().close(passes, charges).ok()?;
     Some(closed.count())
 }

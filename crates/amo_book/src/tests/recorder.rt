@@ -1,12 +1,12 @@
 //! Callers that note each of their events, with its position.
 use super::named::{Caller, Naming, Shared};
-use super::sides::{Side, Undone};
-use crate::{AckFault, DriveFault, GetFault, PutFault};
+use super::sides::Side;
+use crate::{AckFault, GetFault, PutFault};
 use amo_core::{Act, Reply};
 use amo_object::End;
 use amo_packet::Message;
 use amo_world::Event;
-use std::alloc::{AllocError, Global};
+use std::alloc::Global;
 
 /// A caller, and its events with their positions.
 #[derive(Drop)]
@@ -16,6 +16,37 @@ pub struct Recorder<J: Naming> {
     made: Vec<(u64, Event)>,
     /// The last word that it used.
     word: u64,
+}
+
+/// The reply and the position of the event that a put became, if it became one.
+fn put_event(answer: Result<u64, PutFault>) -> Option<(Reply, u64)> {
+    match answer {
+        Ok(position) => Some((Reply::Ok, position)),
+        Err(PutFault::Full(position, _)) => Some((Reply::Full, position)),
+        Err(PutFault::Down(position, _)) => Some((Reply::Down, position)),
+        Err(_) => None,
+    }
+}
+
+/// The same of a get.
+fn get_event(answer: Result<(Message, u64), GetFault>) -> Option<(Reply, u64)> {
+    match answer {
+        Ok((message, position)) => Some((Reply::Got(message), position)),
+        Err(GetFault::Nothing(position)) => Some((Reply::Nothing, position)),
+        Err(GetFault::Down(position)) => Some((Reply::Down, position)),
+        Err(_) => None,
+    }
+}
+
+/// The same of a get_ack.
+fn ack_event(answer: Result<(bool, u64), AckFault>) -> Option<(Reply, u64)> {
+    match answer {
+        Ok((true, position)) => Some((Reply::Yes, position)),
+        Ok((false, position)) => Some((Reply::No, position)),
+        Err(AckFault::NotYet(position)) => Some((Reply::NotYet, position)),
+        Err(AckFault::Down(position)) => Some((Reply::Down, position)),
+        Err(_) => None,
+    }
 }
 
 impl<J: Naming> Recorder<J> {
@@ -46,86 +77,54 @@ impl<J: Naming> Recorder<J> {
         }
     }
 
-    fn note(
-        &mut self,
-        at: (End, u32),
-        act: Act,
-        reply: Reply,
-        position: u64,
-    ) -> Result<(), AllocError> {
+    /// Notes an event, if it was one, and answers whether. One that finds no memory is lost, and then its position is without an event.
+    fn note(&mut self, at: (End, u32), act: Act, event: Option<(Reply, u64)>) -> bool {
+        let Some((reply, position)) = event else {
+            return false;
+        };
         let (side, stream) = at;
-        let pass = self.number();
-        self.made.push((
-            position,
-            Event {
-                pass,
-                side,
-                stream,
-                act,
-                reply,
-            },
-        ))?;
-        Ok(())
+        let event = Event {
+            pass: self.number(),
+            side,
+            stream,
+            act,
+            reply,
+        };
+        let _ = self.made.push((position, event));
+        true
     }
 
     /// Puts a message, and answers whether that became an event.
-    pub fn put(
-        &mut self,
-        shared: &Shared<J>,
-        stream: u32,
-        bytes: &[u8],
-    ) -> Result<bool, AllocError> {
+    pub fn put(&mut self, shared: &Shared<J>, stream: u32, bytes: &[u8]) -> bool {
         let Ok(message) = Message::copy(self.alloc, bytes) else {
-            return Err(AllocError);
+            return false;
         };
-        let act = Act::Put(message.clone()?);
-        let (reply, position) = match shared.put(&mut self.caller, stream, message) {
-            Ok(position) => (Reply::Ok, position),
-            Err(PutFault::Full(position, _)) => (Reply::Full, position),
-            Err(PutFault::Down(position, _)) => (Reply::Down, position),
-            Err(_) => return Ok(false),
+        let Ok(copy) = Message::copy(self.alloc, bytes) else {
+            return false;
         };
-        self.note((End::Sender, stream), act, reply, position)?;
-        Ok(true)
+        let event = put_event(shared.put(&mut self.caller, stream, message));
+        self.note((End::Sender, stream), Act::Put(copy), event)
     }
 
     /// Gets, and answers whether that became an event.
-    pub fn get(&mut self, shared: &Shared<J>, stream: u32) -> Result<bool, AllocError> {
-        let (reply, position) = match shared.get(&mut self.caller, stream) {
-            Ok((message, position)) => (Reply::Got(message), position),
-            Err(GetFault::Nothing(position)) => (Reply::Nothing, position),
-            Err(GetFault::Down(position)) => (Reply::Down, position),
-            Err(_) => return Ok(false),
-        };
-        self.note((End::Receiver, stream), Act::Get, reply, position)?;
-        Ok(true)
+    pub fn get(&mut self, shared: &Shared<J>, stream: u32) -> bool {
+        let event = get_event(shared.get(&mut self.caller, stream));
+        self.note((End::Receiver, stream), Act::Get, event)
     }
 
     /// Asks for the ack, and answers whether that became an event.
-    pub fn get_ack(&mut self, shared: &Shared<J>, stream: u32) -> Result<bool, AllocError> {
-        let (reply, position) = match shared.get_ack(&mut self.caller, stream) {
-            Ok((true, position)) => (Reply::Yes, position),
-            Ok((false, position)) => (Reply::No, position),
-            Err(AckFault::NotYet(position)) => (Reply::NotYet, position),
-            Err(AckFault::Down(position)) => (Reply::Down, position),
-            Err(_) => return Ok(false),
-        };
-        self.note((End::Sender, stream), Act::Ack, reply, position)?;
-        Ok(true)
+    pub fn get_ack(&mut self, shared: &Shared<J>, stream: u32) -> bool {
+        let event = ack_event(shared.get_ack(&mut self.caller, stream));
+        self.note((End::Sender, stream), Act::Ack, event)
     }
 
     /// An act of a side's host, if the side is not busy.
-    pub fn drive(
-        &mut self,
-        shared: &Shared<J>,
-        side: &mut Side<J>,
-        act: Act,
-    ) -> Result<(), AllocError> {
-        match shared.drive(self.alloc, &mut self.caller, side, &act) {
-            Ok(done) => self.note((side.end(), side.stream()), act, Reply::Done, done.position),
-            Err(Undone::Refused(DriveFault::NoMemory)) => Err(AllocError),
-            Err(_) => Ok(()),
-        }
+    pub fn drive(&mut self, shared: &Shared<J>, side: &mut Side<J>, act: Act) {
+        let event = match shared.drive(self.alloc, &mut self.caller, side, &act) {
+            Ok(done) => Some((Reply::Done, done.position)),
+            Err(_) => None,
+        };
+        self.note((side.end(), side.stream()), act, event);
     }
 
     /// A word that no side has used.
@@ -135,23 +134,17 @@ impl<J: Naming> Recorder<J> {
     }
 
     /// Starts a handshake, if the sender is at rest.
-    fn start(&mut self, shared: &Shared<J>, sender: &mut Side<J>) -> Result<(), AllocError> {
+    fn start(&mut self, shared: &Shared<J>, sender: &mut Side<J>) {
         let word = self.next_word();
-        self.drive(shared, sender, Act::Start(word))
+        self.drive(shared, sender, Act::Start(word));
     }
 
     /// Delivers the last packet of one side to the other, be it for the first time or not.
-    fn deliver(
-        &mut self,
-        shared: &Shared<J>,
-        from: &Side<J>,
-        to: &mut Side<J>,
-    ) -> Result<(), AllocError> {
-        let Some(packet) = from.emitted(self.alloc) else {
-            return Ok(());
-        };
+    fn deliver(&mut self, shared: &Shared<J>, from: &Side<J>, to: &mut Side<J>) {
         let word = self.next_word();
-        self.drive(shared, to, Act::Deliver(packet, word))
+        if let Some(packet) = from.emitted(self.alloc) {
+            self.drive(shared, to, Act::Deliver(packet, word));
+        }
     }
 }
 
@@ -164,78 +157,59 @@ pub struct Link<J: Naming> {
 
 impl<J: Naming> Link<J> {
     /// Each side emits what it has, and gets what the other emitted.
-    pub fn turn(
-        &mut self,
-        recorder: &mut Recorder<J>,
-        shared: &Shared<J>,
-    ) -> Result<(), AllocError> {
-        recorder.start(shared, &mut self.sender)?;
-        recorder.drive(shared, &mut self.sender, Act::Resend)?;
-        recorder.deliver(shared, &self.sender, &mut self.receiver)?;
-        recorder.drive(shared, &mut self.receiver, Act::Resend)?;
-        recorder.deliver(shared, &self.receiver, &mut self.sender)?;
-        recorder.deliver(shared, &self.sender, &mut self.receiver)
+    pub fn turn(&mut self, recorder: &mut Recorder<J>, shared: &Shared<J>) {
+        recorder.start(shared, &mut self.sender);
+        recorder.drive(shared, &mut self.sender, Act::Resend);
+        recorder.deliver(shared, &self.sender, &mut self.receiver);
+        recorder.drive(shared, &mut self.receiver, Act::Resend);
+        recorder.deliver(shared, &self.receiver, &mut self.sender);
+        recorder.deliver(shared, &self.sender, &mut self.receiver);
     }
 
     /// At some turns a side crashes, or recovers.
-    pub fn trouble(
-        &mut self,
-        recorder: &mut Recorder<J>,
-        shared: &Shared<J>,
-        turn: u32,
-    ) -> Result<(), AllocError> {
+    pub fn trouble(&mut self, recorder: &mut Recorder<J>, shared: &Shared<J>, turn: u32) {
         match turn % 40 {
             10 => recorder.drive(shared, &mut self.sender, Act::Crash),
             13 => recorder.drive(shared, &mut self.sender, Act::Recover),
             30 => recorder.drive(shared, &mut self.receiver, Act::Crash),
             33 => recorder.drive(shared, &mut self.receiver, Act::Recover),
-            _ => Ok(()),
+            _ => {}
         }
     }
 
     /// So many turns; after each the receiver's client takes what has come.
-    fn calm(
-        &mut self,
-        recorder: &mut Recorder<J>,
-        shared: &Shared<J>,
-        turns: u32,
-    ) -> Result<(), AllocError> {
+    fn calm(&mut self, recorder: &mut Recorder<J>, shared: &Shared<J>, turns: u32) {
+        let stream = self.receiver.stream();
         for _ in 0..turns {
-            self.turn(recorder, shared)?;
-            recorder.get(shared, self.receiver.stream())?;
+            self.turn(recorder, shared);
+            recorder.get(shared, stream);
         }
-        Ok(())
     }
 
     /// Both sides recover, all that waits goes over, and then one message more. Whether its client is told that it was got.
-    pub fn settle(
-        &mut self,
-        recorder: &mut Recorder<J>,
-        shared: &Shared<J>,
-    ) -> Result<bool, AllocError> {
+    pub fn settle(&mut self, recorder: &mut Recorder<J>, shared: &Shared<J>) -> bool {
         let stream = self.sender.stream();
-        recorder.drive(shared, &mut self.sender, Act::Recover)?;
-        recorder.drive(shared, &mut self.receiver, Act::Recover)?;
-        self.calm(recorder, shared, 100)?;
-        recorder.put(shared, stream, b"last")?;
+        recorder.drive(shared, &mut self.sender, Act::Recover);
+        recorder.drive(shared, &mut self.receiver, Act::Recover);
+        self.calm(recorder, shared, 100);
+        recorder.put(shared, stream, b"last");
         if !recorder.was_told(&Reply::Ok) {
-            return Ok(false);
+            return false;
         }
-        self.calm(recorder, shared, 10)?;
-        recorder.get_ack(shared, stream)?;
-        Ok(recorder.was_told(&Reply::Yes))
+        self.calm(recorder, shared, 10);
+        recorder.get_ack(shared, stream);
+        recorder.was_told(&Reply::Yes)
     }
 }
 
 /// The links of sides that stand in pairs, each sender before its receiver. The last pair comes first.
-pub fn links_of<J: Naming>(alloc: Global, sides: Vec<Side<J>>) -> Result<Vec<Link<J>>, AllocError> {
+pub fn links_of<J: Naming>(alloc: Global, sides: Vec<Side<J>>) -> Vec<Link<J>> {
     let mut sides = sides;
     let mut links = Vec::new(alloc);
     for _ in 0..sides.len() {
-        let (Some(receiver), Some(sender)) = (sides.pop(), sides.pop()) else {
-            break;
-        };
-        links.push(Link { sender, receiver })?;
+        if let (Some(receiver), Some(sender)) = (sides.pop(), sides.pop()) {
+            let _ = links.push(Link { sender, receiver });
+        }
     }
-    Ok(links)
+    links
 }

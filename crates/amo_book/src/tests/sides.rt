@@ -1,18 +1,20 @@
 //! The sides of a named book, with their charges.
-ghost use Rattle.std.specs.Prelude.{◌≡◌, IfOk};
+ghost use Rattle.std.specs.Prelude.{◌≡◌, IfSome};
+ghost use Rattle.amo_packet.specs.Packet.{body_of};
+ghost use Rattle.amo_packet.specs.Grammar.{CanBeWritten};
 ghost use Rattle.amo_book.specs.Book.{Each};
 ghost use Rattle.amo_book.specs.Charge.{IsChargeOf};
 
 use super::named::{Caller, Naming, Shared};
 use crate::{Charge, Done, DriveFault};
-use amo_core::{Act, Mode};
+use amo_core::Act;
 use amo_object::End;
-use amo_packet::{MAX_PACKET, OwnedPacket, read};
-use std::alloc::{AllocError, Global};
+use amo_packet::{MAX_PACKET, OwnedPacket, Packet, read};
+use std::alloc::Global;
 use std::marker::{Model, PhantomData};
 
 /// Why a side did nothing.
-#[derive(Clone, Copy, Debug, PartialEq, Eq)]
+#[derive(Clone, Copy)]
 pub enum Undone {
     /// The book refused it.
     Refused(DriveFault),
@@ -49,14 +51,17 @@ impl<J: Naming> Side<J> {
         self.charge.stream()
     }
 
-    pub fn mode(&self) -> Mode {
-        self.charge.mode()
+    /// The last packet that it emitted.
+    fn last_packet(&self) -> Option<Packet<'_>>
+        ensures { IfSome result (λ packet. CanBeWritten (body_of packet.body)) }
+    {
+        let datagram = self.packet.get(..self.length?)?;
+        read(datagram).ok()
     }
 
-    /// The last packet that it emitted.
+    /// A copy of the last packet that it emitted.
     pub fn emitted(&self, alloc: Global) -> Option<OwnedPacket> {
-        let datagram = self.packet.get(..self.length?)?;
-        read(datagram).ok()?.to_owned(alloc).ok()
+        self.last_packet()?.to_owned(alloc).ok()
     }
 
     /// What its act did.
@@ -106,15 +111,17 @@ impl<J: Naming> Shared<J> {
         side.told(done)
     }
 
-    pub fn deliver(
+    /// Delivers a packet that can be written. It takes memory only for a message with a byte.
+    fn deliver(
         &self,
         alloc: Global,
         caller: &mut Caller<J>,
         side: &mut Side<J>,
-        packet: &OwnedPacket,
+        packet: &Packet<'_>,
         word: u64,
-    ) -> Result<Done, Undone> {
-        let packet = packet.as_packet();
+    ) -> Result<Done, Undone>
+        requires { CanBeWritten (body_of packet.now.body) }
+    {
         if packet.stream != side.charge.stream() {
             return Err(Undone::Alien);
         }
@@ -122,14 +129,14 @@ impl<J: Naming> Shared<J> {
             alloc,
             &mut caller.pass,
             &mut side.charge,
-            &packet,
+            packet,
             word,
             &mut side.packet,
         );
         side.told(done)
     }
 
-    /// Delivers the last packet of one side to the other. It takes memory only for a message with a byte.
+    /// Delivers the last packet of one side to the other.
     pub fn pass_on(
         &self,
         alloc: Global,
@@ -138,21 +145,10 @@ impl<J: Naming> Shared<J> {
         to: &mut Side<J>,
         word: u64,
     ) -> Result<Done, Undone> {
-        let length = from.length.ok_or(Undone::Alien)?;
-        let datagram = from.packet.get(..length).ok_or(Undone::Alien)?;
-        let packet = read(datagram).ok().ok_or(Undone::Alien)?;
-        if packet.stream != to.charge.stream() {
-            return Err(Undone::Alien);
+        match from.last_packet() {
+            Some(packet) => self.deliver(alloc, caller, to, &packet, word),
+            None => Err(Undone::Alien),
         }
-        let done = self.book.deliver(
-            alloc,
-            &mut caller.pass,
-            &mut to.charge,
-            &packet,
-            word,
-            &mut to.packet,
-        );
-        to.told(done)
     }
 
     /// An act of the side's host.
@@ -166,7 +162,9 @@ impl<J: Naming> Shared<J> {
         match act {
             Act::Start(word) => self.start(caller, side, *word),
             Act::Resend => self.resend(caller, side),
-            Act::Deliver(packet, word) => self.deliver(alloc, caller, side, packet, *word),
+            Act::Deliver(packet, word) => {
+                self.deliver(alloc, caller, side, &packet.as_packet(), *word)
+            }
             Act::Crash => self.crash(caller, side),
             Act::Recover => self.recover(caller, side),
             _ => Err(Undone::Alien),
@@ -188,42 +186,36 @@ pub fn last_side<J: Naming>(charges: &mut Vec<Charge>) -> Option<Side<J>>
     })
 }
 
-/// The sides of the charges, in their order.
-pub fn sides_of<J: Naming>(alloc: Global, charges: Vec<Charge>) -> Result<Vec<Side<J>>, AllocError>
+/// The sides of the charges, in their order. One that finds no memory is lost, and then the book is not closed.
+pub fn sides_of<J: Naming>(alloc: Global, charges: Vec<Charge>) -> Vec<Side<J>>
     requires { Each (IsChargeOf J.id J.sides) charges.items }
 {
     let mut charges = charges;
-    let mut sides = Vec::with_capacity(alloc, charges.len())?;
+    let mut sides = Vec::new(alloc);
     'charges: for _ in 0..charges.len() {
-        let Some(side) = last_side(&mut charges) else {
-            break;
-        };
-        sides.push(side)?;
+        if let Some(side) = last_side(&mut charges) {
+            let _ = sides.push(side);
+        }
     }
     sides.reverse();
-    Ok(sides)
+    sides
 }
 
-/// Adds a side's charge to the charges.
-pub fn push_charge<J: Naming>(charges: &mut Vec<Charge>, side: Side<J>) -> Result<(), AllocError>
+/// Adds a side's charge to the charges. Where it finds no memory it is lost, and then the book is not closed.
+pub fn push_charge<J: Naming>(charges: &mut Vec<Charge>, side: Side<J>)
     requires { Each (IsChargeOf J.id J.sides) charges.old.items }
     ensures { Each (IsChargeOf J.id J.sides) charges.new.items }
 {
-    Ok(charges.push(side.charge)?)
+    let _ = charges.push(side.charge);
 }
 
 /// The charges of the sides, in their order.
-pub fn charges_of<J: Naming>(alloc: Global, sides: Vec<Side<J>>) -> Result<Vec<Charge>, AllocError>
-    ensures { IfOk result (λ charges. Each (IsChargeOf J.id J.sides) charges.items) }
+pub fn charges_of<J: Naming>(alloc: Global, sides: Vec<Side<J>>) -> Vec<Charge>
+    ensures { Each (IsChargeOf J.id J.sides) result.items }
 {
-    let mut sides = sides;
-    sides.reverse();
-    let mut charges = Vec::with_capacity(alloc, sides.len())?;
-    'sides: for _ in 0..sides.len() {
-        let Some(side) = sides.pop() else {
-            break;
-        };
-        push_charge(&mut charges, side)?;
+    let mut charges = Vec::new(alloc);
+    'sides: for side in sides {
+        push_charge(&mut charges, side);
     }
-    Ok(charges)
+    charges
 }

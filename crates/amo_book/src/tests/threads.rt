@@ -1,62 +1,50 @@
 //! Threads that call one book at once.
-ghost use Rattle.std.specs.Prelude.{◌≡◌};
+ghost use Rattle.std.specs.Prelude.{◌≡◌, IfSome};
 ghost use Rattle.amo_book.specs.Book.{Each};
 ghost use Rattle.amo_book.specs.Charge.{IsChargeOf};
 ghost use Rattle.amo_book.specs.Closed.{IsOf};
 
-use super::named::{Caller, Naming, Shared, callers_of, passes_of};
+use super::crew::Crew;
+use super::named::{Caller, Naming, Shared};
 use super::{last, open};
 use crate::{AckFault, Book, Charge, CloseFault, GetFault, Pass};
 use amo_object::End;
-use std::alloc::{AllocError, Global};
+use std::alloc::Global;
 use std::marker::Brand;
 use std::sync::atomic::{AtomicU64, Ordering};
 use std::test::Fail;
 use std::thread;
 use std::thread::Threads;
 
-/// What a thread does: so many get_acks or gets on one stream, each tried until it answers.
-#[derive(Drop)]
-struct Job<J: Naming> {
-    caller: Caller<J>,
-    side: End,
-    stream: u32,
-    times: u32,
-    /// How many tries met a held gate.
-    busy: u64,
-    /// Whether all threads were there before the first call.
-    is_at_once: bool,
-}
-
-/// Whether the call answered.
-fn is_answered<J: Naming>(shared: &Shared<J>, job: &mut Job<J>) -> bool {
-    match job.side {
-        End::Sender => {
-            let answer = shared.get_ack(&mut job.caller, job.stream);
+/// Whether a get_ack at the sender, or a get at the receiver, answered.
+fn is_answered<J: Naming>(shared: &Shared<J>, caller: &mut Caller<J>, at: (End, u32)) -> bool {
+    match at {
+        (End::Sender, stream) => {
+            let answer = shared.get_ack(caller, stream);
             !matches!(answer, Err(AckFault::Busy))
         }
-        End::Receiver => {
-            let answer = shared.get(&mut job.caller, job.stream);
+        (End::Receiver, stream) => {
+            let answer = shared.get(caller, stream);
             !matches!(answer, Err(GetFault::Busy))
         }
     }
 }
 
-/// Does the job.
-fn work<J: Naming>(shared: &Shared<J>, job: Job<J>) -> Job<J> {
-    let mut job = job;
-    let mut left = job.times;
+/// So many calls at one side, each tried until it answers. How many tries met a held gate.
+fn work<J: Naming>(shared: &Shared<J>, caller: &mut Caller<J>, at: (End, u32), times: u32) -> u64 {
+    let mut left = times;
+    let mut busy: u64 = 0;
     'tries: for _ in 0..u64::MAX {
         if left == 0 {
             break;
         }
-        if is_answered(shared, &mut job) {
+        if is_answered(shared, caller, at) {
             left -= 1;
         } else {
-            job.busy = job.busy.saturating_add(1);
+            busy = busy.saturating_add(1);
         }
     }
-    job
+    busy
 }
 
 /// How often a thread looks whether the others are there, before it begins without them.
@@ -74,73 +62,65 @@ pub fn meet_all(there: &AtomicU64, all: u64) -> bool {
     false
 }
 
-/// The jobs of the callers, each at a side of its own.
-fn jobs_of<J: Naming>(
-    alloc: Global,
-    callers: Vec<Caller<J>>,
-    sides: &[(End, u32)],
-    times: u32,
-) -> Result<Vec<Job<J>>, AllocError> {
-    let mut jobs = Vec::new(alloc);
-    for (caller, at) in callers.into_iter().zip(sides) {
-        let (side, stream) = *at;
-        jobs.push(Job {
-            caller,
-            side,
-            stream,
-            times,
-            busy: 0,
-            is_at_once: false,
-        })?;
-    }
-    Ok(jobs)
+/// What threads count together.
+#[derive(Drop)]
+struct Counts {
+    there: AtomicU64,
+    /// Threads that began before all were there.
+    early: AtomicU64,
+    /// Tries that met a held gate.
+    busy: AtomicU64,
 }
 
-/// All jobs, each on a thread of its own, with a common start.
+/// The calls of a caller's thread, once all are there.
+fn call_in_time<J: Naming>(
+    shared: &Shared<J>,
+    counts: &Counts,
+    caller: &mut Caller<J>,
+    all: u64,
+    at: (End, u32),
+    times: u32,
+) {
+    if !meet_all(&counts.there, all) {
+        counts.early.fetch_add(1, Ordering::SeqCst);
+    }
+    let busy = work(shared, caller, at, times);
+    counts.busy.fetch_add(busy, Ordering::SeqCst);
+}
+
+/// Each caller in a thread of its own, at the side that stands at its place. How many tries met a held gate, and how many threads began
+/// before all were there.
 fn run<J: Naming + Send + Sync, R: Threads + Sync>(
     rt: &R,
     shared: &Shared<J>,
-    jobs: Vec<Job<J>>,
-) -> Result<Vec<Job<J>>, AllocError> {
-    let there = AtomicU64::new(0);
-    let all = jobs.len() as u64;
-    thread::map_vec(
-        rt,
-        jobs,
-        &|job| {
-            let mut job = job;
-            job.is_at_once = meet_all(&there, all);
-            work(shared, job)
-        },
-    )
-}
-
-/// What came of jobs that were done.
-#[derive(Clone, Copy, Debug, PartialEq, Eq)]
-struct Told {
-    busy: u64,
-    are_at_once: bool,
-}
-
-/// The callers of the jobs, and what came of these.
-fn callers_back<J: Naming>(
-    alloc: Global,
-    jobs: Vec<Job<J>>,
-) -> Result<(Vec<Caller<J>>, Told), AllocError> {
-    let mut callers = Vec::new(alloc);
-    let mut told = Told {
-        busy: 0,
-        are_at_once: true,
+    callers: &mut [Caller<J>],
+    sides: &[(End, u32)],
+    times: u32,
+) -> [u64; 2] {
+    let counts = Counts {
+        there: AtomicU64::new(0),
+        early: AtomicU64::new(0),
+        busy: AtomicU64::new(0),
     };
-    for job in jobs {
-        told.busy = told.busy.saturating_add(job.busy);
-        told.are_at_once &= job.is_at_once;
-        callers.push(job.caller)?;
-    }
-    Ok((callers, told))
+    let all = callers.len();
+    thread::for_each_mut(
+        rt,
+        callers,
+        all.max(1),
+        &|place: usize, caller: &mut Caller<J>| {
+            if let Some(at) = sides.get(place) {
+                call_in_time(shared, &counts, caller, all as u64, *at, times);
+            }
+        },
+    );
+    [
+        counts.busy.load(Ordering::SeqCst),
+        counts.early.load(Ordering::SeqCst),
+    ]
 }
 
-/// How many events the book has after a thread for each pass made so many calls at the side that stands at its place.
+/// How many events the book has after a thread for each pass made so many calls at the side that stands at its place, how many tries met
+/// a held gate, and how many threads began before all were there.
 fn at_once<J: Naming + Send + Sync, R: Threads + Sync>(
     rt: &R,
     alloc: Global,
@@ -149,45 +129,32 @@ fn at_once<J: Naming + Send + Sync, R: Threads + Sync>(
     charges: Vec<Charge>,
     sides: &[(End, u32)],
     times: u32,
-) -> Result<(u64, Told), Fail>
+) -> Option<[u64; 3]>
     requires book { (book.id ≡ J.id) × (book.sides ≡ J.sides) }
     requires passes { Each (IsOf J.id) passes.items }
     requires charges { Each (IsChargeOf J.id J.sides) charges.items }
 {
-    let shared: Shared<J> = Shared::new(book);
-    let callers = callers_of(alloc, passes)?;
-    let jobs = jobs_of(alloc, callers, sides, times)?;
-    let jobs = run(rt, &shared, jobs)?;
-    let (callers, told) = callers_back(alloc, jobs)?;
-    let passes = passes_of(alloc, callers)?;
-    let book = shared.into_book();
-    let closed = book.close(passes, charges).ok().ok_or("closes")?;
-    Ok((closed.count(), told))
+    let mut crew: Crew<J> = Crew::new(alloc, book, passes, charges);
+    let [busy, early] = run(rt, &crew.shared, crew.callers.as_mut_slice(), sides, times);
+    Some([crew.close(alloc)?, busy, early])
 }
 
 /// Threads on streams of their own never meet a held gate.
 #[test]
 fn distinct_streams(rt: HostRuntime) -> Result<(), Fail> {
-    let streams = [7, 9, 1, 256, 2, 128, 255, 8];
-    let sides = streams.map(|stream| (End::Sender, stream));
+    let sides = [
+        (End::Sender, 7),
+        (End::Sender, 9),
+        (End::Sender, 1),
+        (End::Sender, 256),
+        (End::Sender, 2),
+        (End::Sender, 128),
+        (End::Sender, 255),
+        (End::Sender, 8),
+    ];
     let (book, passes, charges) = open(rt.alloc(), &sides, 8)?;
-    let (count, told) = at_once::<Brand, _>(
-        &rt,
-        rt.alloc(),
-        book,
-        passes,
-        charges,
-        &sides,
-        10_000,
-    )?;
-    assert_eq!(rt; count, 80_000);
-    assert_eq!(rt;
-        told,
-        Told {
-            busy: 0,
-            are_at_once: true
-        }
-    );
+    let told = at_once::<Brand, _>(&rt, rt.alloc(), book, passes, charges, &sides, 10_000);
+    assert_eq!(rt; told, Some([80_000, 0, 0]));
     Ok(())
 }
 
@@ -196,32 +163,17 @@ fn distinct_streams(rt: HostRuntime) -> Result<(), Fail> {
 fn both_sides(rt: HostRuntime) -> Result<(), Fail> {
     let sides = [(End::Sender, 3), (End::Receiver, 3)];
     let (book, passes, charges) = open(rt.alloc(), &sides, 2)?;
-    let (count, told) = at_once::<Brand, _>(
-        &rt,
-        rt.alloc(),
-        book,
-        passes,
-        charges,
-        &sides,
-        10_000,
-    )?;
-    assert_eq!(rt; count, 20_000);
-    assert_eq!(rt;
-        told,
-        Told {
-            busy: 0,
-            are_at_once: true
-        }
-    );
+    let told = at_once::<Brand, _>(&rt, rt.alloc(), book, passes, charges, &sides, 10_000);
+    assert_eq!(rt; told, Some([20_000, 0, 0]));
     Ok(())
 }
 
 /// So many rounds of get_acks on stream 1, in which each caller has one turn. The answer is how many were busy.
-fn take_turns<J: Naming>(shared: &Shared<J>, callers: &mut Vec<Caller<J>>, rounds: u32) -> u64 {
+fn take_turns<J: Naming>(shared: &Shared<J>, callers: &mut [Caller<J>], rounds: u32) -> u64 {
     let mut busy: u64 = 0;
     for _ in 0..rounds {
         for caller in callers.iter_mut() {
-            if let Err(AckFault::Busy) = shared.get_ack(caller, 1) {
+            if !is_answered(shared, caller, (End::Sender, 1)) {
                 busy = busy.saturating_add(1);
             }
         }
@@ -230,7 +182,7 @@ fn take_turns<J: Naming>(shared: &Shared<J>, callers: &mut Vec<Caller<J>>, round
 }
 
 /// Each of the callers meets the first.
-fn meet_the_first<J: Naming>(shared: &Shared<J>, callers: &mut Vec<Caller<J>>) {
+fn meet_the_first<J: Naming>(shared: &Shared<J>, callers: &mut [Caller<J>]) {
     if let Some((first, others)) = callers.split_first_mut() {
         for other in others.iter_mut() {
             shared.meet(other, first);
@@ -238,61 +190,74 @@ fn meet_the_first<J: Naming>(shared: &Shared<J>, callers: &mut Vec<Caller<J>>) {
     }
 }
 
-/// Closes the book twice: once with a pass kept back, when all comes back, and then with all.
-fn close_at_last(book: Book, passes: Vec<Pass>, charges: Vec<Charge>) -> Result<u64, Fail>
+/// The book, whole again, once it was not closed for want of a pass, and all that was handed over has come back.
+fn not_closed(
+    book: Book,
+    passes: Vec<Pass>,
+    charges: Vec<Charge>,
+) -> Option<(Book, Vec<Pass>, Vec<Charge>)>
+    requires passes { Each (IsOf book.id) passes.items }
+    requires charges { Each (IsChargeOf book.id book.sides) charges.items }
+    ensures { IfSome result (λ t. (t.0 ≡ book) × (t.1 ≡ passes) × (t.2 ≡ charges)) }
+{
+    let Err(fault) = book.close(passes, charges) else {
+        return None;
+    };
+    if fault.code() != 32 {
+        return None;
+    }
+    let CloseFault {
+        book,
+        passes,
+        charges,
+    } = fault;
+    Some((book, passes, charges))
+}
+
+/// Closes the book twice: once with a pass kept back, and then with all.
+fn close_at_last(book: Book, passes: Vec<Pass>, charges: Vec<Charge>) -> Option<u64>
     requires passes { Each (IsOf book.id) passes.items }
     requires charges { Each (IsChargeOf book.id book.sides) charges.items }
 {
     let mut passes = passes;
-    let kept = last(&mut passes, &book).ok_or("a pass")?;
+    let kept = last(&mut passes, &book)?;
     let lengths = (passes.len(), charges.len());
-    let Err(fault) = book.close(passes, charges) else {
-        return Err("closed without a pass".into());
-    };
-    if fault.code() != 32 || (fault.passes.len(), fault.charges.len()) != lengths {
-        return Err("all comes back".into());
+    let (book, mut passes, charges) = not_closed(book, passes, charges)?;
+    if (passes.len(), charges.len()) != lengths {
+        return None;
     }
-    let CloseFault {
-        book,
-        mut passes,
-        charges,
-    } = fault;
-    passes.push(kept)?;
-    let closed = book.close(passes, charges).ok().ok_or("closes")?;
-    Ok(closed.count())
+    passes.push(kept).ok()?;
+    let closed = book.close(passes, charges).ok()?;
+    Some(closed.count())
 }
 
-/// How many calls were busy while four callers had turns on one thread, and how many events the book has after four threads
-/// made further calls.
+/// How many events the book has after four callers had turns on one thread, and then made further calls on four, how many of the turns were
+/// busy, and how many threads began before all were there.
 fn turns_and_threads<J: Naming + Send + Sync, R: Threads + Sync>(
     rt: &R,
     alloc: Global,
     book: Book,
     passes: Vec<Pass>,
     charges: Vec<Charge>,
-) -> Result<(u64, u64), Fail>
+) -> Option<[u64; 3]>
     requires book { (book.id ≡ J.id) × (book.sides ≡ J.sides) }
     requires passes { Each (IsOf J.id) passes.items }
     requires charges { Each (IsChargeOf J.id J.sides) charges.items }
 {
-    let shared: Shared<J> = Shared::new(book);
-    let mut callers = callers_of(alloc, passes)?;
-    let busy = take_turns(&shared, &mut callers, 2_500);
-    let jobs = jobs_of(alloc, callers, &[(End::Sender, 1); 4], 1_000)?;
-    let jobs = run(rt, &shared, jobs)?;
-    let (mut callers, _told) = callers_back(alloc, jobs)?;
-    meet_the_first(&shared, &mut callers);
-    let passes = passes_of(alloc, callers)?;
-    let count = close_at_last(shared.into_book(), passes, charges)?;
-    Ok((busy, count))
+    let mut crew: Crew<J> = Crew::new(alloc, book, passes, charges);
+    let callers = crew.callers.as_mut_slice();
+    let busy = take_turns(&crew.shared, callers, 2_500);
+    let [_, early] = run(rt, &crew.shared, callers, &[(End::Sender, 1); 4], 1_000);
+    meet_the_first(&crew.shared, callers);
+    let (book, passes, charges) = crew.into_parts(alloc);
+    Some([close_at_last(book, passes, charges)?, busy, early])
 }
 
 /// Calls on one stream: in turn none is busy, and at once each is tried until it has its event. No event is lost.
 #[test]
 fn four_threads(rt: HostRuntime) -> Result<(), Fail> {
     let (book, passes, charges) = open(rt.alloc(), &[(End::Sender, 1)], 4)?;
-    let (busy, count) = turns_and_threads::<Brand, _>(&rt, rt.alloc(), book, passes, charges)?;
-    assert_eq!(rt; busy, 0);
-    assert_eq!(rt; count, 14_000);
+    let told = turns_and_threads::<Brand, _>(&rt, rt.alloc(), book, passes, charges);
+    assert_eq!(rt; told, Some([14_000, 0, 0]));
     Ok(())
 }
