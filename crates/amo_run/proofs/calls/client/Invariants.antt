@@ -1,0 +1,7 @@
+use Rattle.std.specs.Prelude.{◌≡◌}
+use Rattle.amo_run.specs.Told.{Tells}
+use Rattle.amo_run.proofs.calls.client.Given as goal
+
+-- so far the pass's own events have grown by those of the list
+abbrev pub invariant-calls : goal.invariant-calls
+invariant-calls g l = (l.pass.book ≡ l.fn.book.id) × Tells l.fn.pass l.pass l.made.items

@@ -1,0 +1,188 @@
+//! The body of a client's thread.
+ghost use Rattle.std.specs.Prelude.{◌≡◌, ◌<◌, ◌^◌, ℕ, List, IfOk, IfSome, OnErr};
+ghost use Rattle.amo_object.specs.declared.step.End.TheVariants as end;
+ghost use Rattle.amo_world.specs.declared.event.Event.{Event};
+ghost use Rattle.amo_book.specs.Calls.{put_answer, get_answer, ack_answer};
+ghost use Rattle.amo_run.specs.Told.{Tells, listed, made_by};
+
+use crate::{ClientCall, ClientReply, Script};
+use amo_book::{AckFault, Book, GetFault, Pass, PutFault};
+use amo_object::End;
+use amo_packet::Message;
+use amo_world::{Act, Event, NoMemory, Reply};
+use std::alloc::Global;
+use std::sync::Wait;
+
+/// Makes the calls of a script until it has no more, and answers the events that they made, each with its position.
+///
+/// Nothing bounds a script, so this may never return. Where memory is refused the list is given up; the events stay in
+/// the history.
+#[tactic(auto, using(crate::proofs::Tellings::tells_more, crate::proofs::Tellings::tells_none))]
+pub fn client<S: Script, R: Wait>(
+    rt: &R,
+    alloc: Global,
+    book: &Book,
+    pass: &mut Pass,
+    script: &mut S,
+) -> Result<Vec<(u64, Event)>, NoMemory>
+    requires book { pass.old.book ≡ book.now.id }
+    ensures told { IfOk result (λ made. Tells pass.old pass.new made.items) }
+    ensures lost { OnErr result ((made : List (ℕ × Event)) × Tells pass.old pass.new made) }
+{
+    let mut made = Vec::new(alloc);
+    'calls: for _ in rt.forever() {
+        let Some(call) = script.next()? else {
+            break;
+        };
+        if made.reserve(1).is_err() {
+            return Err(NoMemory);
+        }
+        if let Some(one) = answer(book, pass, script, call)? {
+            made.push_reserved(one);
+        }
+    }
+    Ok(made)
+}
+
+/// Makes one call, and answers its event with its position. A call that met Busy, or no such stream, has none.
+fn answer<S: Script>(
+    book: &Book,
+    pass: &mut Pass,
+    script: &mut S,
+    call: ClientCall,
+) -> Result<Option<(u64, Event)>, NoMemory>
+    requires book { pass.old.book ≡ book.now.id }
+    ensures told { IfOk result (λ one. Tells pass.old pass.new (listed one)) }
+    ensures memory { OnErr result (pass.new ≡ pass.old) }
+{
+    match call {
+        ClientCall::Put(stream, message) => put(book, pass, script, stream, message),
+        ClientCall::Get(stream) => Ok(get(book, pass, script, stream)),
+        ClientCall::Ack(stream) => Ok(get_ack(book, pass, script, stream)),
+    }
+}
+
+/// A put. The message is copied for its event before the book takes it.
+#[tactic(auto, using(crate::proofs::Tellings::tells_grown))]
+fn put<S: Script>(
+    book: &Book,
+    pass: &mut Pass,
+    script: &mut S,
+    stream: u32,
+    message: Message,
+) -> Result<Option<(u64, Event)>, NoMemory>
+    requires book { pass.old.book ≡ book.now.id }
+    ensures told { IfOk result (λ one. Tells pass.old pass.new (listed one)) }
+    ensures memory { OnErr result (pass.new ≡ pass.old) }
+{
+    let number = pass.number();
+    let Ok(copy) = message.clone() else {
+        return Err(NoMemory);
+    };
+    let answered = book.put(pass, stream, message);
+    let known = reply_to_put(&answered);
+    script.told(&ClientReply::Put(answered));
+    Ok(event_of(number, End::Sender, stream, Act::Put(copy), known))
+}
+
+/// A get. The message goes from the reply to the event.
+#[tactic(auto, using(crate::proofs::Tellings::tells_grown))]
+fn get<S: Script>(book: &Book, pass: &mut Pass, script: &mut S, stream: u32) -> Option<(u64, Event)>
+    requires book { pass.old.book ≡ book.now.id }
+    ensures told { Tells pass.old pass.new (listed result) }
+{
+    let number = pass.number();
+    let reply = ClientReply::Get(book.get(pass, stream));
+    script.told(&reply);
+    let known = match reply {
+        ClientReply::Get(answered) => reply_to_get(answered),
+        ClientReply::Put(_answered) => return None,
+        ClientReply::Ack(_answered) => return None,
+    };
+    event_of(number, End::Receiver, stream, Act::Get, known)
+}
+
+/// A question for the last put.
+#[tactic(auto, using(crate::proofs::Tellings::tells_grown))]
+fn get_ack<S: Script>(
+    book: &Book,
+    pass: &mut Pass,
+    script: &mut S,
+    stream: u32,
+) -> Option<(u64, Event)>
+    requires book { pass.old.book ≡ book.now.id }
+    ensures told { Tells pass.old pass.new (listed result) }
+{
+    let number = pass.number();
+    let answered = book.get_ack(pass, stream);
+    script.told(&ClientReply::Ack(answered));
+    event_of(
+        number,
+        End::Sender,
+        stream,
+        Act::Ack,
+        reply_to_ack(answered),
+    )
+}
+
+/// The event of a call that answered with this reply at this position.
+fn event_of(
+    pass: usize,
+    side: End,
+    stream: u32,
+    act: Act,
+    known: Option<(Reply, u64)>,
+) -> Option<(u64, Event)>
+    ensures event { listed result ≡ made_by pass side stream act known }
+    ensures small { IfSome known (λ k. k.1 < 2 ^ 64) }
+{
+    let (reply, position) = known?;
+    let event = Event {
+        pass,
+        side,
+        stream,
+        act,
+        reply,
+    };
+    Some((position, event))
+}
+
+/// The reply and the position that a put answered.
+fn reply_to_put(answered: &Result<u64, PutFault>) -> Option<(Reply, u64)>
+    ensures { result ≡ put_answer answered.now }
+{
+    match answered {
+        Ok(position) => Some((Reply::Ok, *position)),
+        Err(PutFault::Full(position, _)) => Some((Reply::Full, *position)),
+        Err(PutFault::Down(position, _)) => Some((Reply::Down, *position)),
+        Err(PutFault::Busy(_)) => None,
+        Err(PutFault::NoStream(_)) => None,
+    }
+}
+
+/// The reply and the position that a get answered.
+fn reply_to_get(answered: Result<(Message, u64), GetFault>) -> Option<(Reply, u64)>
+    ensures { result ≡ get_answer answered }
+{
+    match answered {
+        Ok((message, position)) => Some((Reply::Got(message), position)),
+        Err(GetFault::Nothing(position)) => Some((Reply::Nothing, position)),
+        Err(GetFault::Down(position)) => Some((Reply::Down, position)),
+        Err(GetFault::Busy) => None,
+        Err(GetFault::NoStream) => None,
+    }
+}
+
+/// The reply and the position that a question for the last put answered.
+fn reply_to_ack(answered: Result<(bool, u64), AckFault>) -> Option<(Reply, u64)>
+    ensures { result ≡ ack_answer answered }
+{
+    match answered {
+        Ok((true, position)) => Some((Reply::Yes, position)),
+        Ok((false, position)) => Some((Reply::No, position)),
+        Err(AckFault::NotYet(position)) => Some((Reply::NotYet, position)),
+        Err(AckFault::Down(position)) => Some((Reply::Down, position)),
+        Err(AckFault::Busy) => None,
+        Err(AckFault::NoStream) => None,
+    }
+}
