@@ -1,6 +1,6 @@
 -- Lists step by step.
-use Rattle.std.proofs.Common.{◌≡◌, ◌↔◌, ℕ, zero, suc, ◌+◌, ◌-◌, ◌<◌, ◌≤◌, ◌||◌, Bool, true, false, IsTrue, Option, Some, None, List, [], ◌∷◌, ◌++◌, length, map, take, drop, remove, get_or, refl, sym, ◌∙◌, ap, subst, inl, inr, append_assoc, arith}
-use Rattle.std.proofs.lemmas.List.{append-nil, take_more, drop_more, drop_all, take_all, get_or_default, get_or-drop, length-drop, length-take}
+use Rattle.std.proofs.Common.{◌≡◌, ◌↔◌, ℕ, zero, suc, ◌+◌, ◌-◌, ◌<◌, ◌≤◌, ◌||◌, Bool, true, false, Option, Some, None, List, [], ◌∷◌, ◌++◌, length, map, take, drop, remove, get_or, refl, sym, ◌∙◌, ap, subst, inl, inr, append_assoc, arith}
+use Rattle.std.proofs.lemmas.List.{append-nil, take_more, drop_more, drop_all, take_all, get_or-drop, length-drop}
 use Rattle.std.proofs.lemmas.List.Elements.{filter_map-append}
 use Rattle.std.specs.Option.{option_to_list}
 use Rattle.amo_object.specs.declared.step.Step.{Step}
@@ -8,7 +8,7 @@ use Rattle.amo_object.specs.declared.step.Step.TheVariants.{Put, Get, Ack, Crash
 use Rattle.amo_object.specs.Delivery.{message_got, messages_got, IsSubsequence}
 use Rattle.amo_resolve.specs.declared.plan.Note.{Note}
 use Rattle.amo_resolve.specs.Plan.{last, MarksDown, sender_after, receiver_after}
-use Rattle.amo_resolve.proofs.Subsequences.{subsequence-refl, subsequence-trans, subsequence-after, subsequence-longer, subsequence-last, subsequence-nil, length-subsequence, last-push}
+use Rattle.amo_resolve.proofs.Subsequences.{subsequence-refl, subsequence-trans, subsequence-after, subsequence-longer, subsequence-last, subsequence-nil, last-push}
 
 pub map_remove : {X Y : Type 0} (f : X → Y) (xs : List X) (i : ℕ) → map f (remove xs i) ≡ remove (map f xs) i
 map_remove f [] zero = refl
@@ -41,14 +41,6 @@ got_pushed calls i call m got within is by so_far =
     ap (λ (ys : List (List ℕ)). ys ++ option_to_list m) so_far
     ∙ ap (λ (ys : List (List ℕ)). messages_got (take i calls) ++ ys) (sym (got_of call m by) ∙ ap (λ (x : Step). messages_got (x ∷ [])) is)
     ∙ sym (got_more calls i call within)
-
--- the first of some messages
-pub is_first : (xs : List (List ℕ)) (x m : List ℕ) → 0 < length xs → x ≡ get_or xs 0 x → x ≡ m → xs ≡ m ∷ remove xs 0
-is_first [] x m within is same = absurd (omega (arith, within))
-is_first (y ∷ xs) x m within is same = ap (λ (z : List ℕ). z ∷ xs) (sym is ∙ same)
-
-pub not_first : (xs : List (List ℕ)) (x m : List ℕ) (rest : List (List ℕ)) → x ≡ get_or xs 0 x → (x ≡ m → ⊥) → xs ≡ m ∷ rest → ⊥
-not_first xs x m rest is other whole = other (is ∙ ap (λ (ys : List (List ℕ)). get_or ys 0 x) whole)
 
 -- notes that mark the rest, with one more
 pub marks_more : (calls : List Step) (place : ℕ) (call : Step) (sender receiver : Bool) (items : List Note) (note : Note)
@@ -131,65 +123,17 @@ not_found got self first end place x y some inside within at here other =
     )
 
 -- the last of a part of the messages got, and the last of others
-last_none : {X : Type 0} (xs : List X) → None ≡ last xs → xs ≡ []
+pub last_none : {X : Type 0} (xs : List X) → None ≡ last xs → xs ≡ []
 last_none [] e = refl
 last_none (x ∷ []) e = absurd cc
 last_none (x ∷ y ∷ xs) e = absurd (let none = last_none (y ∷ xs) e in cc)
-
-pub no_part_last : (got self : List (List ℕ)) (first end : ℕ) (P : Type 0) → first ≡ end → P ↔ (self ≡ [])
-    → P ↔ (last (take (end - first) (drop first got)) ≡ last self)
-no_part_last got self first end P is empty =
-    let nothing : take (end - first) (drop first got) ≡ [] = ap (λ (n : ℕ). take n (drop first got)) {x = end - first} {y = 0} (omega (arith, is)) in
-    (λ p. ap last nothing ∙ ap last (sym (empty.0 p)), λ e. empty.1 (last_none self (sym (ap last nothing) ∙ e)))
-
-pub no_others_last : (got self : List (List ℕ)) (first end : ℕ) → first < end → end ≤ length got → self ≡ []
-    → last (take (end - first) (drop first got)) ≡ last self → ⊥
-no_others_last got self first end some inside empty e =
-    let x = get_or got (end - 1) [] in
-    let at : x ≡ get_or got (end - 1) x = get_or_default got (end - 1) [] x (omega (arith, some, inside)) in
-    let there = sym (last-push (take (end - 1 - first) (drop first got)) x) ∙ sym (ap last (part_more got first end x some inside at)) ∙ e ∙ ap last empty in cc
 
 pub whole_last : (self : List (List ℕ)) (place : ℕ) (y : List ℕ) → place + 1 ≡ length self → y ≡ get_or self place y → last self ≡ Some y
 whole_last self place y end at =
     let whole : self ≡ take place self ++ y ∷ [] = sym (take_all (place + 1) self (omega (arith, end))) ∙ take_more self place y (omega (arith, end)) ∙ ap (λ (z : List ℕ). take place self ++ z ∷ []) (sym at) in
     ap last whole ∙ last-push (take place self) y
 
-pub both_last : (got self : List (List ℕ)) (first end len : ℕ) (x y : List ℕ) (P : Type 0) → first < end → end ≤ length got
-    → x ≡ get_or got (end - 1) x → 0 < len → len ≡ length self → y ≡ get_or self (len - 1) y
-    → P ↔ (x ≡ y) → P ↔ (last (take (end - first) (drop first got)) ≡ last self)
-both_last got self first end len x y P some inside at one is here same =
-    let few : last (take (end - first) (drop first got)) ≡ Some x = ap last (part_more got first end x some inside at) ∙ last-push (take (end - 1 - first) (drop first got)) x in
-    let many : last self ≡ Some y = whole_last self (len - 1) y (omega (arith, one, is)) here in
-    (λ p. few ∙ ap (λ (z : List ℕ). Some z) (same.0 p) ∙ sym many, λ e. same.1 (let equal = sym few ∙ e ∙ many in cc))
-
 -- what is false does not hold
 pub untrue : (b : Bool) → b ≡ false → b ≡ true → ⊥
 untrue true e holds = cc
 untrue false e holds = cc
-
-pub some_wait : (self : List (List ℕ)) (b : Bool) → b ≡ false → IsTrue b ↔ (self ≡ []) → 0 < length self
-some_wait [] b e empty = absurd (untrue b e (empty.1 refl))
-some_wait (x ∷ self) b e empty = omega arith
-
--- one message more of those got
-pub part_pushed : (got : List (List ℕ)) (first place : ℕ) (x : List ℕ) → first ≤ place → place < length got → x ≡ get_or got place x
-    → take (place - first) (drop first got) ++ x ∷ [] ≡ take (place + 1 - first) (drop first got)
-part_pushed got first place x after within is =
-    let at : x ≡ get_or got (place + 1 - 1) x = is ∙ ap (λ (n : ℕ). get_or got n x) {x = place} {y = place + 1 - 1} (omega arith) in
-    ap (λ (n : ℕ). take n (drop first got) ++ x ∷ []) {x = place - first} {y = place + 1 - 1 - first} (omega arith)
-    ∙ sym (part_more got first (place + 1) x (omega (arith, after)) (omega (arith, within)) at)
-
--- once all were looked for
-pub all_found : (got self : List (List ℕ)) (first left place end : ℕ) → first ≡ left
-    → IsSubsequence (take (left - first) (drop first got)) (take place self) ↔ IsSubsequence (take (end - first) (drop first got)) self
-    → IsSubsequence (take (end - first) (drop first got)) self
-all_found got self first left place end is same =
-    let nothing : take (left - first) (drop first got) ≡ [] = ap (λ (n : ℕ). take n (drop first got)) {x = left - first} {y = 0} (omega (arith, is)) in
-    same.0 (subst (λ (xs : List (List ℕ)). IsSubsequence xs (take place self)) (sym nothing) (subsequence-nil (take place self)))
-
-pub some_missing : (got self : List (List ℕ)) (first left place end : ℕ) → first < left → left ≤ length got → place ≡ 0
-    → IsSubsequence (take (left - first) (drop first got)) (take place self) ↔ IsSubsequence (take (end - first) (drop first got)) self
-    → IsSubsequence (take (end - first) (drop first got)) self → ⊥
-some_missing got self first left place end some inside none same part =
-    let short = length-subsequence (same.1 part) in
-    omega (arith, short, some, inside, none, length-take (left - first) (drop first got), length-drop first got, length-take place self)

@@ -1,5 +1,5 @@
 -- A plan for a list of calls: what must wait in the queue after each call that leaves a side down.
-use Rattle.std.specs.Prelude.{◌≡◌, ℕ, suc, ◌+◌, ◌-◌, ◌<◌, ◌≤◌, ◌||◌, Bool, true, false, not, if◌then◌else◌, Option, Some, None, List, [], ◌∷◌, ◌++◌, length, take}
+use Rattle.std.specs.Prelude.{◌≡◌, ℕ, suc, ◌+◌, ◌-◌, ◌<◌, ◌≤◌, ◌⊎◌, ◌||◌, Bool, true, false, not, if◌then◌else◌, Option, Some, None, List, [], ◌∷◌, ◌++◌, length, take, drop, get_or}
 use Rattle.amo_object.specs.declared.step.End.TheVariants.{Sender, Receiver}
 use Rattle.amo_object.specs.declared.step.Step.{Step}
 use Rattle.amo_object.specs.declared.step.Step.TheVariants.{Put, Get, Ack, Crash, Recover}
@@ -47,13 +47,6 @@ Takes (Put m) messages Then = Then (messages ++ m ∷ [])
 Takes (Get m) messages Then = (rest : List (List ℕ)) × (messages ≡ m ∷ rest) × Then rest
 Takes (Ack true) messages Then = (messages ≡ []) × Then []
 Takes call messages Then = Then messages
-
--- a queue of these messages takes the call and has the others then
-abbrev pub Follows : Step → List (List ℕ) → List (List ℕ) → Type 0
-Follows (Put m) messages rest = rest ≡ messages ++ m ∷ []
-Follows (Get m) messages rest = messages ≡ m ∷ rest
-Follows (Ack true) messages rest = (messages ≡ []) × (rest ≡ [])
-Follows call messages rest = rest ≡ messages
 
 -- one of two statements
 abbrev pub Choose : Bool → Type 0 → Type 0 → Type 0
@@ -114,48 +107,75 @@ MarksDown sender receiver (call ∷ calls) (note ∷ notes) = (note.is_down ≡ 
 abbrev pub IsMarked : List Step → List Note → Type 0
 IsMarked calls notes = MarksDown false false calls notes × (length notes ≡ length calls)
 
--- one message more, before a get
-abbrev pub most_after : Step → ℕ → ℕ
-most_after (Get m) most = 1 + most
-most_after call most = most
+-- the first `few` of the last `many` messages before a place are the last ones before it too
+pub record IsBorder (got : List (List ℕ)) (end few many : ℕ) : Type 0 where
+  pub within : few ≤ many
+  pub same : take few (drop (end - many) got) ≡ take few (drop (end - few) got)
 
--- the most messages that may be wanted before these calls
-abbrev pub reach : List Step → List Note → ℕ
-reach [] notes = 0
-reach (call ∷ calls) [] = 0
-reach (call ∷ calls) (note ∷ notes) = most_after call (if note.is_down then note.wanted else reach calls notes)
+-- the longest border but for all of them
+pub record IsLongest (got : List (List ℕ)) (end few many : ℕ) : Type 0 where
+  pub border : IsBorder got end few many
+  pub proper : few < many
+  pub longest : (other : ℕ) → IsBorder got end other many → other < many → other ≤ few
 
--- one message more before a get, one fewer before a put, and none before a yes
-abbrev pub fewest_before : Step → ℕ → ℕ
-fewest_before (Put m) few = few - 1
-fewest_before (Get m) few = 1 + few
-fewest_before (Ack true) few = 0
-fewest_before call few = few
+-- for each number of the last messages before a place, from one on, their longest border
+abbrev pub AreBorders : List (List ℕ) → ℕ → List ℕ → Type 0
+AreBorders got end lengths = (many : ℕ) → 0 < many → many < length lengths → IsLongest got end (get_or lengths many 0) many
 
--- with fewer messages than these the calls do not go on
-abbrev pub fewest : List Step → List Note → ℕ
-fewest [] notes = 0
-fewest (call ∷ calls) [] = 0
-fewest (call ∷ calls) (note ∷ notes) = fewest_before call (if note.is_down then note.wanted else fewest calls notes)
+-- the borders of the first number of messages, each with the message before it, where it is this one and there are as many, are the borders of the longer one
+pub record IsLonger (got : List (List ℕ)) (end limit few : ℕ) (message : List ℕ) (longer : ℕ) : Type 0 where
+  pub within : longer ≤ limit
+  pub from : (border : ℕ) → IsBorder got end (border + 1) longer
+      → IsBorder got end border few × (border < limit) × (get_or got (end - 1 - border) [] ≡ message)
+  pub to : (border : ℕ) → IsBorder got end border few → border < limit → get_or got (end - 1 - border) [] ≡ message
+      → IsBorder got end (border + 1) longer
 
--- a yes comes before any call that leaves a side down
-abbrev pub is_settled : List Step → List Note → Bool
-is_settled [] notes = false
-is_settled (call ∷ calls) [] = false
-is_settled (Ack true ∷ calls) (note ∷ notes) = true
-is_settled (call ∷ calls) (note ∷ notes) = if note.is_down then false else is_settled calls notes
+-- what a call that leaves a side down asks of those before it: the messages that are wanted there but for those got before it
+abbrev pub wanted_after : List (List ℕ) → ℕ → ℕ → List (List ℕ)
+wanted_after got here most = take (most - here) (drop here got)
+
+-- messages with which calls go on are those got here but for the last ones, if these can be the first ones put; or they are
+-- those got here and others, of which losses can leave what is wanted after them
+pub record IsOpen (P : List (List ℕ) → Type 0) (got : List (List ℕ)) (here most spared : ℕ) (messages : List (List ℕ)) : Type 0 where
+  pub mode : Bool
+  pub lost : here ≡ most → mode ≡ false
+  pub any : (others : List (List ℕ)) → Leaves mode (wanted_after got here most) others → P (take here got ++ others)
+  pub fewer : here ≡ most → (border : ℕ) → IsBorder got here border spared → P (take (here - border) got)
+  pub shape : ((here ≡ most) × ((border : ℕ) × IsBorder got here border spared × (messages ≡ take (here - border) got)))
+      ⊎ ((others : List (List ℕ)) × (messages ≡ take here got ++ others) × Leaves mode (wanted_after got here most) others)
+
+-- what is asked of messages with which calls go on, where they get these: the fields are those of `Ahead`
+pub record Asks (here most spared : ℕ) (is_settled : Bool) (P : List (List ℕ) → Type 0) (got : List (List ℕ)) : Type 0 where
+  pub enough : here ≤ length got
+  pub enough_most : most ≤ length got
+  pub spared_here : spared ≤ here
+  pub spared_most : spared ≤ most
+  pub none : here < most → spared ≡ 0
+  pub all : is_settled ≡ true → spared ≡ 0
+  pub fits : is_settled ≡ false → here ≤ most
+  pub settled : is_settled ≡ true → (messages : List (List ℕ)) → P messages → messages ≡ take most got
+  pub splits : is_settled ≡ false → (messages : List (List ℕ)) → P messages → IsOpen P got here most spared messages
 
 -- what calls ask
 pub record IsAhead (ahead : Ahead) (calls : List Step) (notes : List Note) : Type 0 where
-  pub reach : ahead.reach ≡ reach calls notes
-  pub fewest : ahead.fewest ≡ fewest calls notes
-  pub settled : ahead.is_settled ≡ is_settled calls notes
+  pub asks : Asks ahead.here ahead.most ahead.spared ahead.is_settled (GoesOn calls notes) (messages_got calls)
   pub got : ahead.got ≡ got_before_answer calls
   pub yes : ahead.is_told_yes ≡ is_told_yes calls
   pub no : ahead.is_told_no ≡ is_told_no calls notes
 
--- a count is the least of the first messages got with which the calls go on, or the most
-pub record IsLeastCount (calls : List Step) (notes : List Note) (most count : ℕ) : Type 0 where
-  pub within : count ≤ most
-  pub below : (k : ℕ) → k < count → ¬ (GoesOn calls notes (take k (messages_got calls)))
-  pub here : count < most → GoesOn calls notes (take count (messages_got calls))
+-- how many messages the first stretch of calls gets, with a call more before it
+abbrev pub gets_here : Step → ℕ → ℕ
+gets_here (Get m) here = here + 1
+gets_here (Ack true) here = 0
+gets_here call here = here
+
+-- what holds after a call with this note, where the calls that come then go on
+abbrev pub GoesAfter : List Step → List Note → Note → List (List ℕ) → Type 0
+GoesAfter calls notes note rest = Choose note.is_down (Leaves (is_told_yes calls) (wanted_of calls note) rest) (GoesOn calls notes rest)
+
+-- what calls ask right after a call with this note
+pub record IsAfter (ahead : Ahead) (calls : List Step) (notes : List Note) (note : Note) : Type 0 where
+  pub asks : Asks ahead.here ahead.most ahead.spared ahead.is_settled (GoesAfter calls notes note) (messages_got calls)
+  pub got : ahead.got ≡ got_before_answer calls
+  pub yes : ahead.is_told_yes ≡ is_told_yes calls
+  pub no : ahead.is_told_no ≡ (if note.is_down then false else is_told_no calls notes)

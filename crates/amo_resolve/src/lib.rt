@@ -12,11 +12,12 @@
 //!
 //! The queue loses only while a side is down. Between two such calls it is a plain queue, so the calls say which messages must
 //! wait at the first of them: some of the first ones got from there on. The fewer must wait the better, as more can be lost but
-//! none can be added; so the plan tries the counts from the least that can do up. Nothing is searched, and no guess is taken back.
+//! none can be added; so the plan tells the least count. Nothing is searched, and no guess is taken back.
 //!
 //! The crate does not judge replies or packets itself: [`resolve`] hands each event in to a world first, and tells its fault.
 #![tactic(auto)]
 
+mod borders;
 mod calls;
 mod explanation;
 mod fault;

@@ -1,12 +1,14 @@
 //! Which messages are wanted.
-ghost use Rattle.std.specs.Prelude.{◌≡◌, ◌↔◌, ◌+◌, ◌<◌, ◌≤◌, ◌^◌, ◌-◌, ℕ, [], ◌∷◌, ◌++◌, take, drop, length, slice_index_or, List, IsTrue, IfOk, if◌then◌else◌, true, false};
+ghost use Rattle.std.specs.Prelude.{◌≡◌, ◌+◌, ◌<◌, ◌≤◌, ◌^◌, ◌-◌, ℕ, [], ◌∷◌, ◌++◌, drop, length, slice_index_or, List, IfOk, if◌then◌else◌, true, false};
 ghost use Rattle.amo_object.specs.declared.step.Step.{Step};
+ghost use Rattle.amo_object.specs.declared.step.Step.TheVariants.{Ack};
 ghost use Rattle.amo_object.specs.Delivery.{messages_got};
 ghost use Rattle.amo_resolve.specs.declared.plan.Note.{Note};
-ghost use Rattle.amo_resolve.specs.Plan.{Follows, Leaves, GoesOn, IsPlan, IsMarked, IsNoted, IsAhead, IsLeastCount, sender_after, receiver_after};
+ghost use Rattle.amo_resolve.specs.Plan.{IsPlan, IsMarked, IsNoted, AreBorders, Asks, IsAhead, GoesAfter, IsAfter, gets_here, sender_after, receiver_after};
 
 use crate::Step;
-use crate::waiting::{Got, Waiting};
+use crate::borders::Borders;
+use crate::waiting::{Got, is_same};
 use amo_object::End;
 use std::alloc::{AllocError, Global};
 
@@ -23,16 +25,18 @@ pub(crate) struct Note {
     pub(crate) is_told_no: bool,
 }
 
-/// What the calls from some place on ask.
+/// What the calls from some place on ask. Their first stretch ends with the next call that leaves a side down, or with the next yes.
 #[derive(Clone, Copy, Debug)]
 pub(crate) struct Ahead {
-    /// The most messages that they may want.
-    reach: usize,
-    /// With fewer messages than these they do not go on.
-    fewest: usize,
-    /// A yes comes before any call that leaves a side down: no other count than `fewest` will do.
+    /// How many messages the stretch gets.
+    here: usize,
+    /// So many let the calls go on, if any do: those got in the stretch, and then those that are wanted after it and not put in it.
+    most: usize,
+    /// So many of the last messages that the stretch gets can be the first ones put in it, so they need not wait.
+    spared: usize,
+    /// No other count than `most` will do: all that is put in the stretch is got in it.
     is_settled: bool,
-    /// How many messages they get before the next answer or put.
+    /// How many messages the calls get before the next answer or put.
     got: usize,
     /// The next answer is yes, before any put.
     is_told_yes: bool,
@@ -43,11 +47,13 @@ pub(crate) struct Ahead {
 impl Ahead {
     /// Of no calls.
     fn nothing() -> Ahead
-        ensures { (notes : List Note) → IsAhead result [] notes }
+        ensures ahead { (notes : List Note) → IsAhead result [] notes }
+        ensures here { result.here ≡ 0 }
     {
         Ahead {
-            reach: 0,
-            fewest: 0,
+            here: 0,
+            most: 0,
+            spared: 0,
             is_settled: false,
             got: 0,
             is_told_yes: false,
@@ -55,64 +61,132 @@ impl Ahead {
         }
     }
 
-    /// Of one call more, before the others, with its note.
-    fn before(self, call: &Step, note: Note) -> Ahead
-        requires { (self.reach + 1 < 2 ^ 64) × (self.fewest + 1 < 2 ^ 64) × (self.got + 1 < 2 ^ 64) × (note.wanted + 1 < 2 ^ 64) }
-        ensures { (calls : List Step) (notes : List Note) → IsAhead self calls notes → IsAhead result (call.now ∷ calls) (note ∷ notes) }
+    /// The note of a call that comes before.
+    fn note(self, is_down: bool) -> Note
+        requires { self.spared ≤ self.most }
+        ensures down { result.is_down ≡ is_down }
+        ensures noted { (calls : List Step) (notes : List Note) → IsPlan calls notes → IsAhead self calls notes → IsNoted calls notes result }
     {
-        let same = self.after(note);
-        match call {
-            Step::Put(_) => Ahead {
-                fewest: same.fewest.saturating_sub(1),
-                got: 0,
-                is_told_yes: false,
-                is_told_no: false,
-                ..same
-            },
-            Step::Ack(true) => Ahead {
-                fewest: 0,
-                is_settled: true,
-                got: 0,
-                is_told_yes: true,
-                is_told_no: false,
-                ..same
-            },
-            Step::Ack(false) => Ahead {
-                got: 0,
-                is_told_yes: false,
-                is_told_no: true,
-                ..same
-            },
-            Step::Get(_) => Ahead {
-                reach: same.reach + 1,
-                fewest: same.fewest + 1,
-                got: same.got + 1,
-                ..same
-            },
-            _ => same,
+        let wanted = if !is_down {
+            0
+        } else if self.is_told_yes {
+            self.got
+        } else {
+            self.most - self.spared
+        };
+        Note {
+            is_down,
+            wanted,
+            is_told_yes: self.is_told_yes,
+            is_told_no: self.is_told_no,
         }
     }
 
     /// The same, asked right after a call with this note.
     fn after(self, note: Note) -> Ahead
-        ensures reach { result.reach ≡ if note.is_down then note.wanted else self.reach }
-        ensures fewest { result.fewest ≡ if note.is_down then note.wanted else self.fewest }
-        ensures settled { result.is_settled ≡ if note.is_down then false else self.is_settled }
+        ensures after { (calls : List Step) (notes : List Note) → IsAhead self calls notes → IsNoted calls notes note → IsAfter result calls notes note }
+        ensures here { result.here ≡ if note.is_down then 0 else self.here }
+        ensures most { result.most ≡ if note.is_down then note.wanted else self.most }
+        ensures spared { result.spared ≡ if note.is_down then 0 else self.spared }
         ensures got { result.got ≡ self.got }
-        ensures yes { result.is_told_yes ≡ self.is_told_yes }
-        ensures no { result.is_told_no ≡ if note.is_down then false else self.is_told_no }
     {
         if note.is_down {
             Ahead {
-                reach: note.wanted,
-                fewest: note.wanted,
-                is_settled: false,
+                here: 0,
+                most: note.wanted,
+                spared: 0,
+                is_settled: note.is_told_yes && note.wanted == 0,
                 is_told_no: false,
                 ..self
             }
         } else {
             self
         }
+    }
+
+    /// Of one call more, before the others. Of those that `got` has, these get the messages from `first` on.
+    fn before(self, call: &Step, got: &Got<'_>, first: usize, borders: &Borders) -> Ahead
+        requires numbers { (self.most + 1 < 2 ^ 64) × (self.got + 1 < 2 ^ 64) × (self.here + 1 < 2 ^ 64) × (length got.now < 2 ^ 64) }
+        requires counts { (self.spared ≤ self.here) × (first + self.here ≤ length got.now) × (first + self.most ≤ length got.now) }
+        requires borders { AreBorders got.now (first + self.here) borders.now.lengths.items × (length borders.now.lengths.items ≡ self.here + 1) }
+        ensures ahead { (calls : List Step) (notes : List Note) (note : Note) → drop first got.now ≡ messages_got calls → IsAfter self calls notes note
+            → IsAhead result (call.now ∷ calls) (note ∷ notes) }
+        ensures here { result.here ≡ gets_here call.now self.here }
+    {
+        match call {
+            Step::Put(message) => {
+                let asked = self.put(message.as_slice(), got, first, borders);
+                Ahead {
+                    got: 0,
+                    is_told_yes: false,
+                    is_told_no: false,
+                    ..asked
+                }
+            }
+            Step::Get(_) => Ahead {
+                here: self.here + 1,
+                most: self.most + 1,
+                got: self.got + 1,
+                ..self
+            },
+            Step::Ack(answer) => self.answer(*answer),
+            _ => self,
+        }
+    }
+
+    /// Of an answer more, before the other calls.
+    fn answer(self, answer: bool) -> Ahead
+        ensures ahead { (calls : List Step) (notes : List Note) (note : Note) → IsAfter self calls notes note → IsAhead result (Ack answer ∷ calls) (note ∷ notes) }
+        ensures here { result.here ≡ if answer then 0 else self.here }
+    {
+        if answer {
+            return Ahead {
+                here: 0,
+                most: 0,
+                spared: 0,
+                is_settled: true,
+                got: 0,
+                is_told_yes: true,
+                is_told_no: false,
+            };
+        }
+        Ahead {
+            got: 0,
+            is_told_yes: false,
+            is_told_no: true,
+            ..self
+        }
+    }
+
+    /// Of a put more, before the other calls, but for what the next answer is.
+    fn put(self, message: &[u8], got: &Got<'_>, first: usize, borders: &Borders) -> Ahead
+        requires numbers { (self.here + 1 < 2 ^ 64) × (length got.now < 2 ^ 64) }
+        requires counts { (self.spared ≤ self.here) × (first + self.here ≤ length got.now) × (first + self.most ≤ length got.now) }
+        requires borders { AreBorders got.now (first + self.here) borders.now.lengths.items × (length borders.now.lengths.items ≡ self.here + 1) }
+        ensures asks { (calls : List Step) (notes : List Note) (note : Note) → drop first got.now ≡ messages_got calls → IsAfter self calls notes note
+            → Asks result.here result.most result.spared result.is_settled (λ xs. GoesAfter calls notes note (xs ++ message.now ∷ [])) (messages_got calls) }
+        ensures here { result.here ≡ self.here }
+    {
+        if self.is_settled {
+            return Ahead {
+                most: self.most.saturating_sub(1),
+                ..self
+            };
+        }
+        let here = self.here;
+        let most = self.most;
+        if here < most {
+            let last = got.at(first + most - 1);
+            if is_same(last, message) {
+                return Ahead {
+                    most: most - 1,
+                    ..self
+                };
+            }
+            return self;
+        }
+        let spared = borders.longer(got, first + here, here, self.spared, message);
+        Ahead { spared, ..self }
     }
 }
 
@@ -158,54 +232,6 @@ fn mark_down(alloc: Global, calls: &[Step]) -> Result<Vec<Note>, AllocError>
     Ok(notes)
 }
 
-impl<'a> Waiting<'a> {
-    /// Takes a call, if these messages let it be.
-    fn follow(&mut self, call: &'a Step) -> Result<bool, AllocError>
-        ensures followed { IfOk result (λ is. is ≡ true → Follows call.now self.old self.new) }
-        ensures refused { IfOk result (λ is. is ≡ false → (rest : List (List ℕ)) → Follows call.now self.old rest → ⊥) }
-    {
-        match call {
-            Step::Put(message) => {
-                self.push(message.as_slice())?;
-                Ok(true)
-            }
-            Step::Get(message) => Ok(self.pop(message.as_slice())),
-            Step::Ack(true) => Ok(self.len() == 0),
-            _ => Ok(true),
-        }
-    }
-}
-
-/// Whether the calls go on as planned where the first `count` messages that they get wait. Of `got`, they get those from
-/// `first` on.
-fn goes_on<'a>(
-    waiting: &mut Waiting<'a>,
-    calls: &'a [Step],
-    notes: &[Note],
-    got: &Got<'a>,
-    first: usize,
-    count: usize,
-) -> Result<bool, AllocError>
-    requires plan { IsPlan calls.now notes.now × (length notes.now ≡ length calls.now) }
-    requires got { drop first got.now ≡ messages_got calls.now }
-    ensures { IfOk result (λ is. IsTrue is ↔ GoesOn calls.now notes.now (take count (messages_got calls.now))) }
-{
-    waiting.refill(got, first, count)?;
-    let mut passed = first;
-    for place in 0..calls.len() {
-        let call = &calls[place];
-        let note = note_at(notes, place);
-        if !waiting.follow(call)? {
-            return Ok(false);
-        }
-        passed = got_after(passed, call, got);
-        if note.is_down {
-            return Ok(waiting.can_leave(got, passed, note.wanted, note.is_told_yes));
-        }
-    }
-    Ok(true)
-}
-
 /// The note at a place.
 pub(crate) fn note_at(notes: &[Note], place: usize) -> Note
     requires { place < length notes.now }
@@ -224,97 +250,51 @@ pub(crate) fn got_after(before: usize, call: &Step, got: &Got<'_>) -> usize
     }
 }
 
-/// The least of the first messages got with which the calls go on, or the most.
-fn least<'a>(
-    waiting: &mut Waiting<'a>,
-    calls: &'a [Step],
-    notes: &[Note],
-    got: &Got<'a>,
-    first: usize,
-    ahead: Ahead,
-) -> Result<usize, AllocError>
-    requires plan { IsPlan calls.now notes.now × (length notes.now ≡ length calls.now) }
-    requires got { drop first got.now ≡ messages_got calls.now }
-    requires ahead { IsAhead ahead calls.now notes.now }
-    ensures { IfOk result (λ count. IsLeastCount calls.now notes.now ahead.reach count) }
-{
-    let end = if ahead.is_settled && ahead.fewest < ahead.reach {
-        ahead.fewest + 1
-    } else {
-        ahead.reach
-    };
-    for count in ahead.fewest..end {
-        if goes_on(waiting, calls, notes, got, first, count)? {
-            return Ok(count);
-        }
-    }
-    Ok(ahead.reach)
-}
-
-/// The note of a call before these.
-fn note_before<'a>(
-    waiting: &mut Waiting<'a>,
-    calls: &'a [Step],
-    notes: &[Note],
-    got: &Got<'a>,
-    first: usize,
-    ahead: Ahead,
-    is_down: bool,
-) -> Result<Note, AllocError>
-    requires plan { IsPlan calls.now notes.now × (length notes.now ≡ length calls.now) }
-    requires got { drop first got.now ≡ messages_got calls.now }
-    requires ahead { IsAhead ahead calls.now notes.now }
-    ensures down { IfOk result (λ note. note.is_down ≡ is_down) }
-    ensures noted { IfOk result (λ note. IsNoted calls.now notes.now note) }
-{
-    let wanted = if !is_down {
-        0
-    } else if ahead.is_told_yes {
-        ahead.got
-    } else {
-        least(waiting, calls, notes, got, first, ahead)?
-    };
-    Ok(Note {
-        is_down,
-        wanted,
-        is_told_yes: ahead.is_told_yes,
-        is_told_no: ahead.is_told_no,
-    })
-}
-
 /// A note for each call.
-pub(crate) fn plan<'a>(
-    alloc: Global,
-    calls: &'a [Step],
-    got: &Got<'a>,
-) -> Result<Vec<Note>, AllocError>
+pub(crate) fn plan(alloc: Global, calls: &[Step], got: &Got<'_>) -> Result<Vec<Note>, AllocError>
     requires { got.now ≡ messages_got calls.now }
     ensures { IfOk result (λ notes. IsMarked calls.now notes.items × IsPlan calls.now notes.items) }
 {
     let mut notes = mark_down(alloc, calls)?;
-    let mut waiting = Waiting::new(alloc);
+    let mut borders = Borders::nothing(alloc)?;
     let mut ahead = Ahead::nothing();
     let mut first = got.len();
     let mut place = calls.len();
     while place > 0 {
-        let later = &calls[place..];
-        let is_down = notes[place - 1].is_down;
-        let note = note_before(
-            &mut waiting,
-            later,
-            &notes[place..],
-            got,
-            first,
-            ahead,
-            is_down,
-        )?;
         place -= 1;
+        let is_down = notes[place].is_down;
+        let note = ahead.note(is_down);
         let call = &calls[place];
         notes[place] = note;
-        ahead = ahead.before(call, note);
+        ahead = before(ahead, call, note, got, first, &mut borders)?;
         first = got_before(first, call);
     }
     Ok(notes)
+}
+
+/// What calls ask with one call more before them, which has this note. The borders are those of the stretch that begins here.
+fn before(
+    ahead: Ahead,
+    call: &Step,
+    note: Note,
+    got: &Got<'_>,
+    first: usize,
+    borders: &mut Borders,
+) -> Result<Ahead, AllocError>
+    requires numbers { (note.wanted + 1 < 2 ^ 64) × (ahead.here + 1 < 2 ^ 64) × (ahead.most + 1 < 2 ^ 64) × (ahead.got + 1 < 2 ^ 64) × (length got.now < 2 ^ 64) }
+    requires counts { (ahead.spared ≤ ahead.here) × (first + ahead.here ≤ length got.now) × (first + ahead.most ≤ length got.now) × (first + note.wanted ≤ length got.now) }
+    requires first { length (messages_got (call.now ∷ [])) ≤ first }
+    requires borders { AreBorders got.now (first + ahead.here) borders.old.lengths.items × (length borders.old.lengths.items ≡ ahead.here + 1) }
+    ensures ahead { IfOk result (λ before. (calls : List Step) (notes : List Note) → drop first got.now ≡ messages_got calls → IsAhead ahead calls notes
+        → IsNoted calls notes note → IsAhead before (call.now ∷ calls) (note ∷ notes)) }
+    ensures borders { IfOk result (λ before. AreBorders got.now (first - length (messages_got (call.now ∷ [])) + before.here) borders.new.lengths.items
+        × (length borders.new.lengths.items ≡ before.here + 1)) }
+{
+    let same = ahead.after(note);
+    borders.fit(same.here, got, first + ahead.here)?;
+    let before = same.before(call, got, first, borders);
+    borders.fit(before.here, got, first + same.here)?;
+    Ok(before)
 }
 
 /// How many messages were got before a call.

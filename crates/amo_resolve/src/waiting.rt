@@ -2,7 +2,6 @@
 ghost use Rattle.std.specs.Prelude.{◌≡◌, ◌↔◌, ◌+◌, ◌-◌, List, Option, ◌<◌, ◌≤◌, ℕ, [], ◌∷◌, ◌++◌, map, take, drop, remove, length, slice_get, slice_index_or, Some, IsTrue, IfOk, true, false};
 ghost use Rattle.std.specs.Option.{option_map};
 ghost use Rattle.amo_object.specs.Delivery.{messages_got, message_got};
-ghost use Rattle.amo_resolve.specs.Plan.{Follows, Leaves};
 
 use crate::Step;
 use std::alloc::{AllocError, Global};
@@ -136,13 +135,6 @@ impl<'a> Waiting<'a> {
         }
     }
 
-    /// Whether none waits.
-    pub(crate) fn is_empty(&self) -> bool
-        ensures { IsTrue result ↔ (self.now ≡ []) }
-    {
-        self.messages.is_empty()
-    }
-
     /// The message at a place leaves.
     pub(crate) fn remove(&mut self, place: usize)
         requires { place < length self.old }
@@ -152,44 +144,5 @@ impl<'a> Waiting<'a> {
             Some(_message) => {}
             None => unreachable!(),
         }
-    }
-
-    /// All leave.
-    pub(crate) fn clear(&mut self)
-        ensures { self.new ≡ [] }
-    {
-        self.messages.clear();
-    }
-
-    /// The first messages got from a place on, at most `count`, wait, and no others.
-    pub(crate) fn refill(
-        &mut self,
-        got: &Got<'a>,
-        first: usize,
-        count: usize,
-    ) -> Result<(), AllocError>
-        ensures { IfOk result (λ _. self.new ≡ take count (drop first got.now)) }
-    {
-        self.clear();
-        let last = got.part_end(first, count);
-        for place in first..last {
-            self.push(got.at(place))?;
-        }
-        Ok(())
-    }
-
-    /// The first message leaves, if it is this one.
-    pub(crate) fn pop(&mut self, message: &[u8]) -> bool
-        ensures popped { result ≡ true → self.old ≡ message.now ∷ self.new }
-        ensures refused { result ≡ false → (rest : List (List ℕ)) → self.old ≡ message.now ∷ rest → ⊥ }
-    {
-        if self.is_empty() {
-            return false;
-        }
-        if !is_same(self.at(0), message) {
-            return false;
-        }
-        self.remove(0);
-        true
     }
 }

@@ -1,6 +1,6 @@
 use Rattle.std.proofs.Common.{◌≡◌, ◌≤◌, ◌+◌, drop, take, length}
 use Rattle.amo_object.specs.Delivery.{messages_got}
-use Rattle.amo_resolve.specs.Plan.{IsMarked, IsPlan, IsAhead}
+use Rattle.amo_resolve.specs.Plan.{IsMarked, IsPlan, IsAhead, AreBorders}
 use Rattle.amo_resolve.proofs.plan.plan.Given as goal
 
 -- the calls from here on are planned
@@ -10,11 +10,10 @@ invariant-loop-place l = record {
   marked : IsMarked l.calls l.notes.items;
   plan : IsPlan (drop l.place l.calls) (drop l.place l.notes.items);
   ahead : IsAhead l.ahead (drop l.place l.calls) (drop l.place l.notes.items);
-  reach : l.ahead.reach + l.place ≤ length l.calls;
-  fewest : l.ahead.fewest + l.place ≤ length l.calls;
-  short : l.ahead.got + l.place ≤ length l.calls;
   got : drop l.first l.got ≡ messages_got (drop l.place l.calls);
   first : l.first ≡ length (messages_got (take l.place l.calls));
+  borders : AreBorders l.got (l.first + l.ahead.here) l.borders.lengths.items;
+  counted : length l.borders.lengths.items ≡ l.ahead.here + 1;
 }
 
 abbrev pub decreases-loop-place : goal.decreases-loop-place
