@@ -12,3 +12,6 @@ pub mod Greedy
 pub mod Kept
 pub mod Steps
 pub mod Places
+pub mod Judged
+pub mod Pieces
+pub mod Explained

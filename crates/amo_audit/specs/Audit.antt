@@ -45,6 +45,15 @@ Judges bytes (verdict.Unsent at) = HasFaultAt bytes at fault.Unsent
 Judges bytes (verdict.Repeat at) = HasFaultAt bytes at fault.Repeat
 Judges bytes verdict.NoMemory = Unit {0}
 
+-- what a verdict says of events in the order of time
+abbrev pub JudgesEvents : List Event → Verdict → Type 0
+JudgesEvents events verdict.Yes = IsSound (reverse events) × ((number : ℕ) → IsServed number (reverse events))
+JudgesEvents events (verdict.WrongReply at) = IsFaultAt events at fault.WrongReply
+JudgesEvents events (verdict.Unsent at) = IsFaultAt events at fault.Unsent
+JudgesEvents events (verdict.Repeat at) = IsFaultAt events at fault.Repeat
+JudgesEvents events verdict.NoMemory = Unit {0}
+JudgesEvents events _ = ⊥
+
 -- the exit status of a verdict
 abbrev pub status_of : Verdict → ℕ
 status_of verdict.Yes = 0

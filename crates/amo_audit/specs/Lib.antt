@@ -3,10 +3,12 @@ pub mod Fault
 pub mod Fields
 pub mod Gathering
 pub mod Audit
-pub mod Report
 pub mod Side
 pub mod Sides
 pub mod Hosts
 pub mod Marks
 pub mod Merge
 pub mod MergeFault
+pub mod Judgement
+pub mod Report
+pub mod Explanation

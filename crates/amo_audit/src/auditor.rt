@@ -1,9 +1,10 @@
 //! The judgement of a journal, line by line.
 ghost use Rattle.std.specs.Prelude.{◌≡◌, ◌+◌, ◌<◌, ◌^◌, ◌++◌, ◌∷◌, ℕ, [], List, IfOk, OnOk};
 ghost use Rattle.amo_packet.specs.Stream.{IsStream};
+ghost use Rattle.amo_world.specs.declared.event.Event.{Event};
 ghost use Rattle.amo_audit.specs.declared.numbered.Numbered.{Numbered};
-ghost use Rattle.amo_audit.specs.Journal.{SpellsLines};
-ghost use Rattle.amo_audit.specs.Audit.{Audits, Judges};
+ghost use Rattle.amo_audit.specs.Journal.{SpellsLines, numbered};
+ghost use Rattle.amo_audit.specs.Audit.{Audits, Judges, JudgesEvents};
 
 use crate::Verdict;
 use crate::numbered::Numbered;
@@ -86,8 +87,10 @@ impl Auditor {
 
     /// What the lines are judged to be, if no more come.
     pub(crate) fn verdict(&self) -> Verdict
-        ensures { (lines : List Numbered) (bytes : List ℕ) → Audits self.now.world self.now.lines self.now.finding lines
+        ensures of_bytes { (lines : List Numbered) (bytes : List ℕ) → Audits self.now.world self.now.lines self.now.finding lines
             → SpellsLines bytes lines → Judges bytes result }
+        ensures of_events { (events : List Event) → Audits self.now.world self.now.lines self.now.finding (numbered 0 events)
+            → JudgesEvents events result }
     {
         match self.finding {
             Finding::Nothing => Verdict::Yes,

@@ -10,7 +10,9 @@
 //! - [`audit`] judges bytes: [`Verdict::Yes`] comes only where they are a journal of a right, honest and fresh history,
 //!   which then serves each of its streams. Otherwise the verdict names the first fault and its line: a malformed line
 //!   comes before a gap, and a gap before the first event at fault, in the order in which a world finds faults.
-//! - [`report`] writes the line that tells a verdict, and answers the exit status.
+//! - [`report`] writes the line that tells what is found of a journal, or of two that are merged, and answers the exit status.
+//! - [`explain`] writes, of a journal that is judged yes, the run of the at-most-once queue that its clients saw of each stream; of
+//!   other bytes it answers the verdict, which [`tell`] writes.
 //! - [`merge`] makes one list of the events of two hosts, in the preferred interleaving: at each place the first list's next
 //!   event, unless it delivers a packet that was not emitted yet, else the second's. Otherwise a side of a stream has events
 //!   in both lists, or no interleaving is honest.
@@ -21,15 +23,20 @@
 //!
 //! A merge reads each list twice, and keeps what it took and, of each side, its automaton and a set of what it emitted.
 //!
-//! The grammar stands in `specs/Journal.antt`, verdicts in `specs/Audit.antt`, their lines in `specs/Report.antt`, merges in
-//! `specs/Merge.antt`.
+//! The grammar stands in `specs/Journal.antt`, verdicts in `specs/Audit.antt`, what is found of two files in `specs/Judgement.antt`, lines in
+//! `specs/Report.antt` and `specs/Explanation.antt`, merges in `specs/Merge.antt`.
 #![tactic(auto)]
 
 mod act_reader;
 mod auditing;
 mod auditor;
+#[cfg(test)]
+mod explain_tests;
+mod explaining;
 mod fault;
 mod hosts;
+mod judgement;
+mod judging;
 pub mod laws;
 mod line_reader;
 mod merge_fault;
@@ -52,11 +59,12 @@ mod writing;
 
 pub use amo_text::{Out, Sink};
 pub use auditing::audit;
+pub use explaining::explain;
 pub use fault::JournalFault;
 pub use merge_fault::MergeFault;
 pub use merging::merge;
 pub use reading::read_journal;
-pub use reporting::report;
+pub use reporting::{report, tell};
 pub use spelling::can_spell;
 pub use verdict::Verdict;
 pub use writing::write_journal;

@@ -1,10 +1,9 @@
 //! The preferred interleaving of two lists of events.
-ghost use Rattle.std.specs.Prelude.{◌↔◌, List, reverse, IfOk, IsErrOf, IsTrue};
+ghost use Rattle.std.specs.Prelude.{◌↔◌, reverse, IfOk, IsErrOf, IsTrue};
 ghost use Rattle.std.specs.List.{All};
-ghost use Rattle.amo_world.specs.declared.event.Event.{Event};
 ghost use Rattle.amo_world.specs.Stream.{IsStream};
 ghost use Rattle.amo_world.specs.History.{IsHonest};
-ghost use Rattle.amo_audit.specs.Merge.{Interleaves, IsPreferred, SharesSide};
+ghost use Rattle.amo_audit.specs.Merge.{IsPreferred, IsStuck, SharesSide};
 
 use crate::MergeFault;
 use crate::merger::Merger;
@@ -21,7 +20,7 @@ pub fn merge(alloc: Global, first: &[Event], second: &[Event]) -> Result<Vec<Eve
     ensures preferred { IfOk result (λ merged. IsPreferred first.now second.now merged.items) }
     ensures honest { IfOk result (λ merged. IsHonest (reverse merged.items)) }
     ensures shared { IsErrOf result MergeFault.Shared ↔ SharesSide first.now second.now }
-    ensures stuck { IsErrOf result MergeFault.Stuck → (merged : List Event) → Interleaves first.now second.now merged → ¬ (IsHonest (reverse merged)) }
+    ensures stuck { IsErrOf result MergeFault.Stuck → IsStuck first.now second.now }
 {
     if shares_side(first, second) {
         return Err(MergeFault::Shared);

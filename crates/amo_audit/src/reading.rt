@@ -1,5 +1,7 @@
 //! Reads journals.
 ghost use Rattle.std.specs.Prelude.{◌≡◌, ◌+◌, ◌<◌, ◌^◌, ◌++◌, ◌∷◌, [], ℕ, List, IfOk, IfErr, OnOk};
+ghost use Rattle.std.specs.List.{All};
+ghost use Rattle.amo_packet.specs.Stream.{IsStream};
 ghost use Rattle.amo_world.specs.declared.event.Event.{Event};
 ghost use Rattle.amo_audit.specs.declared.numbered.Numbered.{Numbered};
 ghost use Rattle.amo_audit.specs.Journal.{IsJournal, SpellsLines};
@@ -19,6 +21,7 @@ use std::alloc::{AllocError, Global};
 pub fn read_journal(alloc: Global, bytes: &[u8]) -> Result<Vec<Event>, JournalFault>
     ensures spelt { IfOk result (λ events. IsJournal events.items bytes.now) }
     ensures only { IfOk result (λ events. (others : List Event) → IsJournal others bytes.now → others ≡ events.items) }
+    ensures streams { IfOk result (λ events. All (λ e. IsStream e.stream) events.items) }
     ensures fault { IfErr result (λ fault. Faults bytes.now fault) }
 {
     let mut gathered = Gathered::new(alloc);

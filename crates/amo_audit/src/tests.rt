@@ -347,14 +347,22 @@ fn writes_until_the_device_fails(rt: HostRuntime) -> Result<(), Fail> {
     Ok(())
 }
 
-/// What is told of the audit of these bytes, and the status.
-fn told<L: Ledger>(alloc: Global, bytes: &[u8], blank: Blank) -> Result<(Vec<u8>, u8), JournalFault>
+/// A text that was told, and the status.
+type Told = (Vec<u8>, u8);
+
+/// What is told of the audit of one file or of two.
+fn told<L: Ledger>(
+    alloc: Global,
+    first: &[u8],
+    second: Option<&[u8]>,
+    blank: Blank,
+) -> Result<Told, JournalFault>
     requires name { blank.name ≡ L.name }
     requires parts { blank.parts ≡ L.parts }
     requires some { 0 < L.parts }
 {
     let mut out = Out::<Vec<u8>, L>::new(Vec::new(alloc), blank);
-    let status = report(alloc, bytes, &mut out)?;
+    let status = report(alloc, first, second, &mut out)?;
     Ok((out.into_inner(), status))
 }
 
@@ -378,11 +386,100 @@ fn tells_verdicts(rt: HostRuntime) -> Result<(), Fail> {
         ),
     ];
     for (bytes, line, status) in rows {
-        let (text, answer) = told::<Brand>(rt.alloc(), bytes.as_bytes(), Blank::new(1))
+        let (text, answer) = told::<Brand>(rt.alloc(), bytes.as_bytes(), None, Blank::new(1))
             .ok()
             .ok_or("told")?;
         assert_eq!(rt; text.as_slice(), line.as_bytes(), "{bytes}");
         assert_eq!(rt; answer, status, "{bytes}");
+    }
+    Ok(())
+}
+
+/// What happened at the sender.
+const SENDER: &str = "0 0 s 1 put 61 ok
+1 0 s 1 start 7 done
+2 0 s 1 deliver 414d01020000000100000000000000070000000000000009 0 done
+";
+
+/// What happened at the receiver, but for its last get.
+const RECEIVER: &str = "0 0 r 1 deliver 414d0101000000010000000000000007 9 done
+1 0 r 1 deliver 414d0103000000010000000000000009000161 0 done
+2 0 r 1 get got 61
+";
+
+/// What is told of two files.
+fn told_of_two(alloc: Global, first: &[u8], second: &[u8]) -> Result<Told, Fail> {
+    match told::<Brand>(alloc, first, Some(second), Blank::new(1)) {
+        Ok(told) => Ok(told),
+        Err(_) => Err("told".into()),
+    }
+}
+
+/// What is told of the sender's journal and the receiver's with this last line, and of both in the other order.
+fn told_of_both(alloc: Global, last: &str) -> Result<(Told, Told), Fail> {
+    let mut receiver = Vec::new(alloc);
+    receiver.extend_from_slice(RECEIVER.as_bytes())?;
+    receiver.extend_from_slice(last.as_bytes())?;
+    let sender = SENDER.as_bytes();
+    let first = told_of_two(alloc, sender, &receiver)?;
+    let second = told_of_two(alloc, &receiver, sender)?;
+    Ok((first, second))
+}
+
+#[test]
+fn tells_of_a_split_story(rt: HostRuntime) -> Result<(), Fail> {
+    let rows = [
+        ("", "yes\n", "yes\n", 0),
+        ("3 0 r 1 get nothing\n", "yes\n", "yes\n", 0),
+        (
+            "3 0 r 1 get got 61\n",
+            "wrong reply at line 7\n",
+            "wrong reply at line 7\n",
+            1,
+        ),
+        (
+            "3 0 r 1 get nothing",
+            "file 2: malformed at line 4\n",
+            "file 1: malformed at line 4\n",
+            2,
+        ),
+        (
+            "4 0 r 1 get nothing\n",
+            "file 2: gap at line 4\n",
+            "file 1: gap at line 4\n",
+            2,
+        ),
+        ("3 0 s 1 ack notyet\n", "shared\n", "shared\n", 2),
+        (
+            "3 0 r 1 deliver 414d0105000000010000000000000009 0 done\n",
+            "stuck\n",
+            "stuck\n",
+            3,
+        ),
+    ];
+    for (last, line, turned, wanted) in rows {
+        let (first, second) = told_of_both(rt.alloc(), last)?;
+        assert_eq!(rt; first.0.as_slice(), line.as_bytes(), "{last}");
+        assert_eq!(rt; second.0.as_slice(), turned.as_bytes(), "{last}");
+        assert_eq!(rt; (first.1, second.1), (wanted, wanted), "{last}");
+    }
+    Ok(())
+}
+
+/// The first file's fault comes first, whatever stands in the second.
+#[test]
+fn tells_the_first_file_first(rt: HostRuntime) -> Result<(), Fail> {
+    let rows = [
+        ("x\n", "\n", "file 1: malformed at line 1\n"),
+        ("1 0 s 1 ack yes\n", "x\n", "file 1: gap at line 1\n"),
+        ("", "x\n", "file 2: malformed at line 1\n"),
+        ("", "", "yes\n"),
+        ("0 0 s 1 ack no\n", "", "wrong reply at line 1\n"),
+        ("", "0 0 s 1 ack no\n", "wrong reply at line 1\n"),
+    ];
+    for (first, second, line) in rows {
+        let (text, _) = told_of_two(rt.alloc(), first.as_bytes(), second.as_bytes())?;
+        assert_eq!(rt; text.as_slice(), line.as_bytes(), "{first}{second}");
     }
     Ok(())
 }

@@ -56,7 +56,7 @@ fn push_line(text: &mut Vec<u8>, number: u64, event: &Event) -> Result<(), Alloc
 }
 
 /// Appends the letter of a side.
-fn push_side(text: &mut Vec<u8>, side: End) -> Result<(), AllocError>
+pub(crate) fn push_side(text: &mut Vec<u8>, side: End) -> Result<(), AllocError>
     ensures { OnOk result (text.new.items ≡ text.old.items ++ letter_of side) }
 {
     text.extend_from_slice(match side {

@@ -6,8 +6,10 @@ use thiserror::Error;
 pub enum Settings {
     /// Replay the schedule in this file.
     Replay(String),
-    /// Audit the journal in this file.
-    Audit(String),
+    /// Audit the journal in this file, or the journals of two processes, in this file and the next.
+    Audit(String, Option<String>),
+    /// Explain the journal in this file.
+    Explain(String),
 }
 
 /// Why the program's arguments are no settings.

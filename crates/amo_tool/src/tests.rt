@@ -18,9 +18,10 @@ const HELP: &str = "An at-most-once message service: commands that must never ru
 Usage: amo <COMMAND>
 
 Commands:
-  replay  Replays a schedule, and prints a line for each event
-  audit   Audits a journal, and prints a line with the verdict
-  help    Print this message or the help of the given subcommand(s)
+  replay   Replays a schedule, and prints a line for each event
+  audit    Audits a journal, or those of two processes, and prints a line with the verdict
+  explain  Explains a journal: what the at-most-once queue did for each stream
+  help     Print this message or the help of the given subcommand(s)
 
 Options:
   -h, --help     Print help
@@ -29,11 +30,13 @@ Options:
 Examples:
   amo replay examples/handshake.schedule
   amo audit examples/good_journal.journal
+  amo explain examples/good_journal.journal
 
 Status:
   0  done; of an audit: yes
   1  an audit found a wrong reply
-  2  a malformed schedule or journal, a gap in a journal, or arguments that do not parse
+  2  a malformed schedule or journal, a gap in a journal, two journals of one side, or arguments
+     that do not parse
   3  a premise is broken: a packet that nobody emitted, or a word used twice
   4  out of memory, busy, or a file or standard output that cannot be opened, read or written
 
@@ -84,12 +87,14 @@ Example:
   amo replay examples/handshake.schedule
 ";
 
-const AUDIT_HELP: &str = "Audits a journal, and prints a line with the verdict
+const AUDIT_HELP: &str =
+    "Audits a journal, or those of two processes, and prints a line with the verdict
 
-Usage: amo audit <FILE>
+Usage: amo audit <FILE> [FILE]
 
 Arguments:
   <FILE>  The journal
+  [FILE]  The journal of a second process
 
 Options:
   -h, --help  Print help
@@ -113,16 +118,59 @@ Verdicts, each a line on standard output, and their status:
   1  `wrong reply at line L`: of the event of line L, counted from 1
   2  `malformed at line L`: line L is no line
      `gap at line L`: its number is not L - 1
+     `shared`: both files have events of one side of a stream
   3  `unsent at line L`: it delivers a packet that was not emitted before
      `repeat at line L`: it uses a word a second time
+     `stuck`: in no order of both files' events is each packet emitted before it is delivered
 The first malformed line is told, else the first gap, else the first event at fault.
+
+Of two files both are read first, and `file 1: ` or `file 2: ` stands before a malformed line or a
+gap. Their events are then merged: the first file's go first, wherever what they deliver was
+emitted. L is a line of the merged journal, counted from 1.
 
 Faults, on standard error:
   4  `amo: out of memory`
      `amo: device`: the file or standard output failed, or there is no such file
 
-Example:
+Examples:
   amo audit examples/good_journal.journal
+  amo audit examples/split_journal.1.journal examples/split_journal.2.journal
+";
+
+const EXPLAIN_HELP: &str = "Explains a journal: what the at-most-once queue did for each stream
+
+Usage: amo explain <FILE>
+
+Arguments:
+  <FILE>  The journal
+
+Options:
+  -h, --help  Print help
+
+A journal of which `amo audit` prints `yes` is explained by lines, streams rising:
+  STREAM STEP
+
+STEP is what a client of the stream saw the at-most-once queue do, or a loss, which nobody saw:
+  put HEX               a message was put
+  get HEX               the first message of the queue was got
+  ack yes, ack no       the last put, if any, was got; it may or may not have been got
+  down s, down r        a call found that side down
+  crash s, crash r      that side crashed
+  recover s, recover r  that side recovered
+  lose I                the message at place I of the queue, counted from 0, was lost
+  lose-ack              what became of the last put was lost
+Where several runs of the queue explain a stream, one of them is printed.
+
+Of any other file the line that `amo audit` prints goes to standard error.
+
+Status:
+  0  the journal is explained
+  1 to 3, as of `amo audit`: nothing is explained
+  4  `amo: out of memory`
+     `amo: device`: the file or standard output failed, or there is no such file
+
+Example:
+  amo explain examples/good_journal.journal
 ";
 
 const NO_FILE: &str = "error: the following required arguments were not provided:
@@ -136,13 +184,14 @@ For more information, try '--help'.
 /// The texts that users see, whole.
 #[test]
 fn shows_its_texts(rt: HostRuntime) -> Result<(), Fail> {
-    let rows: [(&[&str], u8, &str); 7] = [
+    let rows: [(&[&str], u8, &str); 8] = [
         (&["amo"], 2, HELP),
         (&["amo", "--help"], 0, HELP),
         (&["amo", "-h"], 0, HELP),
         (&["amo", "replay"], 2, NO_FILE),
         (&["amo", "replay", "--help"], 0, REPLAY_HELP),
         (&["amo", "audit", "--help"], 0, AUDIT_HELP),
+        (&["amo", "explain", "--help"], 0, EXPLAIN_HELP),
         (&["amo", "--version"], 0, "amo 0.1.0\n"),
     ];
     for (given, status, text) in rows {
@@ -165,12 +214,26 @@ fn reads_the_arguments(rt: HostRuntime) -> Result<(), Fail> {
     let dash = settings(rt.alloc(), arguments(rt.alloc(), &["amo", "replay", "-"])?);
     assert!(rt; matches!(&dash, Ok(Settings::Replay(file)) if file.as_str() == "-"));
     let audited = settings(rt.alloc(), arguments(rt.alloc(), &["amo", "audit", "a"])?);
-    assert!(rt; matches!(&audited, Ok(Settings::Audit(file)) if file.as_str() == "a"));
-    let rows: [(&[&str], u8, &str); 5] = [
+    assert!(rt; matches!(&audited, Ok(Settings::Audit(file, None)) if file.as_str() == "a"));
+    let both = settings(
+        rt.alloc(),
+        arguments(rt.alloc(), &["amo", "audit", "a", "b"])?,
+    );
+    assert!(rt;
+        matches!(&both, Ok(Settings::Audit(file, Some(second))) if file.as_str() == "a" && second.as_str() == "b")
+    );
+    let explained = settings(rt.alloc(), arguments(rt.alloc(), &["amo", "explain", "a"])?);
+    assert!(rt; matches!(&explained, Ok(Settings::Explain(file)) if file.as_str() == "a"));
+    let rows: [(&[&str], u8, &str); 6] = [
         (&["amo", "replay"], 2, "<FILE>"),
         (&["amo", "replay", "a", "b"], 2, "unexpected argument 'b'"),
         (&["amo", "audit"], 2, "<FILE>"),
-        (&["amo", "audit", "a", "b"], 2, "unexpected argument 'b'"),
+        (
+            &["amo", "audit", "a", "b", "c"],
+            2,
+            "unexpected argument 'c'",
+        ),
+        (&["amo", "explain", "a", "b"], 2, "unexpected argument 'b'"),
         (&["amo", "run"], 2, "unrecognized subcommand 'run'"),
     ];
     for (given, status, part) in rows {

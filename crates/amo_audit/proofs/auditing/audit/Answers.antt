@@ -25,10 +25,10 @@ pub returns-clause-judged : goal.returns-clause-judged
 returns-clause-judged c =
     let so_far = c.loop-rest.invariant in
     let spells = all_read c.args.bytes.now c.loop-rest.rest.now c.loop-rest.auditor.lines _ so_far (is_empty _ c.loop-rest-test.ensures) in
-    c.verdict.ensures so_far.lines c.args.bytes.now so_far.holds spells
+    c.verdict.ensures.of_bytes so_far.lines c.args.bytes.now so_far.holds spells
 
 pub returns-clause-complete : goal.returns-clause-complete
 returns-clause-complete c =
     let so_far = c.loop-rest.invariant in
     let spells = all_read c.args.bytes.now c.loop-rest.rest.now c.loop-rest.auditor.lines _ so_far (is_empty _ c.loop-rest-test.ensures) in
-    good c.args.bytes.now c.verdict.result (c.verdict.ensures so_far.lines c.args.bytes.now so_far.holds spells)
+    good c.args.bytes.now c.verdict.result (c.verdict.ensures.of_bytes so_far.lines c.args.bytes.now so_far.holds spells)

@@ -1,0 +1,80 @@
+-- Lines of explanations, and what a resolver's faults are to an audit.
+use Rattle.std.proofs.Common.{◌≡◌, ℕ, ◌+◌, ◌<◌, List, [], ◌∷◌, ◌++◌, length, take, drop, true, false, refl, sym, ◌∙◌, ap, arith, append_assoc, reverse}
+use Rattle.std.specs.Fmt.{decimal}
+use Rattle.std.proofs.lemmas.List.{take-append-drop, length-take-le, drop_more}
+use Rattle.std.proofs.lemmas.Option.{slice_get_within, get_or_from_slice_get}
+use Rattle.amo_object.specs.declared.step.Step.{Step}
+use Rattle.amo_object.specs.declared.step.Step.TheVariants.{Put, Get, Ack, Crash, Recover, DownReply, Lose, LoseAck}
+use Rattle.amo_resolve.specs.Fault.{IsFirstRefused}
+use Rattle.amo_text.specs.Line.{text_of}
+use Rattle.amo_world.specs.declared.event.Event.{Event}
+use Rattle.amo_world.specs.declared.fault.WorldFault.{WorldFault}
+use Rattle.amo_audit.specs.declared.verdict.Verdict.{Verdict}
+use Rattle.amo_audit.specs.declared.verdict.Verdict.TheVariants as verdict
+use Rattle.amo_world.specs.History.{IsRight, IsHonest, IsFresh}
+use Rattle.amo_world.proofs.Serving.{serves}
+use Rattle.amo_audit.specs.Journal.{IsJournal}
+use Rattle.amo_audit.specs.Audit.{Judges, IsFaultAt, IsGood, HasFaultAt}
+use Rattle.amo_audit.specs.Judgement.{IsNoJournal}
+use Rattle.amo_audit.specs.Explanation.{step_fields, step_line, ExplainsIf}
+
+-- a step's line is its stream, a space, its fields and a line feed
+text_of_step : (stream : ℕ) (step : Step) → text_of (decimal stream ∷ step_fields step) ≡ decimal stream ++ 32 ∷ text_of (step_fields step)
+text_of_step stream (Put m) = refl
+text_of_step stream (Get m) = refl
+text_of_step stream (Ack true) = refl
+text_of_step stream (Ack false) = refl
+text_of_step stream (Crash side) = refl
+text_of_step stream (Recover side) = refl
+text_of_step stream (DownReply side) = refl
+text_of_step stream (Lose place) = refl
+text_of_step stream LoseAck = refl
+
+pub pushed_step : (t t1 t2 t3 t4 : List ℕ) (stream : ℕ) (step : Step) → t1 ≡ t ++ decimal stream → t2 ≡ t1 ++ 32 ∷ [] → t3 ≡ t2 ++ text_of (step_fields step) → t4 ≡ t3 ++ 10 ∷ [] → t4 ≡ t ++ step_line stream step
+pushed_step t t1 t2 t3 t4 stream step e1 e2 e3 e4 =
+    rw (e4, e3, e2, e1) (simp append_assoc)
+    ∙ ap (λ (line : List ℕ). t ++ (line ++ 10 ∷ [])) (sym (text_of_step stream step))
+
+-- what is no journal is judged so, and nothing explains it
+pub no_journal_judged : (bytes : List ℕ) (v : Verdict) → IsNoJournal bytes v → Judges bytes v
+no_journal_judged bytes (verdict.Malformed at) found = found
+no_journal_judged bytes (verdict.Gap at) found = found
+no_journal_judged bytes verdict.NoMemory found = tt
+no_journal_judged bytes verdict.Yes found = absurd found
+no_journal_judged bytes (verdict.WrongReply at) found = absurd found
+no_journal_judged bytes (verdict.Unsent at) found = absurd found
+no_journal_judged bytes (verdict.Repeat at) found = absurd found
+
+pub no_journal_explained : (bytes : List ℕ) (v : Verdict) → IsNoJournal bytes v → ExplainsIf v bytes []
+no_journal_explained bytes (verdict.Malformed at) found = refl
+no_journal_explained bytes (verdict.Gap at) found = refl
+no_journal_explained bytes verdict.NoMemory found = refl
+no_journal_explained bytes verdict.Yes found = absurd found
+no_journal_explained bytes (verdict.WrongReply at) found = refl
+no_journal_explained bytes (verdict.Unsent at) found = refl
+no_journal_explained bytes (verdict.Repeat at) found = refl
+
+-- the place of the first event that is refused, counted from 0, and its line, counted from 1
+pub refused_within : (events : List Event) (place : ℕ) (why : WorldFault) → IsFirstRefused events place why → place < length events
+refused_within events place why refused = slice_get_within events place refused.event refused.here
+
+fault_at : (events : List Event) (place : ℕ) (why : WorldFault) → IsFirstRefused events place why → IsFaultAt events (place + 1) why
+fault_at events place why refused =
+    let within = refused_within events place why refused in
+    let here = get_or_from_slice_get events place refused.event refused.event refused.here in
+    record {
+      before = take place events;
+      event = refused.event;
+      after = drop (place + 1) events;
+      whole = sym (take-append-drop place events) ∙ ap (λ (t : List Event). take place events ++ t) (drop_more events place refused.event within ∙ ap (λ (e : Event). e ∷ drop (place + 1) events) here);
+      sound = (refused.right, refused.honest, refused.fresh);
+      refused = refused.refused;
+      count = let long : length (take place events) ≡ place = length-take-le place events (omega arith) in omega (arith, long);
+    }
+
+pub has_fault_at : (bytes : List ℕ) (events : List Event) (place : ℕ) (why : WorldFault) → IsJournal events bytes → IsFirstRefused events place why → HasFaultAt bytes (place + 1) why
+has_fault_at bytes events place why journal refused = (events, journal, fault_at events place why refused)
+
+-- a journal of a history that is right, honest and fresh
+pub good_journal : (bytes : List ℕ) (events : List Event) → IsJournal events bytes → IsRight (reverse events) × IsHonest (reverse events) × IsFresh (reverse events) → IsGood bytes
+good_journal bytes events journal sound = (events, journal, sound, λ number. serves number (reverse events) sound.0 sound.1 sound.2)

@@ -1,0 +1,48 @@
+-- The explanation of a journal, as text: for each stream the run of the queue that its clients saw, a line a step.
+use Rattle.std.specs.Prelude.{◌≡◌, ℕ, true, false, List, [], ◌∷◌, codes}
+use Rattle.std.specs.List.{flat_map}
+use Rattle.std.specs.Fmt.{decimal}
+use Rattle.amo_object.specs.declared.step.Step.{Step}
+use Rattle.amo_object.specs.declared.step.Step.TheVariants.{Put, Get, Ack, Crash, Recover, DownReply, Lose, LoseAck}
+use Rattle.amo_resolve.specs.declared.resolver.Run.{Run}
+use Rattle.amo_resolve.specs.Resolved.{IsResolved}
+use Rattle.amo_text.specs.Hexadecimal.{hex}
+use Rattle.amo_text.specs.Line.{line_of}
+use Rattle.amo_text.specs.Side.{letter_of}
+use Rattle.amo_world.specs.declared.event.Event.{Event}
+use Rattle.amo_audit.specs.declared.verdict.Verdict.{Verdict}
+use Rattle.amo_audit.specs.declared.verdict.Verdict.TheVariants as verdict
+use Rattle.amo_audit.specs.Journal.{IsJournal}
+
+-- the fields of a step
+abbrev pub step_fields : Step → List (List ℕ)
+step_fields (Put m) = codes "put" ∷ hex m ∷ []
+step_fields (Get m) = codes "get" ∷ hex m ∷ []
+step_fields (Ack true) = codes "ack" ∷ codes "yes" ∷ []
+step_fields (Ack false) = codes "ack" ∷ codes "no" ∷ []
+step_fields (Crash side) = codes "crash" ∷ letter_of side ∷ []
+step_fields (Recover side) = codes "recover" ∷ letter_of side ∷ []
+step_fields (DownReply side) = codes "down" ∷ letter_of side ∷ []
+step_fields (Lose place) = codes "lose" ∷ decimal place ∷ []
+step_fields LoseAck = codes "lose-ack" ∷ []
+
+-- the line of a step of a stream's run
+abbrev pub step_line : ℕ → Step → List ℕ
+step_line stream step = line_of (decimal stream ∷ step_fields step)
+
+-- the lines of a run
+abbrev pub run_text : Run → List ℕ
+run_text run = flat_map (step_line run.stream) run.steps.items
+
+-- the lines of runs
+abbrev pub runs_text : List Run → List ℕ
+runs_text runs = flat_map run_text runs
+
+-- the text spells runs that explain each stream of the journal that the bytes are
+abbrev pub IsExplanation : List ℕ → List ℕ → Type 0
+IsExplanation bytes text = (events : List Event) × (runs : List Run) × IsJournal events bytes × IsResolved runs events × (text ≡ runs_text runs)
+
+-- what is written of bytes that are judged so: an explanation with a yes, and nothing else
+abbrev pub ExplainsIf : Verdict → List ℕ → List ℕ → Type 0
+ExplainsIf verdict.Yes bytes text = IsExplanation bytes text
+ExplainsIf _ bytes text = text ≡ []

@@ -1,0 +1,48 @@
+//! Why the program fails.
+use amo_audit::JournalFault;
+use amo_replay::ToolFault;
+use std::io;
+use std::io::ErrorKind;
+use thiserror::Error;
+
+/// Why the program cannot end what it was asked for. Standard error gets its text, and the status is 4.
+#[derive(Clone, Copy, Debug, PartialEq, Eq, Error)]
+pub(crate) enum Failure {
+    /// Memory was refused.
+    #[error("amo: out of memory")]
+    NoMemory,
+    /// Another call was at work at a side of the book.
+    #[error("amo: busy")]
+    Busy,
+    /// A file or standard output failed.
+    #[error("amo: device")]
+    Device,
+}
+
+impl From<ToolFault> for Failure {
+    fn from(fault: ToolFault) -> Failure {
+        match fault {
+            ToolFault::NoMemory => Failure::NoMemory,
+            ToolFault::Busy => Failure::Busy,
+            ToolFault::Device => Failure::Device,
+        }
+    }
+}
+
+impl From<JournalFault> for Failure {
+    fn from(fault: JournalFault) -> Failure {
+        match fault {
+            JournalFault::NoMemory => Failure::NoMemory,
+            _ => Failure::Device,
+        }
+    }
+}
+
+impl From<io::Error> for Failure {
+    fn from(error: io::Error) -> Failure {
+        match error.kind() {
+            ErrorKind::OutOfMemory => Failure::NoMemory,
+            _ => Failure::Device,
+        }
+    }
+}

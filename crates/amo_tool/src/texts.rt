@@ -1,0 +1,128 @@
+//! What the program says of itself: its version, and the help on it and on its commands.
+
+/// The version that the program tells.
+pub(crate) const VERSION: &str = "0.1.0";
+
+pub(crate) const ABOUT: &str =
+    "An at-most-once message service: commands that must never run twice.";
+
+pub(crate) const AFTER_HELP: &str = "Examples:
+  amo replay examples/handshake.schedule
+  amo audit examples/good_journal.journal
+  amo explain examples/good_journal.journal
+
+Status:
+  0  done; of an audit: yes
+  1  an audit found a wrong reply
+  2  a malformed schedule or journal, a gap in a journal, two journals of one side, or arguments
+     that do not parse
+  3  a premise is broken: a packet that nobody emitted, or a word used twice
+  4  out of memory, busy, or a file or standard output that cannot be opened, read or written
+
+Faults go to standard error. `amo: device` is a file or standard output that failed,
+also where there is no such file.";
+
+pub(crate) const REPLAY_ABOUT: &str = "Replays a schedule, and prints a line for each event";
+
+pub(crate) const REPLAY_AFTER_HELP: &str =
+    "A schedule is a list of lines, each with one line feed at its end:
+  put S HEX       put a message on stream S, in lower-case hexadecimal, `-` for no bytes
+  get S           get a message from stream S
+  ack S           ask what became of the last put of stream S
+  start S WORD    start a handshake on the sender of stream S, under this word
+  resend s S      emit the packet of the sender's mode on stream S again; `r S` for the receiver
+  deliver K WORD  deliver the K-th packet emitted, with a word to accept under
+  crash s S       crash the sender of stream S; `r S` for the receiver
+  recover s S     recover the sender of stream S; `r S` for the receiver
+
+Output, a line for each event:
+  N REPLY               the event's number, counted from 0, and its reply
+  N REPLY -> K HEX      and the packet that it emitted, numbered from 0 over all streams
+
+Replies are ok, full, down, got HEX, nothing, yes, no, notyet and done.
+
+Limits:
+  256 streams, numbered from 1; 1,024 bytes a message; 16 messages waiting on a stream
+  K and WORD are from 0 to 18446744073709551615; no number has a leading zero
+
+Status:
+  0  every line was replayed
+  2  `amo: line L: malformed`: line L, counted from 1, is no line; nothing was replayed
+  3  `amo: line L: unsent`: it delivers a packet that was not emitted before
+     `amo: line L: repeat`: it uses a word a second time
+  4  `amo: out of memory`
+     `amo: busy`: another call was at work at a side
+     `amo: device`: the file or standard output failed, or there is no such file
+
+Example:
+  amo replay examples/handshake.schedule";
+
+pub(crate) const AUDIT_ABOUT: &str =
+    "Audits a journal, or those of two processes, and prints a line with the verdict";
+
+pub(crate) const AUDIT_AFTER_HELP: &str =
+    "A journal is a list of lines, each with one line feed at its end, numbered from 0 in order:
+  NUMBER PASS SIDE STREAM ACT REPLY
+
+PASS is 0 to 63, SIDE is s for a sender and r for a receiver, STREAM is 1 to 256. ACT and REPLY are:
+  put HEX           at s:  ok, full or down
+  ack               at s:  yes, no, notyet or down
+  get               at r:  got HEX, nothing or down
+  start WORD        at s:  done
+  resend            done
+  deliver HEX WORD  done; HEX is a packet of that stream
+  crash             done
+  recover           done
+
+Verdicts, each a line on standard output, and their status:
+  0  `yes`: each reply is the protocol's, each packet delivered was emitted before, no word is
+     used twice; so each stream's clients saw what the at-most-once queue allows
+  1  `wrong reply at line L`: of the event of line L, counted from 1
+  2  `malformed at line L`: line L is no line
+     `gap at line L`: its number is not L - 1
+     `shared`: both files have events of one side of a stream
+  3  `unsent at line L`: it delivers a packet that was not emitted before
+     `repeat at line L`: it uses a word a second time
+     `stuck`: in no order of both files' events is each packet emitted before it is delivered
+The first malformed line is told, else the first gap, else the first event at fault.
+
+Of two files both are read first, and `file 1: ` or `file 2: ` stands before a malformed line or a
+gap. Their events are then merged: the first file's go first, wherever what they deliver was
+emitted. L is a line of the merged journal, counted from 1.
+
+Faults, on standard error:
+  4  `amo: out of memory`
+     `amo: device`: the file or standard output failed, or there is no such file
+
+Examples:
+  amo audit examples/good_journal.journal
+  amo audit examples/split_journal.1.journal examples/split_journal.2.journal";
+
+pub(crate) const EXPLAIN_ABOUT: &str =
+    "Explains a journal: what the at-most-once queue did for each stream";
+
+pub(crate) const EXPLAIN_AFTER_HELP: &str =
+    "A journal of which `amo audit` prints `yes` is explained by lines, streams rising:
+  STREAM STEP
+
+STEP is what a client of the stream saw the at-most-once queue do, or a loss, which nobody saw:
+  put HEX               a message was put
+  get HEX               the first message of the queue was got
+  ack yes, ack no       the last put, if any, was got; it may or may not have been got
+  down s, down r        a call found that side down
+  crash s, crash r      that side crashed
+  recover s, recover r  that side recovered
+  lose I                the message at place I of the queue, counted from 0, was lost
+  lose-ack              what became of the last put was lost
+Where several runs of the queue explain a stream, one of them is printed.
+
+Of any other file the line that `amo audit` prints goes to standard error.
+
+Status:
+  0  the journal is explained
+  1 to 3, as of `amo audit`: nothing is explained
+  4  `amo: out of memory`
+     `amo: device`: the file or standard output failed, or there is no such file
+
+Example:
+  amo explain examples/good_journal.journal";
