@@ -85,7 +85,7 @@ falls-refl q sound = record {
   up = λ e. refl;
 }
 
-subsequence-remove : {X : Type 0} (xs : List X) (place : ℕ) → IsSubsequence (remove xs place) xs
+pub subsequence-remove : {X : Type 0} (xs : List X) (place : ℕ) → IsSubsequence (remove xs place) xs
 subsequence-remove [] zero = empty
 subsequence-remove [] (suc place) = empty
 subsequence-remove (x ∷ xs) zero = leave_out (subsequence-refl xs)

@@ -6,6 +6,7 @@ pub mod Planning
 pub mod Serving
 pub mod Subsequences
 mod Losing
+mod Replicas
 mod Runs
 mod Telling
 mod Gathering

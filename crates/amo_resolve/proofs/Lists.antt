@@ -133,6 +133,12 @@ whole_last self place y end at =
     let whole : self ≡ take place self ++ y ∷ [] = sym (take_all (place + 1) self (omega (arith, end))) ∙ take_more self place y (omega (arith, end)) ∙ ap (λ (z : List ℕ). take place self ++ z ∷ []) (sym at) in
     ap last whole ∙ last-push (take place self) y
 
+-- an element is the same whatever would stand for one that is not there
+pub any_default : (xs : List (List ℕ)) (n : ℕ) (d e : List ℕ) → n < length xs → get_or xs n d ≡ get_or xs n e
+any_default [] n d e within = absurd (omega (arith, within))
+any_default (x ∷ xs) zero d e within = refl
+any_default (x ∷ xs) (suc n) d e within = any_default xs n d e (omega (arith, within))
+
 -- what is false does not hold
 pub untrue : (b : Bool) → b ≡ false → b ≡ true → ⊥
 untrue true e holds = cc

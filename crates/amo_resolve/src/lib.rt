@@ -22,8 +22,8 @@ mod calls;
 mod explanation;
 mod fault;
 mod judge;
-mod part;
 mod plan;
+mod replica;
 mod resolver;
 mod tell;
 #[cfg(test)]

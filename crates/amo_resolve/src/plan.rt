@@ -240,16 +240,6 @@ pub(crate) fn note_at(notes: &[Note], place: usize) -> Note
     notes[place]
 }
 
-/// How many messages were got after a call, of those got by all.
-pub(crate) fn got_after(before: usize, call: &Step, got: &Got<'_>) -> usize
-    ensures { (later : List Step) → drop before got.now ≡ messages_got (call.now ∷ later) → drop result got.now ≡ messages_got later }
-{
-    match call {
-        Step::Get(_) if before < got.len() => before + 1,
-        _ => before,
-    }
-}
-
 /// A note for each call.
 pub(crate) fn plan(alloc: Global, calls: &[Step], got: &Got<'_>) -> Result<Vec<Note>, AllocError>
     requires { got.now ≡ messages_got calls.now }

@@ -1,27 +1,26 @@
 //! A run that follows a plan.
-ghost use Rattle.std.specs.Prelude.{◌≡◌, ◌↔◌, ◌+◌, ◌-◌, ◌<◌, ◌≤◌, ℕ, List, [], ◌∷◌, ◌++◌, take, drop, length, true, false, IsTrue, IfOk, IfSome, IfNone};
+ghost use Rattle.std.specs.Prelude.{◌≡◌, ◌+◌, ◌-◌, ◌<◌, ◌≤◌, ◌||◌, ℕ, Bool, List, [], ◌∷◌, ◌++◌, take, drop, length, true, false, IfOk, IfSome, IfNone};
 ghost use Rattle.amo_object.specs.declared.step.Step.{Step};
-ghost use Rattle.amo_object.specs.declared.step.Step.TheVariants.{Lose};
-ghost use Rattle.amo_object.specs.Queue.{start, Allows, after, is_any_down};
+ghost use Rattle.amo_object.specs.Queue.{start, Allows, is_any_down};
 ghost use Rattle.amo_object.specs.Run.{is_loss};
-ghost use Rattle.amo_object.specs.Delivery.{messages_got, IsSubsequence};
+ghost use Rattle.amo_object.specs.Delivery.{messages_got};
 ghost use Rattle.amo_resolve.specs.Explanation.{Explains, IsExplained, LeadsTo};
-ghost use Rattle.amo_resolve.specs.Plan.{IsMarked, IsPlan};
-ghost use Rattle.amo_resolve.specs.Telling.{IsPushed, OnlyLost, Settles};
+ghost use Rattle.amo_resolve.specs.Plan.{IsMarked, IsPlan, Leaves};
+ghost use Rattle.amo_resolve.specs.Telling.{IsPushed, OnlyLost, Settles, Moves, Looked, IsNeeded, part, known_of, state_of, state_before};
 
 use crate::Step;
-use crate::plan::{Note, got_after, note_at};
-use crate::waiting::{Got, Waiting};
-use amo_object::{Bytes, Queue, QueueFault};
+use crate::plan::{Note, note_at};
+use crate::replica::Replica;
+use crate::waiting::Got;
+use amo_object::{Bytes, Status};
 use std::alloc::{AllocError, Global};
 
-/// A run, so far; the queue that it leads to; and the messages there, by reference.
+/// A run, so far, and the queue that it leads to.
 #[derive(Drop)]
 pub(crate) struct Told<'a> {
     alloc: Global,
     run: Vec<Step>,
-    queue: Queue,
-    waiting: Waiting<'a>,
+    queue: Replica<'a>,
 }
 
 /// An equal step.
@@ -40,119 +39,99 @@ fn copy_of(alloc: Global, step: &Step) -> Result<Step, AllocError>
     })
 }
 
-/// Whether a step is a loss.
-fn is_lost(step: &Step) -> bool
-    ensures { result ≡ is_loss step.now }
-{
-    match step {
-        Step::Lose(_) => true,
-        Step::LoseAck => true,
-        _ => false,
-    }
-}
-
 impl<'a> Told<'a> {
     /// Nothing yet.
     fn new(alloc: Global) -> Told<'a>
-        ensures leads { LeadsTo result.run.items [] result.queue }
-        ensures start { (result.queue ≡ start) × (result.waiting ≡ []) }
+        ensures leads { (got : List (List ℕ)) → LeadsTo result.run.items [] (state_of got result.queue) }
+        ensures start { (got : List (List ℕ)) → state_of got result.queue ≡ start }
+        ensures parts { (result.queue.first ≡ 0) × (result.queue.known ≡ 0) × (result.queue.others ≡ []) }
     {
         Told {
             alloc,
             run: Vec::new(alloc),
-            queue: Queue::new(alloc),
-            waiting: Waiting::new(alloc),
+            queue: Replica::new(alloc),
         }
     }
 
-    /// One step more, if the queue allows it. What waits is not looked at.
-    fn push(&mut self, step: Step) -> Result<bool, AllocError>
-        ensures pushed { IfOk result (λ is. is ≡ true → IsPushed self.old.run.items self.old.queue step self.new.run.items self.new.queue) }
-        ensures refused { IfOk result (λ is. is ≡ false → ¬ (Allows self.old.queue step)) }
-        ensures waiting { self.new.waiting ≡ self.old.waiting }
-    {
-        let copy = copy_of(self.alloc, &step)?;
-        match self.queue.take(step) {
-            Ok(()) => {
-                self.run.push(copy)?;
-                Ok(true)
-            }
-            Err(QueueFault::NotAllowed) => Ok(false),
-            Err(QueueFault::NoMemory) => Err(AllocError),
-        }
-    }
-
-    /// One call more, if the queue allows it and it is no loss.
-    fn push_call(&mut self, call: &'a Step) -> Result<bool, AllocError>
-        requires { self.old.queue.messages ≡ self.old.waiting }
-        ensures pushed { IfOk result (λ is. is ≡ true → IsPushed self.old.run.items self.old.queue call.now self.new.run.items self.new.queue) }
-        ensures waiting { IfOk result (λ is. is ≡ true → self.new.queue.messages ≡ self.new.waiting) }
+    /// The call that comes next, if the queue allows it and it is no loss.
+    fn push_call(&mut self, got: &Got<'a>, call: &'a Step) -> Result<bool, AllocError>
+        requires { self.old.queue.first < self.old.queue.known → self.old.queue.known ≤ length got.now }
+        ensures pushed { IfOk result (λ is. is ≡ true
+            → IsPushed self.old.run.items (state_of got.now self.old.queue) call.now self.new.run.items (state_of got.now self.new.queue)) }
         ensures seen { IfOk result (λ is. is ≡ true → is_loss call.now ≡ false) }
-        ensures refused { IfOk result (λ is. is ≡ false → Allows self.old.queue call.now → is_loss call.now ≡ false → ⊥) }
+        ensures moved { IfOk result (λ is. is ≡ true
+            → Moves call.now (known_of got.now self.old.queue) self.old.queue.others (known_of got.now self.new.queue) self.new.queue.others) }
+        ensures within { IfOk result (λ is. is ≡ true → self.new.queue.first < self.new.queue.known → self.new.queue.known ≤ length got.now) }
+        ensures later { IfOk result (λ is. is ≡ true → (later : List Step) → drop self.old.queue.first got.now ≡ messages_got (call.now ∷ later)
+            → drop self.new.queue.first got.now ≡ messages_got later) }
+        ensures refused { IfOk result (λ is. is ≡ false → Allows (state_of got.now self.old.queue) call.now → is_loss call.now ≡ false → ⊥) }
     {
-        if is_lost(call) {
+        if !self.queue.allows(got, call) {
             return Ok(false);
         }
-        let copy = copy_of(self.alloc, call)?;
-        if !self.push(copy)? {
-            return Ok(false);
-        }
-        match call {
-            Step::Put(message) => self.waiting.push(message.as_slice())?,
-            Step::Get(_) => self.waiting.remove(0),
-            _ => {}
-        }
+        self.run.push(copy_of(self.alloc, call)?)?;
+        self.queue.take(got, call)?;
         Ok(true)
     }
 
-    /// What waits at a place is lost, if the queue allows it.
-    fn lose_at(&mut self, place: usize) -> Result<bool, AllocError>
-        requires { self.old.queue.messages ≡ self.old.waiting }
-        ensures pushed { IfOk result (λ is. is ≡ true → IsPushed self.old.run.items self.old.queue (Lose place) self.new.run.items self.new.queue) }
-        ensures waiting { IfOk result (λ is. is ≡ true → self.new.queue.messages ≡ self.new.waiting) }
-        ensures refused { IfOk result (λ is. is ≡ false → ¬ (Allows self.old.queue (Lose place))) }
+    /// What waits last is looked at. If it is the last one of those got up to `left`, it stays, and only those before it are
+    /// looked for from now on. If not, it is lost. What stood behind it stays: the messages got from `left` up to `end`.
+    fn look(&mut self, got: &Got<'a>, left: usize, end: usize) -> Result<usize, AllocError>
+        requires some { 0 < length self.old.queue.others }
+        requires within { (self.old.queue.first < self.old.queue.known → self.old.queue.known ≤ length got.now) × (self.old.queue.first ≤ left) × (left ≤ end)
+            × (self.old.queue.first < end → end ≤ length got.now) }
+        requires down { self.old.queue.sender_down || self.old.queue.receiver_down ≡ true }
+        ensures looked { IfOk result (λ next. Looked got.now self.old.queue.first left next (length (known_of got.now self.old.queue) + length self.new.queue.others)
+            self.old.run.items (state_before got.now self.old.queue (part got.now left end)) self.new.run.items (state_before got.now self.new.queue (part got.now next end))) }
+        ensures same { IfOk result (λ _. (self.new.queue.first ≡ self.old.queue.first) × (self.new.queue.known ≡ self.old.queue.known)
+            × (self.new.queue.sender_down ≡ self.old.queue.sender_down) × (self.new.queue.receiver_down ≡ self.old.queue.receiver_down)) }
+        ensures fewer { IfOk result (λ _. length self.new.queue.others + 1 ≡ length self.old.queue.others) }
     {
-        if !self.push(Step::Lose(place))? {
-            return Ok(false);
+        let first = self.queue.first;
+        let place = self.queue.others.len() - 1;
+        let stays = got.ends_with(first, left, self.queue.others.at(place));
+        self.queue.others.remove(place);
+        if stays {
+            return Ok(left - 1);
         }
-        self.waiting.remove(place);
-        Ok(true)
+        let before = got.between(first, self.queue.known);
+        self.run.push(Step::Lose(before + place))?;
+        if left == end {
+            self.queue.settle(Status::No);
+        }
+        Ok(left)
     }
 
-    /// What waits is lost but for at most `count` of the messages got, from a place on, if the queue allows it and these wait.
-    /// Of equal messages the last ones stay. And what is known of the last put is lost, if the next answer is to be no.
-    fn lose_to(
-        &mut self,
-        got: &Got<'a>,
-        first: usize,
-        count: usize,
-        is_told_no: bool,
-    ) -> Result<bool, AllocError>
-        requires { self.old.queue.messages ≡ self.old.waiting }
-        ensures lost { IfOk result (λ is. is ≡ true → OnlyLost self.old.run.items self.old.queue self.new.run.items self.new.queue) }
-        ensures settled { IfOk result (λ is. is ≡ true → Settles self.old.queue self.new.queue (take count (drop first got.now)) is_told_no) }
-        ensures waiting { IfOk result (λ is. is ≡ true → self.new.queue.messages ≡ self.new.waiting) }
-        ensures refused { IfOk result (λ is. is ≡ false → is_any_down self.old.queue ≡ true
-            → ¬ (IsSubsequence (take count (drop first got.now)) self.old.waiting)) }
+    /// What waits is lost but for at most `count` of the messages got from here on, if these wait and all that are known to be got
+    /// next are among them. Of equal messages the last ones stay. And what is known of the last put is lost, if the next answer
+    /// is to be no.
+    fn lose_to(&mut self, got: &Got<'a>, count: usize, is_told_no: bool) -> Result<bool, AllocError>
+        requires within { self.old.queue.first < self.old.queue.known → self.old.queue.known ≤ length got.now }
+        requires down { self.old.queue.sender_down || self.old.queue.receiver_down ≡ true }
+        ensures lost { IfOk result (λ is. is ≡ true
+            → OnlyLost self.old.run.items (state_of got.now self.old.queue) self.new.run.items (state_of got.now self.new.queue)) }
+        ensures settled { IfOk result (λ is. is ≡ true
+            → Settles (state_of got.now self.old.queue) (state_of got.now self.new.queue) (take count (drop self.old.queue.first got.now)) is_told_no) }
+        ensures parts { IfOk result (λ is. is ≡ true → (known_of got.now self.new.queue ≡ take count (drop self.old.queue.first got.now))
+            × (self.new.queue.others ≡ []) × (self.new.queue.first ≡ self.old.queue.first)) }
+        ensures within { IfOk result (λ is. is ≡ true → self.new.queue.first < self.new.queue.known → self.new.queue.known ≤ length got.now) }
+        ensures refused { IfOk result (λ is. is ≡ false → (mode : Bool)
+            → Leaves mode (take count (drop self.old.queue.first got.now)) (state_of got.now self.old.queue).messages
+            → IsNeeded mode (take count (drop self.old.queue.first got.now)) (known_of got.now self.old.queue) self.old.queue.others → ⊥) }
     {
+        let first = self.queue.first;
         let end = got.part_end(first, count);
         let mut left = end;
-        let mut place = self.waiting.len();
-        while place > 0 {
-            place -= 1;
-            let next = self.waiting.look(got, first, left, place);
-            if next == left {
-                if !self.lose_at(place)? {
-                    return Ok(false);
-                }
-            }
-            left = next;
+        while self.queue.others.len() > 0 {
+            left = self.look(got, left, end)?;
         }
-        if first < left {
+        if left != first.max(self.queue.known) {
             return Ok(false);
         }
+        self.queue.known = end;
         if is_told_no {
-            return self.push(Step::LoseAck);
+            self.run.push(Step::LoseAck)?;
+            self.queue.status = Status::No;
         }
         Ok(true)
     }
@@ -172,16 +151,14 @@ pub(crate) fn tell<'a>(
     ensures none { IfOk result (λ run. IfNone run (¬ (IsExplained calls.now))) }
 {
     let mut told = Told::new(alloc);
-    let mut first = 0;
     for place in 0..calls.len() {
         let call = &calls[place];
         let note = note_at(notes, place);
-        if !told.push_call(call)? {
+        if !told.push_call(got, call)? {
             return Ok(None);
         }
-        first = got_after(first, call, got);
-        if note.is_down {
-            if !told.lose_to(got, first, note.wanted, note.is_told_no)? {
+        if told.queue.is_any_down() {
+            if !told.lose_to(got, note.wanted, note.is_told_no)? {
                 return Ok(None);
             }
         }

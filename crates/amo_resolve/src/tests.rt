@@ -302,8 +302,8 @@ fn names_the_first_fault(rt: HostRuntime) -> Result<(), Fail> {
     Ok(())
 }
 
-/// The call that a letter stands for: a to c put, A to C get, y and n are answers, s and r crash a side, S and R recover it, and
-/// d and D are calls at the sender and at the receiver that find it down.
+/// The step that a letter stands for: a to c put, A to C get, y and n are answers, s and r crash a side, S and R recover it, and
+/// d and D are calls at the sender and at the receiver that find it down. L and N are losses, which no client sees.
 fn call_of(alloc: Global, letter: u8) -> Result<Step, Fail> {
     let message = Bytes::from(Vec::from_slice(alloc, &[letter.to_ascii_lowercase()])?);
     Ok(match letter {
@@ -315,6 +315,8 @@ fn call_of(alloc: Global, letter: u8) -> Result<Step, Fail> {
         b'R' => Step::Recover(End::Receiver),
         b'd' => Step::DownReply(End::Sender),
         b'D' => Step::DownReply(End::Receiver),
+        b'L' => Step::Lose(0),
+        b'N' => Step::LoseAck,
         b'a'..=b'c' => Step::Put(message),
         _ => Step::Get(message),
     })
@@ -367,7 +369,7 @@ fn is_explained(alloc: Global, letters: &[u8]) -> Result<bool, Fail> {
 
 #[test]
 fn explains_calls_that_the_queue_allows(rt: HostRuntime) -> Result<(), Fail> {
-    let lists: [&[u8]; 13] = [
+    let lists: [&[u8]; 18] = [
         b"",
         b"aAy",
         b"asSn",
@@ -381,6 +383,11 @@ fn explains_calls_that_the_queue_allows(rt: HostRuntime) -> Result<(), Fail> {
         b"ababsSABn",
         b"asSrRAn",
         b"asrSnRA",
+        b"abcsSabsSABCAB",
+        b"abcsSabsSACB",
+        b"abcsSAabsSBCABy",
+        b"abrRAcrRBcCC",
+        b"ababsSababsSABAABn",
     ];
     for letters in lists {
         assert!(rt; is_explained(rt.alloc(), letters)?);
@@ -390,9 +397,29 @@ fn explains_calls_that_the_queue_allows(rt: HostRuntime) -> Result<(), Fail> {
 
 #[test]
 fn refuses_calls_that_the_queue_does_not_allow(rt: HostRuntime) -> Result<(), Fail> {
-    let lists: [&[u8]; 14] = [
-        b"A", b"aAA", b"abB", b"abBA", b"ay", b"an", b"asSy", b"sa", b"raA", b"d", b"D", b"sy",
-        b"sSabB", b"aB",
+    let lists: [&[u8]; 22] = [
+        b"A",
+        b"n",
+        b"aAA",
+        b"aAn",
+        b"abB",
+        b"abBA",
+        b"ay",
+        b"an",
+        b"asSy",
+        b"sa",
+        b"raA",
+        b"d",
+        b"D",
+        b"sy",
+        b"asn",
+        b"sSabB",
+        b"aB",
+        b"absSABB",
+        b"absScsSABCB",
+        b"abrRArRABy",
+        b"asL",
+        b"asN",
     ];
     for letters in lists {
         assert!(rt; !is_explained(rt.alloc(), letters)?);

@@ -1,5 +1,5 @@
 //! Messages by reference, so that none is copied while a run is looked for.
-ghost use Rattle.std.specs.Prelude.{◌≡◌, ◌↔◌, ◌+◌, ◌-◌, List, Option, ◌<◌, ◌≤◌, ℕ, [], ◌∷◌, ◌++◌, map, take, drop, remove, length, slice_get, slice_index_or, Some, IsTrue, IfOk, true, false};
+ghost use Rattle.std.specs.Prelude.{◌≡◌, ◌↔◌, ◌+◌, ◌-◌, List, Option, ◌<◌, ◌≤◌, ◌^◌, ℕ, [], ◌∷◌, ◌++◌, map, take, drop, remove, length, slice_get, slice_index_or, get_or, Some, IsTrue, IfOk, true, false};
 ghost use Rattle.std.specs.Option.{option_map};
 ghost use Rattle.amo_object.specs.Delivery.{messages_got, message_got};
 
@@ -39,7 +39,8 @@ impl<'a> Got<'a> {
 
     /// How many they are.
     pub(crate) fn len(&self) -> usize
-        ensures { result ≡ length self.now }
+        ensures length { result ≡ length self.now }
+        ensures small { result < 2 ^ 63 }
     {
         self.messages.len()
     }
@@ -50,6 +51,23 @@ impl<'a> Got<'a> {
         ensures { result.now ≡ slice_index_or self.now place result.now }
     {
         self.messages[place]
+    }
+
+    /// How many of them stand from one place on up to another.
+    pub(crate) fn between(&self, first: usize, end: usize) -> usize
+        requires { first < end → end ≤ length self.now }
+        ensures length { result ≡ end - first }
+        ensures small { result < 2 ^ 63 }
+    {
+        end.min(self.len()).saturating_sub(first)
+    }
+
+    /// Whether a part of them that begins at one place and ends at another has this message at its end.
+    pub(crate) fn ends_with(&self, first: usize, end: usize, message: &[u8]) -> bool
+        requires { first < end → end ≤ length self.now }
+        ensures { IsTrue result ↔ (first < end) × (get_or self.now (end - 1) [] ≡ message.now) }
+    {
+        first < end && is_same(self.at(end - 1), message)
     }
 
     /// Where a part of them ends that begins at a place and has at most `count`.
@@ -112,7 +130,8 @@ impl<'a> Waiting<'a> {
 
     /// How many wait.
     pub(crate) fn len(&self) -> usize
-        ensures { result ≡ length self.now }
+        ensures length { result ≡ length self.now }
+        ensures small { result < 2 ^ 63 }
     {
         self.messages.len()
     }

@@ -16,7 +16,7 @@ loop-place-init c =
     let ahead : IsAhead c.nothing-ahead.result (drop (length calls) calls) (drop (length calls) notes) =
     subst (λ (steps : List Step). IsAhead c.nothing-ahead.result steps (drop (length calls) notes)) (sym none) (c.nothing-ahead.ensures.ahead (drop (length calls) notes)) in
     let first : c.len-first.result ≡ length (messages_got (take (length calls) calls)) =
-    c.len-first.ensures ∙ ap length (c.requires ∙ ap messages_got (sym (take_all (length calls) calls (omega arith)))) in
+    c.len-first.ensures.length ∙ ap length (c.requires ∙ ap messages_got (sym (take_all (length calls) calls (omega arith)))) in
     record {
       within = omega arith;
       marked = c.in_ok-notes.ensures;

@@ -1,6 +1,5 @@
-use Rattle.std.proofs.Common.{◌≡◌}
 use Rattle.amo_resolve.proofs.Telling.{IsSoFar}
 use Rattle.amo_resolve.proofs.tell.tell.Given as goal
 
 abbrev pub invariant-loop-place : goal.invariant-loop-place
-invariant-loop-place l = IsSoFar l.calls l.notes l.got l.told.run.items l.told.queue (l.told.queue.messages ≡ l.told.waiting) l.first l.place
+invariant-loop-place l = IsSoFar l.calls l.notes l.got l.told.run.items l.told.queue l.place

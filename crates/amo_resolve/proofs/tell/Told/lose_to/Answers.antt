@@ -1,62 +1,81 @@
-use Rattle.std.proofs.Common.{◌≡◌, ◌+◌, ◌-◌, ◌<◌, ◌↔◌, ℕ, List, [], take, drop, get_or, refl, sym, subst, arith}
-use Rattle.amo_object.specs.declared.step.Step.TheVariants.{Lose, LoseAck}
+use Rattle.std.proofs.Common.{Bool, ◌≡◌, ◌+◌, length, take, drop, refl, sym, ◌∙◌, subst, arith}
+use Rattle.std.proofs.lemmas.List.{nil_from_length}
+use Rattle.amo_object.specs.declared.step.Step.TheVariants.{LoseAck}
 use Rattle.amo_object.specs.Queue.{QueueState, after}
-use Rattle.amo_object.specs.Delivery.{IsSubsequence}
-use Rattle.amo_resolve.proofs.Losing.{Losing, part, losing_found, losing_lost, losing_missed}
-use Rattle.amo_resolve.proofs.Runs.{lost_on, lost_then, lost_after}
+use Rattle.amo_resolve.specs.Explanation.{LeadsTo}
+use Rattle.amo_resolve.specs.Telling.{Settles, part, known_of, state_of, state_before}
+use Rattle.amo_resolve.proofs.Losing.{looking, looked_on, all_behind, settles_all, denied_settled, losing_refused, losing_down}
+use Rattle.amo_resolve.proofs.Runs.{lost_on, lost_then}
 use Rattle.amo_resolve.proofs.tell.Told.lose_to.Goals as goal
 
-pub loop-place-preserved-else-not-branch : goal.loop-place-preserved-else-not-branch
-loop-place-preserved-else-not-branch c =
-    let q = c.args.self.now.queue in
-    let now = c.loop-place.self.queue in
+pub loop-self-init : goal.loop-self-init
+loop-self-init c =
+    let both = looking c.args.got.now c.args.self.now.queue c.part_end-end.result c.args.self.now.run.items c.part_end-end.ensures.within.0 in
+    record { first = refl; known = refl; lost = both.0; losing = both.1 }
+
+pub loop-self-preserved : goal.loop-self-preserved
+loop-self-preserved c =
+    let i = c.loop-self.invariant in
+    let e = c.in_ok-left.ensures in
+    let both = looked_on c.args.got.now c.args.self.now.queue c.loop-self.self.queue c.look.new.self.queue c.part_end-end.result c.loop-self.left c.in_ok-left.left
+    c.args.self.now.run.items c.loop-self.self.run.items c.look.new.self.run.items c.part_end-end.ensures.within.1 i.first i.known e.fewer i.lost i.losing e.looked in
+    record { first = e.same.0 ∙ i.first; known = e.same.1 ∙ i.known; lost = both.0; losing = both.1 }
+
+pub returns-then-left-max-clause-refused : goal.returns-then-left-max-clause-refused
+returns-then-left-max-clause-refused c = λ no mode leaves needed.
+    let i = c.loop-self.invariant in
+    let none : length c.loop-self.self.queue.others ≡ 0 = omega (arith, c.loop-self-test.false, c.len.ensures.length) in
+    losing_refused c.args.got.now (take c.args.count (drop c.args.self.now.queue.first c.args.got.now)) c.args.self.now.queue c.loop-self.self.queue c.part_end-end.result c.loop-self.left
+    (length (known_of c.args.got.now c.args.self.now.queue) + length c.loop-self.self.queue.others) mode
+    c.part_end-end.ensures.within.1 c.requires.within i.losing i.first i.known (nil_from_length c.loop-self.self.queue.others none) (omega (arith, none))
+    (λ same. c.if-left-max.true (omega (arith, same, c.max.ensures, i.known, i.losing.from))) c.part_end-end.ensures.whole leaves needed
+
+pub returns-in_ok-push-clause-lost : goal.returns-in_ok-push-clause-lost
+returns-in_ok-push-clause-lost c = λ yes.
+    let i = c.loop-self.invariant in
     let got = c.args.got.now in
-    let first = c.args.first in
+    let old = c.args.self.now.queue in
+    let r = c.loop-self.self.queue in
     let end = c.part_end-end.result in
-    let left = c.loop-place.left in
-    let place = c.loop-place.place - 1 in
-    let pushed = c.in_ok-lose_at.ensures.pushed c.if-not-branch.false in
-    let l : Losing q now got first end left (place + 1) = subst (λ (n : ℕ). Losing q now got first end left n) {x = c.loop-place.place} {y = place + 1} (omega (arith, c.loop-place-test.true)) c.loop-place.invariant.losing in
-    let missed : first < left → get_or now.messages place [] ≡ get_or got (left - 1) [] → ⊥ =
-    subst (λ (ms : List (List ℕ)). first < left → get_or ms place [] ≡ get_or got (left - 1) [] → ⊥) (sym c.loop-place.invariant.waits) (c.look-next.ensures.missed c.if-next-left.true) in
-    let same : IsSubsequence (part got first left) (take place now.messages) ↔ IsSubsequence (part got first left) (take (place + 1) now.messages) =
-    subst (λ (ms : List (List ℕ)). IsSubsequence (part got first left) (take place ms) ↔ IsSubsequence (part got first left) (take (place + 1) ms)) (sym c.loop-place.invariant.waits)
-    (subst (λ (n : ℕ). IsSubsequence (part got first n) (take place c.loop-place.self.waiting) ↔ IsSubsequence (part got first left) (take (place + 1) c.loop-place.self.waiting)) c.if-next-left.true c.look-next.ensures.same) in
-    record {
-      waits = c.in_ok-lose_at.ensures.waiting c.if-not-branch.false;
-      lost = lost_then _ _ _ _ _ _ c.loop-place.invariant.lost (lost_on _ _ _ _ (Lose place) refl pushed);
-      losing = subst (λ (x : QueueState). Losing q x got first end c.look-next.result place) (sym pushed.reached)
-          (subst (λ (n : ℕ). Losing q (after now (Lose place)) got first end n place) (sym c.if-next-left.true)
-          (losing_lost q now got first end left place c.part_end-end.ensures.within.1 l pushed.allowed missed same));
-    }
+    let left = c.loop-self.left in
+    let none = nil_from_length r.others (omega (arith, c.loop-self-test.false, c.len.ensures.length)) in
+    let same = all_behind got r left end none (omega (arith, i.first, i.losing.from)) i.losing.most (omega (arith, c.if-left-max.false, c.max.ensures, i.first, i.known, i.losing.from)) in
+    let here : QueueState = state_of got (record r { known = end }) in
+    lost_then c.args.self.now.run.items c.loop-self.self.run.items c.push.new.self.items (state_of got old) here (after here LoseAck)
+    (λ calls leads. subst (λ (x : QueueState). LeadsTo c.loop-self.self.run.items calls x) same (i.lost calls leads))
+    (lost_on c.loop-self.self.run.items c.push.new.self.items here (after here LoseAck) LoseAck refl
+    (record { allowed = losing_down (state_of got old) (state_before got r (part got left end)) got old.first end left _ i.losing c.requires.down; reached = refl; steps = c.in_ok-push.ensures.items }))
 
-pub loop-place-preserved : goal.loop-place-preserved
-loop-place-preserved c =
-    let q = c.args.self.now.queue in
-    let now = c.loop-place.self.queue in
+pub returns-else-is_told_no-clause-lost : goal.returns-else-is_told_no-clause-lost
+returns-else-is_told_no-clause-lost c = λ yes calls leads.
+    let i = c.loop-self.invariant in
+    let r = c.loop-self.self.queue in
+    let none = nil_from_length r.others (omega (arith, c.loop-self-test.false, c.len.ensures.length)) in
+    subst (λ (x : QueueState). LeadsTo c.loop-self.self.run.items calls x)
+    (all_behind c.args.got.now r c.loop-self.left c.part_end-end.result none (omega (arith, i.first, i.losing.from)) i.losing.most
+    (omega (arith, c.if-left-max.false, c.max.ensures, i.first, i.known, i.losing.from))) (i.lost calls leads)
+
+pub returns-in_ok-push-clause-settled : goal.returns-in_ok-push-clause-settled
+returns-in_ok-push-clause-settled c = λ yes.
+    let i = c.loop-self.invariant in
     let got = c.args.got.now in
-    let first = c.args.first in
+    let old = c.args.self.now.queue in
+    let r = c.loop-self.self.queue in
     let end = c.part_end-end.result in
-    let left = c.loop-place.left in
-    let place = c.loop-place.place - 1 in
-    let l : Losing q now got first end left (place + 1) = subst (λ (n : ℕ). Losing q now got first end left n) {x = c.loop-place.place} {y = place + 1} (omega (arith, c.loop-place-test.true)) c.loop-place.invariant.losing in
-    let less : c.look-next.result < left = omega (arith, c.look-next.ensures.within.1, c.if-next-left.false) in
-    let here = c.look-next.ensures.found less in
-    let same : IsSubsequence (part got first c.look-next.result) (take place now.messages) ↔ IsSubsequence (part got first left) (take (place + 1) now.messages) =
-    subst (λ (ms : List (List ℕ)). IsSubsequence (part got first c.look-next.result) (take place ms) ↔ IsSubsequence (part got first left) (take (place + 1) ms)) (sym c.loop-place.invariant.waits) c.look-next.ensures.same in
-    record {
-      waits = c.loop-place.invariant.waits;
-      lost = c.loop-place.invariant.lost;
-      losing = losing_found q now got first end left place c.look-next.result c.part_end-end.ensures.within.1 l c.look-next.ensures.within.0 here.0
-          (subst (λ (ms : List (List ℕ)). get_or ms place [] ≡ get_or got c.look-next.result []) (sym c.loop-place.invariant.waits) here.1) same;
-    }
+    let wanted = take c.args.count (drop old.first got) in
+    let none = nil_from_length r.others (omega (arith, c.loop-self-test.false, c.len.ensures.length)) in
+    let here : QueueState = state_of got (record r { known = end }) in
+    let s = settles_all got wanted old r end c.loop-self.left _ i.losing i.first none (omega (arith, c.if-left-max.false, c.max.ensures, i.first, i.known, i.losing.from)) c.part_end-end.ensures.whole in
+    subst (λ (told : Bool). Settles (state_of got old) (after here LoseAck) wanted told) (sym c.if-is_told_no.true) (denied_settled (state_of got old) here (after here LoseAck) wanted s refl)
 
-pub returns-then-first-left-clause-refused : goal.returns-then-first-left-clause-refused
-returns-then-first-left-clause-refused c = λ no down sub.
-    let wanted = take c.args.count (drop c.args.first c.args.got.now) in
-    losing_missed c.args.self.now.queue c.loop-place.self.queue c.args.got.now wanted c.args.first c.part_end-end.result c.loop-place.left c.loop-place.place c.part_end-end.ensures.within.1
-    c.loop-place.invariant.losing (omega (arith, c.loop-place-test.false)) (omega (arith, c.if-first-left.true)) c.part_end-end.ensures.whole
-    (subst (λ (ms : List (List ℕ)). IsSubsequence wanted ms) (sym c.requires) sub)
-
-pub returns-then-is_told_no-clause-lost : goal.returns-then-is_told_no-clause-lost
-returns-then-is_told_no-clause-lost c = lost_after c.push.result _ _ _ _ _ _ LoseAck refl c.loop-place.invariant.lost c.push.ensures.pushed
+pub returns-else-is_told_no-clause-settled : goal.returns-else-is_told_no-clause-settled
+returns-else-is_told_no-clause-settled c = λ yes.
+    let i = c.loop-self.invariant in
+    let got = c.args.got.now in
+    let old = c.args.self.now.queue in
+    let r = c.loop-self.self.queue in
+    let end = c.part_end-end.result in
+    let wanted = take c.args.count (drop old.first got) in
+    let none = nil_from_length r.others (omega (arith, c.loop-self-test.false, c.len.ensures.length)) in
+    let s = settles_all got wanted old r end c.loop-self.left _ i.losing i.first none (omega (arith, c.if-left-max.false, c.max.ensures, i.first, i.known, i.losing.from)) c.part_end-end.ensures.whole in
+    subst (λ (told : Bool). Settles (state_of got old) (state_of got (record r { known = end })) wanted told) (sym c.if-is_told_no.false) s
