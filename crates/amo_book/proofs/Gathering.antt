@@ -1,5 +1,6 @@
 -- The charges of a book come back: an index of their sides tells whether all are there.
-use Rattle.std.proofs.Common.{◌≡◌, ℕ, ◌+◌, Bool, true, false, ⊎_elim, Some, None, List, length, slice_get, refl, sym, ap, ◌∙◌, subst, arith}
+use Rattle.std.proofs.Common.{◌≡◌, ◌≢◌, ℕ, zero, suc, ◌+◌, ◌<◌, ◌≤◌, Bool, true, false, ⊎_elim, Some, None, List, length, slice_get, get_or, set, replicate, refl, sym, ap, ◌∙◌, subst, arith, get_or-set_same, get_or-set_other}
+use Rattle.std.proofs.lemmas.List.{length-set}
 use Rattle.std.proofs.lemmas.Option.{slice_get_within, same_Some, none-some, some_pair_parts}
 use mathlib.Core.Logic.{dite}
 use native.Mathlib.Decide.{ℕ_discrete}
@@ -9,9 +10,10 @@ use Rattle.amo_world.specs.Stream.{IsStream}
 use Rattle.amo_book.specs.declared.index.Index.{Index}
 use Rattle.amo_book.specs.declared.site.Site.{Site}
 use Rattle.amo_book.specs.Book.{Apart, Each}
+use Rattle.amo_book.specs.Pass.{PassState}
 use Rattle.amo_book.specs.Charge.{ChargeState, IsChargeOf}
-use Rattle.amo_book.specs.Closed.{HasCharge, AllCharges}
-use Rattle.amo_book.specs.Gathering.{AreAt, Covers}
+use Rattle.amo_book.specs.Closed.{HasCharge, AllPasses, AllCharges}
+use Rattle.amo_book.specs.Gathering.{AreAt, Covers, Marks}
 use Rattle.amo_book.specs.Index.{place_of, Adds}
 use Rattle.amo_book.proofs.Indexing.{same_key}
 use Rattle.amo_book.proofs.Gathers.{each-at}
@@ -83,6 +85,49 @@ lacks sides charges index place side stream own covers at none all =
     let e = some_pair_parts side c.side stream c.stream (sym at ∙ (ap (slice_get sides) (sym h.3) ∙ own h.0 c h.2)) in
     let f = covers.found h.0 c (slice_get_within charges h.0 c h.2) h.2 in
     none-some f.0 (sym none ∙ ((λ i. place_of index (e.0 i) (e.1 i)) ∙ f.1))
+
+-- no number is marked at first
+pub marks_none : (passes : List PassState) (marks : List Bool) → marks ≡ replicate 64 false → Marks passes 0 marks
+marks_none passes marks none = record {
+  kept = λ number is. absurd (clear 64 number (sym (ap (λ (l : List Bool). get_or l number false) none) ∙ is));
+  found = λ j p lt at small. absurd (omega arith);
+}
+  where
+    clear : (n k : ℕ) → get_or (replicate n false) k false ≡ true → ⊥
+    clear zero k e = cc
+    clear (suc n) zero e = cc
+    clear (suc n) (suc k) e = clear n k e
+
+-- one pass more
+pub marks_more : (passes : List PassState) (n : ℕ) (old new : List Bool) (c : PassState) → slice_get passes n ≡ Some c
+    → new ≡ set old c.number true → Marks passes n old → Marks passes (n + 1) new
+marks_more passes n old new c at is before = record {
+  kept = λ number marked. dite (ℕ_discrete number c.number)
+      (λ same. (n, c, at, sym same))
+      (λ other. before.kept number (sym (get_or-set_other old c.number number true false other) ∙ (sym (ap (λ (l : List Bool). get_or l number false) is) ∙ marked)));
+  found = λ j d lt here small. dite (ℕ_discrete d.number c.number)
+      (λ same. let long = ap (λ (l : List Bool). length l) is in let kept = length-set old c.number true in
+      ap (λ (l : List Bool). get_or l d.number false) is ∙ (ap (λ k. get_or (set old c.number true) k false) same ∙ get_or-set_same old c.number true false (omega arith)))
+      (λ other. let long = ap (λ (l : List Bool). length l) is in let kept = length-set old c.number true in
+      ap (λ (l : List Bool). get_or l d.number false) is ∙ (get_or-set_other old c.number d.number true false other
+      ∙ before.found j d (earlier j d lt here other) here (omega arith)));
+}
+  where
+    earlier : (j : ℕ) (d : PassState) → j < n + 1 → slice_get passes j ≡ Some d → d.number ≢ c.number → j < n
+    earlier j d lt here other = dite (ℕ_discrete j n)
+        (λ same. let e : d ≡ c = same_Some d c (sym here ∙ (ap (slice_get passes) same ∙ at)) in absurd (other (ap (λ (z : PassState). z.number) e)))
+        (λ ne. omega arith)
+
+-- a number that is not marked has no pass
+pub unmarked : (passes : List PassState) (marks : List Bool) (number count : ℕ) → Marks passes (length passes) marks → number < count → count ≤ length marks
+    → get_or marks number false ≡ false → AllPasses passes count → ⊥
+unmarked passes marks number count marked lt small not all =
+    let h = all number lt in
+    let there = h.3 in
+    let below : h.1.number < length marks = omega arith in
+    let yes : get_or marks number false ≡ true =
+    ap (λ k. get_or marks k false) (sym there) ∙ marked.found h.0 h.1 (slice_get_within passes h.0 h.1 h.2) h.2 below in
+    cc
 
 -- the charges of a book stand at their places
 pub are_at : (id : TableId) (sides : List (End × ℕ)) (charges : List ChargeState) → Each (IsChargeOf id sides) charges → AreAt sides charges

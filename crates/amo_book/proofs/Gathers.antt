@@ -14,12 +14,11 @@ use Rattle.amo_book.specs.Pass.{PassState, Serves, mine}
 use Rattle.amo_book.specs.Charge.{ChargeState, IsChargeOf}
 use Rattle.amo_book.specs.Rule.{Has, HasAll, side_at}
 use Rattle.amo_book.specs.Plays.{Sat, Looks, joined}
-use Rattle.amo_book.specs.Steps.{IsPass}
+use Rattle.amo_book.specs.Steps.{IsPass, pass_of}
 use Rattle.amo_book.specs.Book.{BookState, Each, AreFirstCharges, first_charge}
 use Rattle.amo_book.specs.Closed.{AllPasses, StandsIn, Closes}
 use Rattle.amo_book.specs.Gathering.{HasTaken, Ends}
 use Rattle.amo_book.proofs.Fills.{each-from}
-use Rattle.amo_book.proofs.Runs.{pass_of}
 use Rattle.amo_book.proofs.Sharing.{has-left, has-right}
 
 -- a right history serves its streams, where it is honest and fresh

@@ -18,7 +18,7 @@ use Rattle.amo_book.specs.Charge.{ChargeState}
 use Rattle.amo_book.specs.Drive.{Driven}
 use Rattle.amo_book.specs.Rule.{Slot, share, Has}
 use Rattle.amo_book.specs.Plays.{Sat, IsAtRest, view, taken, Counts, Looks, witness, joined}
-use Rattle.amo_book.specs.Steps.{IsPass, Made, holding, released}
+use Rattle.amo_book.specs.Steps.{IsPass, Made, pass_of, holding, released}
 use Rattle.amo_book.proofs.Histories.{emission-row, automaton-here}
 use Rattle.amo_book.proofs.Seats.{held_at}
 
@@ -78,9 +78,6 @@ counted_once p k x e position m₀ m₁ m₂ pass held counts =
             },
           ),
     )
-
-abbrev pub pass_of : TableId → ℕ → Sat → PassState
-pass_of id p m = record { book = id; number = p; seen = m.0.seen }
 
 -- what the pass has made
 pub grown_by : (id id' : TableId) (p : ℕ) (m n : Sat) (e : Event) (x : Automaton) (position : ℕ) → id' ≡ id → Made p m n e x position

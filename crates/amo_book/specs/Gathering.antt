@@ -1,5 +1,5 @@
 -- How passes and charges come back, and what the table then tells.
-use Rattle.std.specs.Prelude.{◌≡◌, ℕ, ◌%◌, ◌^◌, ◌<◌, List, length, map, Some, slice_get}
+use Rattle.std.specs.Prelude.{◌≡◌, ℕ, ◌%◌, ◌^◌, ◌<◌, Bool, true, false, List, length, map, Some, slice_get, get_or}
 use Rattle.amo_object.specs.declared.step.End.{End}
 use Rattle.amo_core.specs.declared.automaton.Automaton.{Automaton}
 use Rattle.amo_world.specs.declared.event.Event.{Event}
@@ -8,6 +8,7 @@ use Rattle.amo_book.specs.declared.index.Index.{Index}
 use Rattle.amo_book.specs.declared.view.View.{View}
 use Rattle.amo_book.specs.Pass.{PassState, mine, automaton_after}
 use Rattle.amo_book.specs.Charge.{ChargeState}
+use Rattle.amo_book.specs.Closed.{HasPass}
 use Rattle.amo_book.specs.Index.{place_of}
 use Rattle.amo_book.specs.Rule.{AllBelow, Has}
 
@@ -20,6 +21,11 @@ pub record Covers (charges : List ChargeState) (n : ℕ) (index : Index) : Type 
   pub kept : (side : End) (stream place : ℕ) → place_of index side stream ≡ Some place
       → (j : ℕ) × (c : ChargeState) × (slice_get charges j ≡ Some c) × (c.place ≡ place) × (c.side ≡ side) × (c.stream ≡ stream)
   pub found : (j : ℕ) (c : ChargeState) → j < n → slice_get charges j ≡ Some c → (place : ℕ) × (place_of index c.side c.stream ≡ Some place)
+
+-- the marks tell which numbers the first n passes have
+pub record Marks (passes : List PassState) (n : ℕ) (marks : List Bool) : Type 0 where
+  pub kept : (number : ℕ) → get_or marks number false ≡ true → HasPass passes number
+  pub found : (j : ℕ) (p : PassState) → j < n → slice_get passes j ≡ Some p → p.number < length marks → get_or marks p.number false ≡ true
 
 -- the view has the pass's share, and has seen what it had seen
 abbrev pub HasTaken : View → PassState → Type 0

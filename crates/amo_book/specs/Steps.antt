@@ -1,12 +1,13 @@
 -- The seat of a pass through one call.
 use Rattle.std.specs.Prelude.{◌≡◌, ℕ, ◌+◌, ◌%◌, ◌^◌, List, [], ◌∷◌, length, Some, None}
+use Rattle.atomic_table.specs.Seated.{TableId}
 use Rattle.atomic_table.specs.declared.shared.Seat.{Seat}
 use Rattle.amo_object.specs.declared.step.End.{End}
 use Rattle.amo_core.specs.declared.automaton.Automaton.{Automaton}
 use Rattle.amo_world.specs.declared.event.Event.{Event}
 use Rattle.amo_world.specs.History.{IsRight, Extends, events_of}
 use Rattle.amo_book.specs.declared.view.View.{View}
-use Rattle.amo_book.specs.Pass.{automaton_after}
+use Rattle.amo_book.specs.Pass.{PassState, automaton_after}
 use Rattle.amo_book.specs.Rule.{Slot, share}
 use Rattle.amo_book.specs.Plays.{Sat, view}
 
@@ -20,6 +21,10 @@ pub record IsPass (p : ℕ) (m : Sat) : Type 0 where
   pub held : m.0.held ≡ None
   pub own : m.0.shares ≡ share p (events_of p m.0.seen) ∷ []
   pub right : IsRight m.0.seen
+
+-- what contracts see of the pass p, whose seat this is
+abbrev pub pass_of : TableId → ℕ → Sat → PassState
+pass_of id p m = record { book = id; number = p; seen = m.0.seen }
 
 -- the seat holds the side at the place k, whose state x was moved out of its slot
 abbrev pub holding : ℕ → Automaton → Sat → Sat

@@ -14,8 +14,11 @@ use amo_object::End;
 use std::alloc::Global;
 use std::marker::Model;
 
-/// The fewest and the most passes of a book.
-const PASSES: (usize, usize) = (2, 64);
+/// The fewest passes of a book.
+const MIN_PASSES: usize = 2;
+
+/// The most passes of a book.
+pub(crate) const MAX_PASSES: usize = 64;
 
 /// The object that threads share. Contracts see its own name, its sides, and how many passes it has.
 #[derive(Drop)]
@@ -36,7 +39,7 @@ impl Model for Book {
     ghost use Rattle.std.specs.Prelude.{◌≡◌, ◌<◌, ◌≤◌, [], length, vec_capacity};
     ghost use Rattle.amo_book.specs.Index.{IsIndex};
 
-    ghost invariant = { λ b. IsIndex b.board.setup.sides.items b.index × (b.room.items ≡ []) × (length b.board.setup.sides.items ≤ vec_capacity b.room) × (0 < b.board.setup.passes) };
+    ghost invariant = { λ b. IsIndex b.board.setup.sides.items b.index × (b.room.items ≡ []) × (length b.board.setup.sides.items ≤ vec_capacity b.room) × (0 < b.board.setup.passes) × (b.board.setup.passes ≤ 64) };
 }
 
 impl Book {
@@ -50,7 +53,7 @@ impl Book {
         ensures opened { IfOk result (λ t. IsLawful sides.items passes × Opens sides.items passes t.0 t.1.items t.2.items) }
         ensures limits { IsErrOf result OpenFault.Limits ↔ (IsLawful sides.items passes → ⊥) }
     {
-        if passes < PASSES.0 || passes > PASSES.1 {
+        if passes < MIN_PASSES || passes > MAX_PASSES {
             return Err(OpenFault::Limits);
         }
         let Some(index) = Index::of(sides.as_slice()) else {

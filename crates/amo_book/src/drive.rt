@@ -1,20 +1,23 @@
 //! The acts of hosts: each drives the side of a charge.
-ghost use Rattle.std.specs.Prelude.{◌≡◌, Some, None, IfOk, IfErr, IsErrOf};
+ghost use Rattle.std.specs.Prelude.{◌≡◌, ℕ, List, Some, None, IfOk, IfErr, IsErrOf};
 ghost use Rattle.amo_object.specs.declared.step.End.TheVariants as end_of;
 ghost use Rattle.amo_packet.specs.Packet.{packet_of, body_of};
 ghost use Rattle.amo_packet.specs.Grammar.{CanBeWritten, CarriesNoBytes};
 ghost use Rattle.amo_core.specs.declared.act.Act.TheVariants as act;
 ghost use Rattle.amo_core.specs.declared.reply.Reply.TheVariants as reply;
 ghost use Rattle.amo_core.specs.declared.automaton.Automaton.{Automaton};
-ghost use Rattle.amo_core.specs.Automaton.{row};
+ghost use Rattle.amo_core.specs.Automaton.{row, mode_of, Writes};
 ghost use Rattle.amo_world.specs.History.{IsRight};
 ghost use Rattle.amo_book.specs.Charge.{IsChargeOf};
-ghost use Rattle.amo_book.specs.Steps.{IsStateOf};
+ghost use Rattle.amo_book.specs.Plays.{Sat};
+ghost use Rattle.amo_book.specs.Steps.{IsSame, IsPass, IsStateOf, holding, pass_of};
 ghost use Rattle.amo_book.specs.Drive.{Driven, DrivenSilently, Unchanged};
 
+use crate::board::Chair;
+use crate::slot::Housed;
 use crate::{Book, Charge, DriveFault, Pass};
 use amo_core::{Act, Mode, Outcome, Reply};
-use amo_packet::{MAX_PACKET, MessageFault, Packet};
+use amo_packet::{MAX_PACKET, Packet};
 use std::alloc::Global;
 use std::snapshot::Snapshot;
 
@@ -85,10 +88,8 @@ impl Book {
         ensures memory { IsErrOf result DriveFault.NoMemory → ¬ (CarriesNoBytes (body_of packet.now.body)) }
     {
         pass.right();
-        let owned = match packet.to_owned(alloc) {
-            Ok(owned) => owned,
-            Err(MessageFault::NoMemory) => return Err(DriveFault::NoMemory),
-            Err(MessageFault::TooLong) => unreachable!(),
+        let Ok(owned) = packet.copied(alloc) else {
+            return Err(DriveFault::NoMemory);
         };
         self.drive(pass, charge, Act::Deliver(owned, word), out)
     }
@@ -130,27 +131,13 @@ impl Book {
         ensures busy { IfErr result (λ fault. (fault ≡ DriveFault.Busy) × Unchanged pass.old pass.new charge.old charge.new out.old out.new) }
     {
         let number = pass.number;
-        let site = charge.site;
-        let Some(mut automaton) = self.board.take_as_held(&mut pass.seat, site, charge.mode) else {
+        let seat = &mut pass.seat;
+        let Some(mut automaton) = self.board.take_as_held(seat, charge.site, charge.mode) else {
             return Err(DriveFault::Busy);
         };
         let told = Snapshot::of(&act);
         let Outcome { length, .. } = automaton.step(act, out);
-        let mode = automaton.mode();
-        let position = self.board.settle(
-            &mut pass.seat,
-            number,
-            site,
-            &told,
-            &Reply::Done,
-            automaton,
-        );
-        charge.mode = mode;
-        Ok(Done {
-            position,
-            length,
-            mode,
-        })
+        Ok(self.finish(number, seat, charge, &told, automaton, length))
     }
 
     /// The same for an act that emits nothing.
@@ -168,26 +155,45 @@ impl Book {
         ensures busy { IfErr result (λ fault. (fault ≡ DriveFault.Busy) × (pass.new ≡ pass.old) × (charge.new ≡ charge.old)) }
     {
         let number = pass.number;
-        let site = charge.site;
-        let Some(mut automaton) = self.board.take_as_held(&mut pass.seat, site, charge.mode) else {
+        let seat = &mut pass.seat;
+        let Some(mut automaton) = self.board.take_as_held(seat, charge.site, charge.mode) else {
             return Err(DriveFault::Busy);
         };
         let told = Snapshot::of(&act);
         automaton.advance(act);
+        Ok(self.finish(number, seat, charge, &told, automaton, None))
+    }
+
+    /// Makes the event of an act that the automaton has done, gives it home, and leaves the charge its mode.
+    fn finish(
+        &self,
+        number: usize,
+        seat: &mut Chair,
+        charge: &mut Charge,
+        act: &Snapshot<Act>,
+        automaton: Housed,
+        length: Option<usize>,
+    ) -> Done
+        requires own { (seat.old.table_id ≡ self.now.id) × IsChargeOf self.now.id self.now.sides charge.old }
+        requires held { (x : Automaton) × (m : Sat) × IsPass number m × (seat.old.me ≡ holding charge.old.place x m)
+            × (automaton ≡ (row x act.now.value).state) × ((row x act.now.value).reply ≡ Some reply.Done) }
+        ensures same { IsSame seat.old seat.new }
+        ensures rests { IsPass number seat.new.me }
+        ensures length { result.length ≡ length }
+        ensures driven { (x : Automaton) (m : Sat) (old new : List ℕ) → IsPass number m → seat.old.me ≡ holding charge.old.place x m
+            → automaton ≡ (row x act.now.value).state → Writes (row x act.now.value).emitted old new length
+            → (charge.old.side ≡ end_of.Sender → mode_of x ≡ charge.old.mode)
+            → Driven (pass_of seat.old.table_id number m) (pass_of seat.new.table_id number seat.new.me) charge.old charge.new act.now.value old new result }
+    {
         let mode = automaton.mode();
-        let position = self.board.settle(
-            &mut pass.seat,
-            number,
-            site,
-            &told,
-            &Reply::Done,
-            automaton,
-        );
+        let position = self
+            .board
+            .settle(seat, number, charge.site, act, &Reply::Done, automaton);
         charge.mode = mode;
-        Ok(Done {
+        Done {
             position,
-            length: None,
+            length,
             mode,
-        })
+        }
     }
 }

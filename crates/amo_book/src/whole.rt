@@ -1,22 +1,47 @@
 //! Whether all passes and charges of a book are there.
-ghost use Rattle.std.specs.Prelude.{◌↔◌, length, IsTrue};
+ghost use Rattle.std.specs.Prelude.{◌≡◌, ◌↔◌, ◌≤◌, true, length, set, IsTrue};
 ghost use Rattle.amo_book.specs.Book.{Apart};
-ghost use Rattle.amo_book.specs.Closed.{HasPass, AllPasses, AllCharges};
-ghost use Rattle.amo_book.specs.Gathering.{AreAt, Covers};
+ghost use Rattle.amo_book.specs.Closed.{AllPasses, AllCharges};
+ghost use Rattle.amo_book.specs.Gathering.{AreAt, Covers, Marks};
 
+use crate::book::MAX_PASSES;
 use crate::index::{Index, site_at};
 use crate::{Charge, Pass};
 use amo_object::End;
 
-fn has_pass(passes: &[Pass], number: usize) -> bool
-    ensures { IsTrue result ↔ HasPass passes.now number }
+/// Marks a number, if a pass may have it.
+#[tactic(auto, using(std::proofs::lemmas::List::set_past))]
+fn mark(marks: &mut [bool; MAX_PASSES], number: usize)
+    ensures { marks.new ≡ set marks.old number true }
 {
+    if number < MAX_PASSES {
+        marks[number] = true;
+    }
+}
+
+/// Which numbers these passes have.
+fn numbers_of(passes: &[Pass]) -> [bool; MAX_PASSES]
+    ensures { Marks passes.now (length passes.now) result }
+{
+    let mut marks = [false; MAX_PASSES];
     for pass in passes {
-        if pass.number() == number {
-            return true;
+        mark(&mut marks, pass.number());
+    }
+    marks
+}
+
+#[tactic(auto, using(crate::proofs::Gathering::unmarked))]
+fn are_all_passes(passes: &[Pass], count: usize) -> bool
+    requires { count ≤ 64 }
+    ensures { IsTrue result ↔ AllPasses passes.now count }
+{
+    let marks = numbers_of(passes);
+    for number in 0..count {
+        if !marks[number] {
+            return false;
         }
     }
-    false
+    true
 }
 
 /// An index of the sides of these charges.
@@ -29,17 +54,6 @@ fn sides_of(charges: &[Charge]) -> Index
         index.add(charge.site());
     }
     index
-}
-
-fn are_all_passes(passes: &[Pass], count: usize) -> bool
-    ensures { IsTrue result ↔ AllPasses passes.now count }
-{
-    for number in 0..count {
-        if !has_pass(passes, number) {
-            return false;
-        }
-    }
-    true
 }
 
 /// Whether the charges have each place of these sides, which are theirs.
@@ -61,6 +75,7 @@ fn are_all_charges(charges: &[Charge], sides: &[(End, u32)]) -> bool
 
 /// Whether the passes have each number below `numbers`, and the charges each place of these sides, which are theirs.
 pub fn are_all(passes: &[Pass], numbers: usize, charges: &[Charge], sides: &[(End, u32)]) -> bool
+    requires numbers { numbers ≤ 64 }
     requires own { AreAt sides.now charges.now }
     requires apart { Apart sides.now }
     ensures { IsTrue result ↔ AllPasses passes.now numbers × AllCharges charges.now (length sides.now) }

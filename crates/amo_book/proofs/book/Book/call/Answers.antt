@@ -1,7 +1,8 @@
 use Rattle.std.proofs.Common.{◌∙◌, subst}
 use Rattle.amo_core.specs.declared.act.Act.{Act}
 use Rattle.amo_book.specs.Pass.{PassState, GrownBy, event}
-use Rattle.amo_book.proofs.Runs.{pass_of, grown_by}
+use Rattle.amo_book.specs.Steps.{pass_of}
+use Rattle.amo_book.proofs.Runs.{grown_by}
 use Rattle.amo_book.proofs.book.Book.call.Goals as goal
 
 pub unreachable-requires : goal.unreachable-requires

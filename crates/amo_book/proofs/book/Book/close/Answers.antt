@@ -21,6 +21,9 @@ are_all-requires-clause-own c = subst (λ (z : List (End × ℕ) × List ChargeS
 pub are_all-requires-clause-apart : goal.are_all-requires-clause-apart
 are_all-requires-clause-apart c = subst Apart (sym c.as_slice-sides.ensures.value) c.self.inside.board.apart
 
+pub are_all-requires-clause-numbers : goal.are_all-requires-clause-numbers
+are_all-requires-clause-numbers c = c.self.invariant.4
+
 pub returns-then-not-are_all-clause-missing : goal.returns-then-not-are_all-clause-missing
 returns-then-not-are_all-clause-missing c = (
   (λ whole. let places = ap (λ (l : List (End × ℕ)). length l) c.as_slice-sides.ensures.value in

@@ -1,44 +1,53 @@
-use Rattle.std.proofs.Common.{◌≡◌, ◌∙◌, Option, Some, None, [], slice_get, refl, sym, ap, subst}
+use Rattle.std.proofs.Common.{◌≡◌, Option, Some, None, [], refl, sym, ap, ◌∙◌, subst}
+use Rattle.atomic_table.specs.Seated.{TableId}
+use Rattle.amo_object.specs.declared.step.End.TheVariants.{Sender}
 use Rattle.amo_packet.specs.declared.packet.OwnedPacket.{OwnedPacket}
 use Rattle.amo_core.specs.declared.act.Act.{Act}
 use Rattle.amo_core.specs.declared.reply.Reply.TheVariants as reply
 use Rattle.amo_core.specs.Automaton.{row, mode_of, Writes}
-use Rattle.amo_book.specs.Pass.{PassState, event}
+use Rattle.amo_book.specs.Pass.{PassState}
 use Rattle.amo_book.specs.Charge.{ChargeState}
-use Rattle.amo_book.specs.Book.{BookState}
 use Rattle.amo_book.specs.Drive.{Driven}
-use Rattle.amo_book.specs.Steps.{Made}
-use Rattle.amo_book.proofs.Runs.{pass_of, charge_of, driven_by}
+use Rattle.amo_book.specs.Steps.{IsStateOf, holding, pass_of}
 use Rattle.amo_book.proofs.book.Book.drive_silently.Goals as goal
 
-pub settle-position-requires-clause-place : goal.settle-position-requires-clause-place
-settle-position-requires-clause-place c =
-    subst (λ (z : BookState × ChargeState). slice_get z.0.sides z.1.place ≡ Some (z.1.side, z.1.stream)) (λ i. (sym c.self.view_is i, sym c.charge.view_is i))
-    c.requires.book.1.1
+pub finish-requires-clause-own : goal.finish-requires-clause-own
+finish-requires-clause-own c =
+    (c.take_as_held.ensures.same.0 ∙ (ap (λ (v : PassState). v.book) c.pass.view_is ∙ c.requires.book.0), c.requires.book.1)
+
+pub finish-requires-clause-held : goal.finish-requires-clause-held
+finish-requires-clause-held c =
+    let x = c.in-Some.automaton in
+    let m = c.pass.inside.seat.me in
+    let taken = c.in-Some.ensures.taken in
+    let told = sym c.of-told.ensures in (
+      x,
+      m,
+      c.pass.invariant,
+      subst (λ (z : ChargeState). c.take_as_held.new.seat.me ≡ holding z.place x m) c.charge.view_is taken.0,
+      subst (λ (a : Act). c.advance.new.self ≡ (row x a).state) told c.advance.ensures.state,
+      subst (λ (a : Act). (row x a).reply ≡ Some reply.Done) told
+          (c.requires.known x (subst (λ (z : ChargeState). IsStateOf z.side z.stream x) c.charge.view_is taken.1)),
+    )
 
 pub returns-clause-driven : goal.returns-clause-driven
 returns-clause-driven c =
-    let taken = c.in-Some.ensures.taken in
     let p = c.pass.inside in
-    let h = c.charge.inside in
-    let made = c.settle-position.ensures.made c.in-Some.automaton p.seat.me c.pass.invariant taken.0 in
-    let made' : Made p.number p.seat.me c.settle-position.new.seat.me (event p.number h.site.side h.site.stream c.args.act reply.Done) c.in-Some.automaton c.settle-position.result =
-    subst (λ (a : Act). Made p.number p.seat.me c.settle-position.new.seat.me (event p.number h.site.side h.site.stream a reply.Done) c.in-Some.automaton c.settle-position.result)
-    c.of-told.ensures made in
-    let now : PassState = pass_of c.settle-position.new.seat.table_id p.number c.settle-position.new.seat.me in
-    let then : ChargeState = charge_of h.seat.table_id h.site.place h.site.side h.site.stream c.mode-mode.result in
-    let silent : (row c.in-Some.automaton c.args.act).emitted ≡ None = c.requires.silent c.in-Some.automaton in (
-      refl,
+    let x = c.in-Some.automaton in
+    let now : PassState = pass_of c.finish.new.seat.table_id p.number c.finish.new.seat.me in
+    let told = sym c.of-told.ensures in
+    let silent = subst (λ (a : Act). (row x a).emitted ≡ None) told (c.requires.silent x) in (
+      c.finish.ensures.length,
       (
         [],
         [],
-        subst (λ (z : PassState × ChargeState). Driven z.0 now z.1 then c.args.act [] []
-            (record { position = c.settle-position.result; length = None; mode = c.mode-mode.result }))
-            (λ i. (c.pass.view_is i, c.charge.view_is i))
-            (driven_by _ _ p.number p.seat.me c.settle-position.new.seat.me h.seat.table_id h.site.place h.site.side h.site.stream h.mode c.mode-mode.result c.args.act
-            c.in-Some.automaton c.settle-position.result [] [] None
-            (c.settle-position.ensures.same.0 ∙ c.take_as_held.ensures.same.0) made' (subst (λ (o : Option OwnedPacket). Writes o [] [] None) (sym silent) (refl, refl))
-            (c.mode-mode.ensures ∙ ap mode_of c.advance.ensures.state)
-            c.in-Some.ensures.held),
+        subst (λ (v : PassState). Driven v now c.args.charge.now c.finish.new.charge c.args.act [] [] c.finish.result) c.pass.view_is
+            (subst (λ (z : TableId × Act). Driven (pass_of z.0 p.number p.seat.me) now c.args.charge.now c.finish.new.charge z.1 [] [] c.finish.result)
+            (λ i. (c.take_as_held.ensures.same.0 i, c.of-told.ensures i))
+            (c.finish.ensures.driven x p.seat.me [] [] c.pass.invariant
+            (subst (λ (z : ChargeState). c.take_as_held.new.seat.me ≡ holding z.place x p.seat.me) c.charge.view_is c.in-Some.ensures.taken.0)
+            (subst (λ (a : Act). c.advance.new.self ≡ (row x a).state) told c.advance.ensures.state)
+            (subst (λ (o : Option OwnedPacket). Writes o [] [] None) (sym silent) (refl, refl))
+            (subst (λ (z : ChargeState). z.side ≡ Sender → mode_of x ≡ z.mode) c.charge.view_is c.in-Some.ensures.held))),
       ),
     )

@@ -13,8 +13,8 @@ returns-clause-opened c =
     let e = c.in-Ok-open.ensures.0 in
     let sides : c.in-Ok-open.board.setup.sides.items ≡ c.args.sides.items = ap (λ (s : Setup). s.sides.items) e in
     let passes : c.in-Ok-open.board.setup.passes ≡ c.args.passes = ap (λ (s : Setup). s.passes) e in
-    let low = c.if-passes.false in
-    let high = c.if-passes-2.false in
+    let low = c.if-passes-lt-MIN_PASSES.false in
+    let high = c.if-passes-gt-MAX_PASSES.false in
     let numbered : Lists (first_pass id) c.args.passes c.deal_passes.new.passes.items =
     subst (λ (n : ℕ). Lists (first_pass id) n c.deal_passes.new.passes.items) passes c.deal_passes.ensures.dealt in (
       record {
