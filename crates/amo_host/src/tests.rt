@@ -15,13 +15,17 @@ use amo_word::FixedWords;
 use std::alloc::Global;
 use std::test::Fail;
 
+mod adversary;
 mod allocations;
 mod division;
 mod hostile;
+mod noted;
+mod pair;
 mod threads;
 mod told;
 mod turns;
 mod window;
+mod wire;
 
 /// A book of these sides, with its passes and charges.
 #[tactic(auto, using(crate::proofs::ChargeLemmas::opened_rest))]

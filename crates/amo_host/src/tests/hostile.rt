@@ -206,10 +206,10 @@ fn cut_and_long_datagrams(rt: HostRuntime) -> Result<(), Fail> {
 
 /// Numbers that look random, the same ones from the same seed.
 #[derive(Drop)]
-struct Dice(u64);
+pub struct Dice(pub u64);
 
 impl Dice {
-    fn roll(&mut self) -> u64 {
+    pub fn roll(&mut self) -> u64 {
         let mut number = self.0;
         number ^= number << 13;
         number ^= number >> 7;

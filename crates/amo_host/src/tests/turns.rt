@@ -1,178 +1,125 @@
-//! A round of two hosts.
-ghost use Rattle.std.specs.Prelude.{◌≡◌, IfOk};
-ghost use Rattle.amo_book.specs.Book.{Each};
-ghost use Rattle.amo_book.specs.Charge.{IsChargeOf};
-ghost use Rattle.amo_book.specs.Closed.{IsOf};
-ghost use Rattle.amo_host.specs.Charges.{IsAtRest};
-ghost use Rattle.amo_host.specs.Station.{BelongTogether};
-
+//! Whole handshakes of two hosts.
+use super::pair::Pair;
 use super::*;
 use std::process::Abort;
 
-/// A sender's and a receiver's host of stream 1.
-#[derive(Drop)]
-struct Pair {
-    sender: Driver,
-    receiver: Driver,
-}
+/// What a turn is to answer: at this moment and side, with the oldest datagram or without input.
+type Row = (u64, End, Option<usize>, Kind, Option<usize>, Mode);
 
-/// A pump and its pass, how many turns it made, and what it emitted last.
-#[derive(Drop)]
-struct Driver {
-    pump: Pump<FixedWords>,
-    pass: Pass,
-    turns: u64,
-    out: [u8; MAX_PACKET],
-}
-
-/// What a turn is to answer: at this side, with this many bytes of what the other emitted last, or without input.
-type Row = (End, Option<usize>, Kind, Option<usize>, Mode);
-
-impl Driver {
-    /// A turn that makes an event. Its moment is the number of turns before it.
-    fn turn(&mut self, book: &Book, input: Option<&[u8]>) -> Result<(Kind, Done), Fail>
-        requires { BelongTogether book.now self.old.pass self.old.pump }
-        ensures { BelongTogether book.now self.new.pass self.new.pump }
-    {
-        let now = self.turns;
-        self.turns = now.saturating_add(1);
-        event(
-            &mut self.pump,
-            book,
-            &mut self.pass,
-            now,
-            input,
-            &mut self.out,
-        )
+/// Makes these turns, each of which makes the next event.
+fn follow(rt: &impl Abort, pair: &mut Pair<FixedWords>, rows: &[Row]) -> Result<(), Fail> {
+    for (moment, side, place, kind, length, mode) in rows {
+        pair.set_clock(*moment);
+        let done = Done {
+            position: pair.count() as u64,
+            length: *length,
+            mode: *mode,
+        };
+        let told = pair.step(*side, *place)?;
+        assert_eq!(rt; told, Turned::Did(*side, 1, *kind, done));
     }
+    Ok(())
 }
 
-impl Pair {
-    /// A turn at this side, with the front of what the other emitted last, or without input.
-    fn turn(&mut self, book: &Book, side: End, input: Option<usize>) -> Result<(Kind, Done), Fail>
-        requires { BelongTogether book.now self.old.sender.pass self.old.sender.pump × BelongTogether book.now self.old.receiver.pass self.old.receiver.pump }
-        ensures { BelongTogether book.now self.new.sender.pass self.new.sender.pump × BelongTogether book.now self.new.receiver.pass self.new.receiver.pump }
-    {
-        match side {
-            End::Sender => self.sender.turn(book, front_of(&self.receiver.out, input)?),
-            End::Receiver => self.receiver.turn(book, front_of(&self.sender.out, input)?),
-        }
-    }
-
-    /// Makes these turns, whose events stand from this place on in the history.
-    fn follow(&mut self, rt: &impl Abort, book: &Book, first: u64, rows: &[Row]) -> Result<(), Fail>
-        requires { BelongTogether book.now self.old.sender.pass self.old.sender.pump × BelongTogether book.now self.old.receiver.pass self.old.receiver.pump }
-        ensures { BelongTogether book.now self.new.sender.pass self.new.sender.pump × BelongTogether book.now self.new.receiver.pass self.new.receiver.pump }
-    {
-        let mut position = first;
-        for (side, input, kind, length, mode) in rows {
-            let done = Done {
-                position,
-                length: *length,
-                mode: *mode,
-            };
-            let told = self.turn(book, *side, *input)?;
-            assert_eq!(rt; told, (*kind, done));
-            position = position.wrapping_add(1);
-        }
-        Ok(())
-    }
+/// Sixteen words, from this one on.
+fn words_from(alloc: Global, first: u64) -> Result<FixedWords, Fail> {
+    let words = (0..16)
+        .map(|place| first.wrapping_add(place))
+        .collect::<Vec<u64>>(alloc)?;
+    Ok(FixedWords::new(words))
 }
 
-/// A book of stream 1, a client's pass, and two hosts, whose windows have room for one handshake. The sender has the words 1 and 2,
-/// the receiver 1001 and 1002.
-fn hosts(alloc: Global) -> Result<(Book, Pass, Pair), Fail>
-    ensures { IfOk result (λ t. (t.1.book ≡ t.0.id) × (BelongTogether t.0 t.2.sender.pass t.2.sender.pump × BelongTogether t.0 t.2.receiver.pass t.2.receiver.pump)) }
-{
-    let (book, mut passes, mut charges) = open(alloc, &[(End::Sender, 1), (End::Receiver, 1)], 3)?;
-    let client = last(&mut passes, &book).ok_or("a client's pass")?;
-    let receives = split(&mut charges, 1, &book)?;
-    let receiver = make_driver(alloc, &book, &mut passes, receives, &[1001, 1002])?;
-    let sender = make_driver(alloc, &book, &mut passes, charges, &[1, 2])?;
-    Ok((book, client, Pair { sender, receiver }))
+/// Two hosts of stream 1, whose windows have room for one handshake. The sender has the words 1, 2, .., the receiver 1001, 1002, ..
+fn hosts(alloc: Global) -> Result<Pair<FixedWords>, Fail> {
+    Pair::new(alloc, 1, 1, words_from(alloc, 1)?, words_from(alloc, 1001)?)
 }
 
-/// A pump of these charges with the last of the passes.
-fn make_driver(
-    alloc: Global,
-    book: &Book,
-    passes: &mut Vec<Pass>,
-    charges: Vec<Charge>,
-    words: &[u64],
-) -> Result<Driver, Fail>
-    requires passes { Each (IsOf book.now.id) passes.old.items }
-    requires charges { Each (IsChargeOf book.now.id book.now.sides) charges.items × Each IsAtRest charges.items }
-    ensures rest { Each (IsOf book.now.id) passes.new.items }
-    ensures own { IfOk result (λ d. BelongTogether book.now d.pass d.pump) }
-{
-    let pass = last(passes, book).ok_or("a pass")?;
-    let words = Vec::from_slice(alloc, words)?;
-    let pump = pump(charges, 1, words, alloc, book)?;
-    Ok(Driver {
-        pump,
-        pass,
-        turns: 0,
-        out: [0; MAX_PACKET],
-    })
+/// The turns from a start to the message's arrival. A moment is the number of turns that the host made before.
+const ASKING: [Row; 4] = [
+    (0, End::Sender, None, Kind::Start(1), Some(16), Mode::NeedId),
+    (
+        0,
+        End::Receiver,
+        Some(0),
+        Kind::Deliver(1001),
+        Some(24),
+        Mode::Accept,
+    ),
+    (
+        1,
+        End::Sender,
+        Some(0),
+        Kind::Deliver(0),
+        Some(22),
+        Mode::Send,
+    ),
+    (
+        1,
+        End::Receiver,
+        Some(0),
+        Kind::Deliver(0),
+        None,
+        Mode::Rcvd,
+    ),
+];
+
+/// The turns from a get to the end of the handshake.
+const ANSWERING: [Row; 3] = [
+    (2, End::Receiver, None, Kind::Resend, Some(17), Mode::Ack),
+    (
+        2,
+        End::Sender,
+        Some(0),
+        Kind::Deliver(0),
+        Some(16),
+        Mode::Quiet,
+    ),
+    (
+        3,
+        End::Receiver,
+        Some(0),
+        Kind::Deliver(0),
+        None,
+        Mode::Idle,
+    ),
+];
+
+/// A round: a put, four turns, a get, three turns, and a get_ack.
+fn go_round(rt: &impl Abort, pair: &mut Pair<FixedWords>) -> Result<(), Fail> {
+    pair.put(1, &[0, 0, 0, 0])?;
+    assert!(rt; pair.was_taken());
+    follow(rt, pair, &ASKING)?;
+    pair.get(1)?;
+    assert!(rt; pair.was_given(&[0, 0, 0, 0]));
+    follow(rt, pair, &ANSWERING)?;
+    pair.get_ack(1)?;
+    assert!(rt; pair.was_told_yes());
+    assert_eq!(rt; pair.count(), 10);
+    Ok(())
 }
 
 /// A message goes over in a round of turns. What one host emits is the other's next input.
 #[test]
 fn round(rt: HostRuntime) -> Result<(), Fail> {
-    let (book, mut client, mut pair) = hosts(rt.alloc())?;
-    put(rt.alloc(), &book, &mut client, 1, &[0, 0, 0, 0])?;
-    let asking = [
-        (End::Sender, None, Kind::Start(1), Some(16), Mode::NeedId),
-        (
-            End::Receiver,
-            Some(16),
-            Kind::Deliver(1001),
-            Some(24),
-            Mode::Accept,
-        ),
-        (
-            End::Sender,
-            Some(24),
-            Kind::Deliver(0),
-            Some(22),
-            Mode::Send,
-        ),
-        (End::Receiver, Some(22), Kind::Deliver(0), None, Mode::Rcvd),
-    ];
-    pair.follow(&rt, &book, 1, &asking)?;
-    assert!(rt; is_zeros(&book, &mut client));
-    let answering = [
-        (End::Receiver, None, Kind::Resend, Some(17), Mode::Ack),
-        (
-            End::Sender,
-            Some(17),
-            Kind::Deliver(0),
-            Some(16),
-            Mode::Quiet,
-        ),
-        (End::Receiver, Some(16), Kind::Deliver(0), None, Mode::Idle),
-    ];
-    pair.follow(&rt, &book, 6, &answering)?;
-    let known = book.get_ack(&mut client, 1);
-    assert!(rt; known == Ok((true, 9)));
+    let mut pair = hosts(rt.alloc())?;
+    go_round(&rt, &mut pair)
+}
+
+/// A message goes over, with no turn named.
+fn go_over(rt: &impl Abort, pair: &mut Pair<FixedWords>) -> Result<(), Fail> {
+    pair.put(1, b"hi")?;
+    pair.drive(5)?;
+    pair.get(1)?;
+    assert!(rt; pair.was_given(b"hi"));
+    pair.drive(5)?;
+    pair.get_ack(1)?;
+    assert!(rt; pair.was_told_yes());
     Ok(())
 }
 
-/// So many bytes at the front of a buffer, or no input.
-fn front_of(buffer: &[u8; MAX_PACKET], length: Option<usize>) -> Result<Option<&[u8]>, Fail> {
-    match length {
-        None => Ok(None),
-        Some(length) => Ok(Some(buffer.get(..length).ok_or("a length")?)),
-    }
-}
-
-/// Whether a get answers four bytes of zero, at position 5.
-fn is_zeros(book: &Book, pass: &mut Pass) -> bool
-    requires { pass.old.book ≡ book.now.id }
-    ensures { pass.new.book ≡ book.now.id }
-{
-    match book.get(pass, 1) {
-        Ok((message, position)) => message.bytes() == [0, 0, 0, 0].as_slice() && position == 5,
-        Err(_) => false,
-    }
+/// A message goes over where nobody says whose turn it is.
+#[test]
+fn nobody_writes_a_schedule(rt: HostRuntime) -> Result<(), Fail> {
+    let mut pair = hosts(rt.alloc())?;
+    go_over(&rt, &mut pair)
 }
