@@ -15,3 +15,5 @@ pub mod Places
 pub mod Judged
 pub mod Pieces
 pub mod Explained
+pub mod Together
+pub mod Marked

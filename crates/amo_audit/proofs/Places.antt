@@ -23,6 +23,9 @@ below_two : (a : End) → end_number a < 2
 below_two Sender = omega arith
 below_two Receiver = omega arith
 
+pub place_below : (e : Event) → IsStream e.stream → place_of e < 512
+place_below e known = let low = below_two e.side in omega (arith, low, known.0, known.1)
+
 pub same_side : (x y : Event) → IsStream x.stream → IsStream y.stream → place_of x ≡ place_of y → (x.stream ≡ y.stream) × (x.side ≡ y.side)
 same_side x y p q same =
     let low = below_two x.side in

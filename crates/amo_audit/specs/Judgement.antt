@@ -25,13 +25,17 @@ IsNoJournal bytes _ = ⊥
 abbrev pub OfBoth : List ℕ → List ℕ → (List Event → List Event → Type 0) → Type 0
 OfBoth first second Holds = (x : List Event) × (y : List Event) × IsJournal x first × IsJournal y second × Holds x y
 
+-- no side of a stream has events in both
+abbrev pub AreApart : List Event → List Event → Type 0
+AreApart x y = ¬ (SharesSide x y)
+
 -- of lists that share no side, the preferred interleaving is judged so
 abbrev pub MergeIsJudged : Verdict → List Event → List Event → Type 0
-MergeIsJudged v x y = (¬ (SharesSide x y)) × ((merged : List Event) × IsPreferred x y merged × JudgesEvents merged v)
+MergeIsJudged v x y = AreApart x y × ((merged : List Event) × IsPreferred x y merged × JudgesEvents merged v)
 
 -- of lists that share no side, no interleaving is honest
 abbrev pub CannotMerge : List Event → List Event → Type 0
-CannotMerge x y = (¬ (SharesSide x y)) × IsStuck x y
+CannotMerge x y = AreApart x y × IsStuck x y
 
 -- what is found of two; want of memory says nothing
 abbrev pub JudgesBoth : List ℕ → List ℕ → Judgement → Type 0

@@ -6,6 +6,8 @@ pub mod Audit
 pub mod Side
 pub mod Sides
 pub mod Hosts
+pub mod Coming
+pub mod Both
 pub mod Marks
 pub mod Merge
 pub mod MergeFault

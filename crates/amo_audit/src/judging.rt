@@ -3,14 +3,15 @@ ghost use Rattle.std.specs.Prelude.{IfOk, IfErr};
 ghost use Rattle.std.specs.List.{All};
 ghost use Rattle.amo_world.specs.Stream.{IsStream};
 ghost use Rattle.amo_audit.specs.Journal.{IsJournal};
-ghost use Rattle.amo_audit.specs.Audit.{JudgesEvents};
-ghost use Rattle.amo_audit.specs.Judgement.{IsNoJournal, JudgesBoth, JudgesFiles};
+ghost use Rattle.amo_audit.specs.Judgement.{AreApart, IsNoJournal, JudgesBoth, JudgesFiles, OfBoth};
 
-use crate::auditor::Auditor;
+use crate::both::Both;
+use crate::coming::Coming;
 use crate::judgement::Judgement;
-use crate::numbered::Numbered;
-use crate::{JournalFault, MergeFault, Verdict, audit, merge, read_journal};
-use amo_world::Event;
+use crate::marking::{mark_journal, meet};
+use crate::shares::SIDES;
+use crate::{JournalFault, Verdict, audit, read_journal};
+use amo_world::{Event, NoMemory};
 use std::alloc::Global;
 
 /// Judges a journal; or two, of which none has events of a side that the other has.
@@ -23,24 +24,46 @@ pub(crate) fn judge(alloc: Global, first: &[u8], second: Option<&[u8]>) -> Judge
     }
 }
 
-/// Reads two journals, merges their events and judges them.
+/// Judges two journals. Each is read twice: first it is seen that both are journals and have no side in common, then their events are
+/// merged and judged. So no list of events is kept.
 fn judge_both(alloc: Global, first: &[u8], second: &[u8]) -> Judgement
     ensures { JudgesBoth first.now second.now result }
 {
-    let first = match events_of(alloc, first) {
-        Ok(events) => events,
-        Err(verdict) => return Judgement::First(verdict),
-    };
-    let second = match events_of(alloc, second) {
-        Ok(events) => events,
-        Err(verdict) => return Judgement::Second(verdict),
-    };
-    match merge(alloc, &first, &second) {
-        Ok(merged) => Judgement::Whole(judge_events(alloc, merged)),
-        Err(MergeFault::NoMemory) => Judgement::Whole(Verdict::NoMemory),
-        Err(MergeFault::Shared) => Judgement::Shared,
-        Err(MergeFault::Stuck) => Judgement::Stuck,
+    let mut ours = [false; SIDES];
+    let mut theirs = [false; SIDES];
+    if let Err(verdict) = mark_journal(alloc, first, &mut ours) {
+        return Judgement::First(verdict);
     }
+    if let Err(verdict) = mark_journal(alloc, second, &mut theirs) {
+        return Judgement::Second(verdict);
+    }
+    if meet(&ours, &theirs) {
+        return Judgement::Shared;
+    }
+    match judge_merged(alloc, first, second) {
+        Ok(judgement) => judgement,
+        Err(NoMemory) => Judgement::Whole(Verdict::NoMemory),
+    }
+}
+
+/// Merges the events of two journals and judges them on the way.
+fn judge_merged(alloc: Global, first: &[u8], second: &[u8]) -> Result<Judgement, NoMemory>
+    requires { OfBoth first.now second.now AreApart }
+    ensures { IfOk result (JudgesBoth first.now second.now) }
+{
+    let mut both = Both::new(alloc)?;
+    let mut left = Coming::read(alloc, first)?;
+    let mut right = Coming::read(alloc, second)?;
+    while left.next.is_some() || right.next.is_some() {
+        if both.may_go(&left.next) {
+            left = both.take(alloc, left)?;
+        } else if both.may_go(&right.next) {
+            right = both.take(alloc, right)?;
+        } else {
+            return Ok(Judgement::Stuck);
+        }
+    }
+    Ok(Judgement::Whole(both.verdict()))
 }
 
 /// The events of a journal, or what is found of bytes that are none.
@@ -56,21 +79,4 @@ pub(crate) fn events_of(alloc: Global, bytes: &[u8]) -> Result<Vec<Event>, Verdi
         Err(JournalFault::NoMemory) => Err(Verdict::NoMemory),
         Err(JournalFault::Device) => unreachable!(),
     }
-}
-
-/// Judges events, in the order of time, as those of a journal are judged.
-fn judge_events(alloc: Global, events: Vec<Event>) -> Verdict
-    requires { All (λ e. IsStream e.stream) events.items }
-    ensures { JudgesEvents events.items result }
-{
-    let Ok(mut auditor) = Auditor::new(alloc) else {
-        return Verdict::NoMemory;
-    };
-    for event in events {
-        let number = auditor.lines() as u64;
-        let Ok(()) = auditor.take(Numbered { number, event }) else {
-            return Verdict::NoMemory;
-        };
-    }
-    auditor.verdict()
 }

@@ -19,7 +19,8 @@
 //! - [`laws`]: a journal is that of one list of events, and what is wrong with bytes is a matter of them alone; there is one
 //!   preferred interleaving, wherever any is honest.
 //!
-//! An audit keeps a world, which holds no event, and three numbers; it reads each line once and keeps no line.
+//! An audit keeps a world, which holds no event, and three numbers; it reads each line once and keeps no line. Of two journals it reads
+//! each line twice, and keeps one event of each, a world, and what a merge keeps of the sides.
 //!
 //! A merge reads each list twice, and keeps what it took and, of each side, its automaton and a set of what it emitted.
 //!
@@ -30,6 +31,8 @@
 mod act_reader;
 mod auditing;
 mod auditor;
+mod both;
+mod coming;
 #[cfg(test)]
 mod explain_tests;
 mod explaining;
@@ -39,6 +42,7 @@ mod judgement;
 mod judging;
 pub mod laws;
 mod line_reader;
+mod marking;
 mod merge_fault;
 #[cfg(test)]
 mod merge_tests;

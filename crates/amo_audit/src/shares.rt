@@ -10,13 +10,16 @@ ghost use Rattle.amo_audit.specs.Marks.{Marks};
 use amo_object::End;
 use amo_world::Event;
 
+/// How many sides the streams of a host have.
+pub(crate) const SIDES: usize = 512;
+
 /// Whether some side of a stream has events in both lists.
 pub(crate) fn shares_side(first: &[Event], second: &[Event]) -> bool
     requires first { All (λ e. IsStream e.stream) first.now }
     requires second { All (λ e. IsStream e.stream) second.now }
     ensures { IsTrue result ↔ SharesSide first.now second.now }
 {
-    let mut has = [false; 512];
+    let mut has = [false; SIDES];
     mark(&mut has, first);
     finds_marked(&has, second)
 }
@@ -49,7 +52,7 @@ fn finds_marked(has: &[bool], events: &[Event]) -> bool
 }
 
 /// The place of an event's side among all sides of all streams.
-fn place(event: &Event) -> usize
+pub(crate) fn place(event: &Event) -> usize
     requires { IsStream event.now.stream }
     ensures value { result ≡ place_of event.now }
     ensures small { result < 512 }

@@ -283,12 +283,12 @@ fn names_faults(rt: HostRuntime) -> Result<(), Fail> {
 
 /// A writer that takes one byte a call, and so many calls.
 #[derive(Drop)]
-struct Fragile {
+struct ShortWriter {
     text: Vec<u8>,
     calls: usize,
 }
 
-impl Write for Fragile {
+impl Write for ShortWriter {
     fn write(&mut self, bytes: &[u8]) -> io::Result<usize> {
         if self.calls == 0 {
             return Err(ErrorKind::Other.into());
@@ -316,11 +316,11 @@ fn begun<L: Ledger>(
     requires some { 0 < L.parts }
     requires spelt { All CanSpell events.now }
 {
-    let writer = Fragile {
+    let writer = ShortWriter {
         text: Vec::new(alloc),
         calls,
     };
-    let mut out = Out::<Fragile, L>::new(writer, blank);
+    let mut out = Out::<ShortWriter, L>::new(writer, blank);
     let outcome = write_journal(alloc, events, &mut out);
     (out.into_inner().text, outcome)
 }
