@@ -1,1 +1,9 @@
+pub mod Crew
+pub mod Engine
+pub mod Fault
+pub mod Parts
+pub mod Ran
+pub mod Settings
+pub mod Sides
 pub mod Told
+pub mod Whole

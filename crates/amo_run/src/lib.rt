@@ -1,11 +1,36 @@
 //! A whole run: two hosts whose pumps are at work on threads of their own, clients on others, and packets in between.
 //!
 //! - [`client`] is the body of a client's thread. It makes the calls of a [`Script`], and answers the events that they made.
+//! - [`run`] starts the pumps of two hosts and their clients, joins them all, and answers the whole history of what they did.
 #![tactic(auto)]
 
 mod calls;
+mod crew;
+mod engine;
+mod fault;
+mod home;
+mod host;
+mod opening;
+mod part;
+mod plan;
+mod ran;
+mod report;
 mod script;
+mod settings;
+mod source;
+#[cfg(test)]
+mod tests;
+mod threads;
+mod two_books;
+mod whole_run;
+mod wire;
+mod work;
+mod workload;
 
 pub use amo_world::NoMemory;
 pub use calls::client;
+pub use fault::RunFault;
+pub use ran::Ran;
 pub use script::{ClientCall, ClientReply, Script};
+pub use settings::{LinkKind, RunSettings};
+pub use whole_run::run;

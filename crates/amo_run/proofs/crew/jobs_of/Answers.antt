@@ -1,0 +1,69 @@
+use Rattle.std.proofs.Common.{List, length, map, sym, ap, ◌∙◌, subst, arith}
+use Rattle.amo_object.specs.declared.step.End.TheVariants.{Sender, Receiver}
+use Rattle.amo_book.specs.Book.{Each}
+use Rattle.amo_book.specs.Charge.{IsChargeOf}
+use Rattle.amo_book.specs.Closed.{AllCharges}
+use Rattle.amo_run.specs.declared.part.Part.{Part}
+use Rattle.amo_run.specs.declared.work.PumpJob.{PumpJob}
+use Rattle.amo_run.specs.Crew.{dealt}
+use Rattle.amo_run.specs.Parts.{sides_of}
+use Rattle.amo_run.proofs.Openings.{both_hosts, one_host, enough_charges, all_of_both, all_of_one}
+use Rattle.amo_run.proofs.crew.jobs_of.Goals as goal
+use Rattle.amo_run.proofs.crew.jobs_of.Goals.{in-Both+in-Ok+in_ok-push_host-in-Both+in_ok-push_host-in-Both-2, in-Senders+in_ok-push_host-in-Senders, in-Receivers+in_ok-push_host-in-Receivers}
+
+pub parts-requires : goal.parts-requires
+parts-requires g c = enough_charges c.args.settings.now.streams c.args.book.now c.args.charges.items (c.requires.sides ∙ ap (λ (p : Part). sides_of p c.args.settings.now.streams) c.in-Both.is) c.requires.charges
+
+pub push_host-requires-clause-host : goal.push_host-requires-clause-host
+push_host-requires-clause-host g c = let t = both_hosts c.args.settings.now.streams c.args.book.now c.args.charges.items c.in-Ok.front.items c.in-Ok.back.items c.requires.within.streams.0
+    (c.requires.sides ∙ ap (λ (p : Part). sides_of p c.args.settings.now.streams) c.in-Both.is) c.requires.charges c.requires.belong c.in-Ok.ensures.all c.in-Ok.ensures.count in t.0
+
+pub push_host-requires-in-Both-clause-host : goal.push_host-requires-in-Both-clause-host
+push_host-requires-in-Both-clause-host g c = let t = both_hosts c.args.settings.now.streams c.args.book.now c.args.charges.items c.in-Ok.front.items c.in-Ok.back.items c.requires.within.streams.0
+    (c.requires.sides ∙ ap (λ (p : Part). sides_of p c.args.settings.now.streams) c.in-Both.is) c.requires.charges c.requires.belong c.in-Ok.ensures.all c.in-Ok.ensures.count in t.1
+
+pub push_host-requires-in-Both-clause-pumps : goal.push_host-requires-in-Both-clause-pumps
+push_host-requires-in-Both-clause-pumps g c = let t = both_hosts c.args.settings.now.streams c.args.book.now c.args.charges.items c.in-Ok.front.items c.in-Ok.back.items c.requires.within.streams.0
+    (c.requires.sides ∙ ap (λ (p : Part). sides_of p c.args.settings.now.streams) c.in-Both.is) c.requires.charges c.requires.belong c.in-Ok.ensures.all c.in-Ok.ensures.count in
+    let long = t.2 in let few = c.of-receiver.ensures.few in let most = few.2 in (few.0, few.1, omega arith)
+
+pub push_host-requires-in-Senders-clause-host : goal.push_host-requires-in-Senders-clause-host
+push_host-requires-in-Senders-clause-host g c = let t = one_host Sender c.args.settings.now.streams c.args.book.now c.args.charges.items c.requires.within.streams.0
+    (c.requires.sides ∙ ap (λ (p : Part). sides_of p c.args.settings.now.streams) c.in-Senders.is) c.requires.charges c.requires.belong in t.0
+
+pub push_host-requires-in-Senders-clause-pumps : goal.push_host-requires-in-Senders-clause-pumps
+push_host-requires-in-Senders-clause-pumps g c = let t = one_host Sender c.args.settings.now.streams c.args.book.now c.args.charges.items c.requires.within.streams.0
+    (c.requires.sides ∙ ap (λ (p : Part). sides_of p c.args.settings.now.streams) c.in-Senders.is) c.requires.charges c.requires.belong in
+    let long = t.1 in let few = c.of-sender.ensures.few in let most = few.2 in (few.0, few.1, omega arith)
+
+pub push_host-requires-in-Receivers-clause-host : goal.push_host-requires-in-Receivers-clause-host
+push_host-requires-in-Receivers-clause-host g c = let t = one_host Receiver c.args.settings.now.streams c.args.book.now c.args.charges.items c.requires.within.streams.0
+    (c.requires.sides ∙ ap (λ (p : Part). sides_of p c.args.settings.now.streams) c.in-Receivers.is) c.requires.charges c.requires.belong in t.0
+
+pub push_host-requires-in-Receivers-clause-pumps : goal.push_host-requires-in-Receivers-clause-pumps
+push_host-requires-in-Receivers-clause-pumps g c = let t = one_host Receiver c.args.settings.now.streams c.args.book.now c.args.charges.items c.requires.within.streams.0
+    (c.requires.sides ∙ ap (λ (p : Part). sides_of p c.args.settings.now.streams) c.in-Receivers.is) c.requires.charges c.requires.belong in
+    let long = t.1 in let few = c.of-receiver.ensures.few in let most = few.2 in (few.0, few.1, omega arith)
+
+pub returns-clause-ours : goal.returns-clause-ours
+returns-clause-ours g c =
+    let Ours : List (PumpJob g.row.C.Denot) → Type 0 = λ l. Each (λ (j : PumpJob g.row.C.Denot). Each (IsChargeOf c.args.book.now.id c.args.book.now.sides) j.task.pump.charges) l in
+    elim c.match-part.branch [
+      | in-Both+in-Ok+in_ok-push_host-in-Both+in_ok-push_host-in-Both-2 w ↦ subst Ours (sym (ap (λ v. v.items) w.jobs-is)) w.in_ok-push_host-in-Both-2.ensures.ours
+      | in-Senders+in_ok-push_host-in-Senders w ↦ subst Ours (sym (ap (λ v. v.items) w.jobs-is)) w.in_ok-push_host-in-Senders.ensures.ours
+      | in-Receivers+in_ok-push_host-in-Receivers w ↦ subst Ours (sym (ap (λ v. v.items) w.jobs-is)) w.in_ok-push_host-in-Receivers.ensures.ours
+    ]
+
+pub returns-clause-all : goal.returns-clause-all
+returns-clause-all g c =
+    let Has : List (PumpJob g.row.C.Denot) → Type 0 = λ l. AllCharges (dealt (map (λ (j : PumpJob g.row.C.Denot). j.task.pump) l)) (length c.args.book.now.sides) in
+    let sides = c.args.book.now.sides in let id = c.args.book.now.id in
+    elim c.match-part.branch [
+      | in-Both+in-Ok+in_ok-push_host-in-Both+in_ok-push_host-in-Both-2 w ↦ subst Has (sym (ap (λ v. v.items) w.jobs-is))
+          (all_of_both sides id c.args.charges.items w.in-Ok.front.items w.in-Ok.back.items (dealt (map (λ (j : PumpJob g.row.C.Denot). j.task.pump) w.push_host.new.jobs.items)) (dealt (map (λ (j : PumpJob g.row.C.Denot). j.task.pump) w.push_host-in-Both.new.jobs.items)) c.requires.charges w.in-Ok.ensures.all
+          w.in_ok-push_host-in-Both.ensures.added w.in_ok-push_host-in-Both-2.ensures.kept w.in_ok-push_host-in-Both-2.ensures.added)
+      | in-Senders+in_ok-push_host-in-Senders w ↦ subst Has (sym (ap (λ v. v.items) w.jobs-is))
+          (all_of_one sides id c.args.charges.items (dealt (map (λ (j : PumpJob g.row.C.Denot). j.task.pump) w.push_host-in-Senders.new.jobs.items)) c.requires.charges w.in_ok-push_host-in-Senders.ensures.added)
+      | in-Receivers+in_ok-push_host-in-Receivers w ↦ subst Has (sym (ap (λ v. v.items) w.jobs-is))
+          (all_of_one sides id c.args.charges.items (dealt (map (λ (j : PumpJob g.row.C.Denot). j.task.pump) w.push_host-in-Receivers.new.jobs.items)) c.requires.charges w.in_ok-push_host-in-Receivers.ensures.added)
+    ]

@@ -1,0 +1,6 @@
+use Rattle.std.specs.Prelude.{◌≡◌, length}
+use Rattle.amo_run.proofs.workload.workloads.Given as goal
+
+-- so far there are the scripts of these clients
+abbrev pub invariant-clients : goal.invariant-clients
+invariant-clients l = length l.scripts.items ≡ l.place

@@ -1,0 +1,90 @@
+-- What goes into the threads of a run, and what comes back.
+use Rattle.std.specs.Prelude.{◌≡◌, ℕ, suc, ◌+◌, ◌≤◌, false, List, [], ◌∷◌, ◌++◌, length, map, Vec, Result, Ok, Err}
+use Rattle.amo_world.specs.declared.event.Event.{Event}
+use Rattle.amo_world.specs.declared.fault.NoMemory.{NoMemory}
+use Rattle.amo_book.specs.Book.{BookState, Each, first_pass}
+use Rattle.amo_book.specs.Charge.{ChargeState, IsChargeOf}
+use Rattle.amo_book.specs.Closed.{AllCharges}
+use Rattle.amo_book.specs.Pass.{PassState}
+use Rattle.amo_host.specs.Station.{Station}
+use Rattle.amo_run.specs.Told.{Tells, told}
+use Rattle.amo_run.specs.Engine.{ties}
+use Rattle.amo_run.specs.declared.crew.Crew.{Crew}
+use Rattle.amo_run.specs.declared.home.Home.{Home}
+use Rattle.amo_run.specs.declared.work.Done.{Done}
+use Rattle.amo_run.specs.declared.work.Pumped.{Pumped}
+use Rattle.amo_run.specs.declared.work.ClientThread.{ClientThread}
+use Rattle.amo_run.specs.declared.work.PumpJob.{PumpJob}
+use Rattle.amo_run.specs.declared.work.PumpThread.{PumpThread}
+
+-- the events by which the pass's own have grown, or a list that was given up
+abbrev pub Made : {A : Type 0} → PassState → PassState → Result (Vec (ℕ × Event) A) NoMemory → Type 0
+Made v w (Ok made) = Tells v w made.items
+Made v w (Err fault) = (lost : List (ℕ × Event)) × Tells v w lost
+
+-- the second list is the first with these events behind it
+abbrev pub Adds : {A : Type 0} → Result (Vec (ℕ × Event) A) NoMemory → List (ℕ × Event) → List (ℕ × Event) → Type 0
+Adds (Ok made) es es' = es' ≡ es ++ made.items
+Adds (Err fault) es es' = ⊥
+
+-- a client's thread: the pass is back, with these events in its history
+abbrev pub Did : PassState → Done → Type 0
+Did v d = Made v d.pass d.made
+
+-- a pump's thread: so is its pass, and its charges are those that it was given
+abbrev pub Returned : PassState → List ChargeState → Pumped → Type 0
+Returned v charges d = Made v d.pass d.made × (ties d.charges.items ≡ ties charges)
+
+-- P holds of each element with its number, counted from k
+abbrev pub EachAt : {A : Type 0} → (ℕ → A → Type 0) → ℕ → List A → Type 0
+EachAt P k [] = Unit {0}
+EachAt P k (x ∷ xs) = P k x × EachAt P (suc k) xs
+
+-- the pass of a number before its first call
+abbrev pub IsNew : BookState → ℕ → PassState → Type 0
+IsNew book p c = c ≡ first_pass book.id p
+
+-- the thread was promised to give that pass back
+abbrev pub IsClient : BookState → ℕ → ClientThread → Type 0
+IsClient book p t = t.thread.promise.pass.value ≡ first_pass book.id p
+
+abbrev pub IsPump : BookState → ℕ → PumpThread → Type 0
+IsPump book p t = t.thread.promise.pass.value ≡ first_pass book.id p
+
+-- the charges of these pumps, pump by pump
+abbrev pub dealt : {W : Type 0} → List (Station W) → List ChargeState
+dealt [] = []
+dealt (s ∷ ss) = s.charges ++ dealt ss
+
+-- the charges that these threads are to give back
+abbrev pub lent : List PumpThread → List ChargeState
+lent [] = []
+lent (t ∷ ts) = t.thread.promise.pump.value.charges ++ lent ts
+
+-- the pass that is back is the one of a number
+pub record IsHome (of : BookState) (p : ℕ) (c : PassState) : Type 0 where
+  pub book : c.book ≡ of.id
+  pub number : c.number ≡ p
+
+-- the events of these passes, each with its position, pass by pass
+abbrev pub joined : List PassState → List (ℕ × Event)
+joined [] = []
+joined (c ∷ cs) = told c ++ joined cs
+
+-- The passes that are back are the first of the book. The list has all their events, unless memory was refused.
+pub record SoFar (of : BookState) (h : Home) : Type 0 where
+  pub passes : EachAt (IsHome of) 0 h.passes.items
+  pub events : h.is_short ≡ false → h.events.items ≡ joined h.passes.items
+
+-- All passes are back, and so are these charges, unless memory was refused.
+pub record IsBack (of : BookState) (charges : List ChargeState) (h : Home) : Type 0 where
+  pub sofar : SoFar of h
+  pub count : length h.passes.items ≡ of.passes
+  pub charges_are : h.is_short ≡ false → ties h.charges.items ≡ ties charges
+
+-- No pass made a call yet, and there is one for each pump and each script. The pumps have all charges of the book.
+pub record IsReady {S C : Type 0} (crew : Crew S C) : Type 0 where
+  pub passes : EachAt (IsNew crew.book) 0 crew.passes.items × (length crew.passes.items ≡ crew.book.passes)
+  pub enough : length crew.jobs.items + length crew.scripts.items ≤ length crew.passes.items
+  pub ours : Each (λ (j : PumpJob C). Each (IsChargeOf crew.book.id crew.book.sides) j.task.pump.charges) crew.jobs.items
+  pub all : AllCharges (dealt (map (λ (j : PumpJob C). j.task.pump) crew.jobs.items)) (length crew.book.sides)

@@ -1,0 +1,68 @@
+-- What turns do to a pump, its pass and the record of its events.
+use Rattle.std.specs.Prelude.{◌≡◌, ℕ, ◌<◌, ◌^◌, List, [], ◌∷◌, ◌++◌, map, Option, Some, None, Result, Ok, Err}
+use Rattle.atomic_table.specs.Seated.{TableId}
+use Rattle.amo_object.specs.declared.step.End.{End}
+use Rattle.amo_packet.specs.declared.packet.OwnedPacket.{OwnedPacket}
+use Rattle.amo_core.specs.declared.act.Act.{Act}
+use Rattle.amo_core.specs.declared.act.Act.TheVariants as act
+use Rattle.amo_core.specs.declared.reply.Reply.TheVariants.{Done}
+use Rattle.amo_world.specs.declared.event.Event.{Event}
+use Rattle.amo_book.specs.Book.{BookState}
+use Rattle.amo_book.specs.Charge.{ChargeState}
+use Rattle.amo_book.specs.Pass.{PassState, event}
+use Rattle.amo_host.specs.Station.{Station, BelongTogether}
+use Rattle.amo_host.specs.declared.fault.PumpFault.{PumpFault}
+use Rattle.amo_host.specs.declared.turned.Kind.{Kind}
+use Rattle.amo_host.specs.declared.turned.Kind.TheVariants as kind
+use Rattle.amo_host.specs.declared.turned.Turned.{Turned}
+use Rattle.amo_host.specs.declared.turned.Turned.TheVariants.{Did}
+use Rattle.amo_run.specs.declared.engine.Turn.{Turn}
+use Rattle.amo_run.specs.Told.{Tells, listed}
+
+-- what no act changes in a charge: its book, its place there, its side and its stream
+abbrev pub tie : ChargeState → TableId × (ℕ × (End × ℕ))
+tie c = (c.book, (c.place, (c.side, c.stream)))
+
+abbrev pub ties : List ChargeState → List (TableId × (ℕ × (End × ℕ)))
+ties charges = map tie charges
+
+-- The pass's own events have grown by these. Pass and pump still belong together, and the charges are those that the pump had.
+pub record Advances {W : Type 0} (book : BookState) (v w : PassState) (s t : Station W) (made : List (ℕ × Event)) : Type 0 where
+  pub together : BelongTogether book w t
+  pub charges : ties t.charges ≡ ties s.charges
+  pub tells : Tells v w made
+
+-- the same, and the record has grown by these events
+pub record Recorded {W : Type 0} (book : BookState) (v w : PassState) (s t : Station W) (old new : List (ℕ × Event)) : Type 0 where
+  pub more : List (ℕ × Event)
+  pub added : new ≡ old ++ more
+  pub advances : Advances book v w s t more
+
+-- the act of an event of this kind, with the packet that was handed in
+abbrev pub act_told : Kind → Option OwnedPacket → Option Act
+act_told (kind.Start word) packet = Some (act.Start word)
+act_told kind.Resend packet = Some act.Resend
+act_told (kind.Deliver word) (Some packet) = Some (act.Deliver packet word)
+act_told (kind.Deliver word) None = None
+act_told kind.Crash packet = Some act.Crash
+act_told kind.Recover packet = Some act.Recover
+
+-- the event of this act
+abbrev pub done_at : ℕ → End → ℕ → ℕ → Option Act → List (ℕ × Event)
+done_at pass side stream at None = []
+done_at pass side stream at (Some a) = (at, event pass side stream a Done) ∷ []
+
+-- the event of a turn
+abbrev pub told_of : ℕ → Option OwnedPacket → Turned → List (ℕ × Event)
+told_of pass packet (Did side stream k done) = done_at pass side stream done.position (act_told k packet)
+told_of pass packet _ = []
+
+-- a position is a number of 64 bits
+abbrev pub IsSmall : Turned → Type 0
+IsSmall (Did side stream k done) = done.position < 2 ^ 64
+IsSmall _ = Unit {0}
+
+-- what a turn made
+abbrev pub made_in : Result Turn PumpFault → List (ℕ × Event)
+made_in (Ok turn) = listed turn.event
+made_in (Err fault) = []

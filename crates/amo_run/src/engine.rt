@@ -1,0 +1,398 @@
+//! What a pump's thread does: one turn after another over a link, with the crashes and recoveries of its host.
+ghost use Rattle.std.specs.Prelude.{◌≡◌, ◌≤◌, ◌<◌, ◌++◌, IfSome, OnOk, length, vec_len, vec_capacity};
+ghost use Rattle.amo_host.specs.Station.{BelongTogether};
+ghost use Rattle.amo_run.specs.Told.{listed};
+ghost use Rattle.amo_run.specs.Engine.{Advances, Recorded, IsSmall, act_told, told_of, made_in};
+
+use crate::plan::{Fate, Plan};
+use crate::source::Source;
+use amo_book::{Book, Pass};
+use amo_host::{Kind, Pump, PumpFault, Turned};
+use amo_net::{Link, MAX_DATAGRAM};
+use amo_packet::{MAX_PACKET, OwnedPacket, read};
+use amo_word::{ChaChaWords, Words};
+use amo_world::{Act, Event, NoMemory, Reply};
+use std::alloc::Global;
+use std::sync::Wait;
+use std::sync::atomic::{AtomicU32, Ordering};
+use std::thread;
+
+/// What a pump's thread did so far: the events that it made, each with its position, how often its link failed, and how
+/// often it met Busy.
+#[derive(Drop)]
+pub struct Tally {
+    pub made: Vec<(u64, Event)>,
+    pub link_faults: u64,
+    pub busy: u64,
+}
+
+/// A pump at work.
+#[derive(Drop)]
+pub struct Engine<L> {
+    pub pump: Pump<ChaChaWords>,
+    pub link: L,
+    pub plan: Plan,
+    pub source: Source,
+    /// How many turns it made.
+    pub turns: u64,
+    /// The number of its host's life, from 0.
+    pub incarnation: u32,
+}
+
+/// What a turn made: an event with its position, and the length of the packet that it emitted.
+#[derive(Drop)]
+pub struct Turn {
+    pub event: Option<(u64, Event)>,
+    pub length: Option<usize>,
+}
+
+/// The act of an event of this kind, with the packet that was handed in.
+fn act_of(kind: Kind, packet: Option<OwnedPacket>) -> Option<Act>
+    ensures { result ≡ act_told kind packet }
+{
+    match kind {
+        Kind::Start(word) => Some(Act::Start(word)),
+        Kind::Resend => Some(Act::Resend),
+        Kind::Deliver(word) => match packet {
+            Some(packet) => Some(Act::Deliver(packet, word)),
+            None => None,
+        },
+        Kind::Crash => Some(Act::Crash),
+        Kind::Recover => Some(Act::Recover),
+    }
+}
+
+/// What a pump's answer tells.
+fn turn_of(pass: usize, packet: Option<OwnedPacket>, turned: Turned) -> Turn
+    ensures told { listed result.event ≡ told_of pass packet turned }
+    ensures small { IsSmall turned }
+{
+    let Turned::Did(side, stream, kind, done) = turned else {
+        return Turn {
+            event: None,
+            length: None,
+        };
+    };
+    let Some(act) = act_of(kind, packet) else {
+        return Turn {
+            event: None,
+            length: None,
+        };
+    };
+    let event = Event {
+        pass,
+        side,
+        stream,
+        act,
+        reply: Reply::Done,
+    };
+    Turn {
+        event: Some((done.position, event)),
+        length: done.length,
+    }
+}
+
+/// A turn without input.
+#[tactic(auto, using(crate::proofs::Turning::failed_advances))]
+fn turn_alone<W: Words + Drop>(
+    pump: &mut Pump<W>,
+    book: &Book,
+    pass: &mut Pass,
+    now: u64,
+    out: &mut [u8; MAX_PACKET],
+) -> Result<Turn, PumpFault>
+    requires { BelongTogether book.now pass.old pump.old }
+    ensures { Advances book.now pass.old pass.new pump.old pump.new (made_in result) }
+{
+    let number = pass.number();
+    match pump.turn(book, pass, now, None, out) {
+        Ok(turned) => Ok(turn_of(number, None, turned)),
+        Err(fault) => Err(fault),
+    }
+}
+
+/// A turn with a datagram. Its packet is copied for the event before the pump has it.
+#[tactic(auto, using(crate::proofs::Turning::failed_advances, crate::proofs::Turning::same_advances))]
+fn turn_with<W: Words + Drop>(
+    alloc: Global,
+    pump: &mut Pump<W>,
+    book: &Book,
+    pass: &mut Pass,
+    now: u64,
+    bytes: &[u8],
+    out: &mut [u8; MAX_PACKET],
+) -> Result<Turn, PumpFault>
+    requires { BelongTogether book.now pass.old pump.old }
+    ensures { Advances book.now pass.old pass.new pump.old pump.new (made_in result) }
+{
+    let number = pass.number();
+    let Ok(packet) = read(bytes) else {
+        return Ok(turn_of(number, None, Turned::Idle));
+    };
+    let Ok(packet) = packet.copied(alloc) else {
+        return Err(PumpFault::NoMemory);
+    };
+    match pump.turn(book, pass, now, Some(bytes), out) {
+        Ok(turned) => Ok(turn_of(number, Some(packet), turned)),
+        Err(fault) => Err(fault),
+    }
+}
+
+/// A crash or a recovery of the side of a stream.
+#[tactic(auto, using(crate::proofs::Turning::same_advances))]
+fn meet(
+    pump: &mut Pump<ChaChaWords>,
+    book: &Book,
+    pass: &mut Pass,
+    now: u64,
+    stream: u32,
+    fate: Fate,
+) -> Result<Turn, PumpFault>
+    requires { BelongTogether book.now pass.old pump.old }
+    ensures { Advances book.now pass.old pass.new pump.old pump.new (made_in result) }
+{
+    let number = pass.number();
+    match fate {
+        Fate::Crash => match pump.crash(book, pass, now, stream) {
+            Ok(turned) => Ok(turn_of(number, None, turned)),
+            Err(fault) => Err(fault),
+        },
+        Fate::Recover => match pump.recover(book, pass, now, stream) {
+            Ok(turned) => Ok(turn_of(number, None, turned)),
+            Err(fault) => Err(fault),
+        },
+    }
+}
+
+impl Tally {
+    /// Makes room for an event.
+    fn reserve(&mut self) -> Result<(), NoMemory>
+        ensures same { self.new.made.items ≡ self.old.made.items }
+        ensures room { OnOk result (vec_len self.new.made < vec_capacity self.new.made) }
+    {
+        match self.made.reserve(1) {
+            Ok(()) => Ok(()),
+            Err(_) => Err(NoMemory),
+        }
+    }
+
+    /// Notes what a turn made, and answers the length of the packet to send.
+    fn note(&mut self, turned: Result<Turn, PumpFault>) -> Result<Option<usize>, PumpFault>
+        requires { vec_len self.old.made < vec_capacity self.old.made }
+        ensures { self.new.made.items ≡ self.old.made.items ++ made_in turned }
+    {
+        match turned {
+            Ok(Turn { event, length }) => {
+                if let Some(event) = event {
+                    self.made.push_reserved(event);
+                }
+                Ok(length)
+            }
+            Err(fault) => {
+                if fault == PumpFault::Busy {
+                    self.busy = self.busy.saturating_add(1);
+                }
+                Err(fault)
+            }
+        }
+    }
+
+    /// Counts a failure of the link, if there was one.
+    fn count(&mut self, has_failed: bool)
+        ensures { self.new.made ≡ self.old.made }
+    {
+        self.link_faults = self.link_faults.saturating_add(has_failed as u64);
+    }
+}
+
+impl<L: Link> Engine<L> {
+    /// The length of the datagram that has come, if one has. A failed link brings none, and is counted.
+    fn hear(&mut self, buffer: &mut [u8; MAX_DATAGRAM], tally: &mut Tally) -> Option<usize>
+        ensures same { (self.new.pump ≡ self.old.pump) × (tally.new.made ≡ tally.old.made) }
+        ensures within { IfSome result (λ n. n ≤ MAX_DATAGRAM) }
+    {
+        match self.link.receive(buffer) {
+            Ok(length) => length,
+            Err(_) => {
+                tally.count(true);
+                None
+            }
+        }
+    }
+
+    /// Sends what stands at the front of the buffer. Where the link fails it is lost, and counted.
+    fn send(&mut self, out: &[u8; MAX_PACKET], length: Option<usize>, tally: &mut Tally)
+        ensures same { (self.new.pump ≡ self.old.pump) × (tally.new.made ≡ tally.old.made) }
+    {
+        let Some(length) = length else {
+            return;
+        };
+        let Some(packet) = out.get(..length) else {
+            return;
+        };
+        let has_failed = self.link.send(packet).is_err();
+        tally.count(has_failed);
+    }
+
+    /// One turn, with the datagram that has come, if one has; what it emits is sent.
+    #[tactic(auto, using(crate::proofs::Turning::recorded_turn, crate::proofs::Turning::recorded_none))]
+    fn turn(
+        &mut self,
+        alloc: Global,
+        book: &Book,
+        pass: &mut Pass,
+        tally: &mut Tally,
+    ) -> Result<(), NoMemory>
+        requires { BelongTogether book.now pass.old self.old.pump }
+        ensures { Recorded book.now pass.old pass.new self.old.pump self.new.pump tally.old.made.items tally.new.made.items }
+    {
+        tally.reserve()?;
+        let mut buffer = [0; MAX_DATAGRAM];
+        let mut out = [0; MAX_PACKET];
+        let heard = self.hear(&mut buffer, tally);
+        let now = self.turns;
+        let turned = match heard {
+            None => turn_alone(&mut self.pump, book, pass, now, &mut out),
+            Some(length) => turn_with(
+                alloc,
+                &mut self.pump,
+                book,
+                pass,
+                now,
+                &buffer[..length],
+                &mut out,
+            ),
+        };
+        match tally.note(turned) {
+            Ok(length) => {
+                self.send(&out, length, tally);
+                Ok(())
+            }
+            Err(PumpFault::NoMemory) => Err(NoMemory),
+            Err(PumpFault::Busy) => Ok(()),
+            Err(PumpFault::NoWord) => Ok(()),
+        }
+    }
+
+    /// Tries a crash or a recovery of the side of a stream once. Whether it happened.
+    #[tactic(auto, using(crate::proofs::Turning::recorded_turn, crate::proofs::Turning::recorded_none))]
+    fn attempt(
+        &mut self,
+        book: &Book,
+        pass: &mut Pass,
+        stream: u32,
+        fate: Fate,
+        tally: &mut Tally,
+    ) -> Result<bool, NoMemory>
+        requires { BelongTogether book.now pass.old self.old.pump }
+        ensures { Recorded book.now pass.old pass.new self.old.pump self.new.pump tally.old.made.items tally.new.made.items }
+    {
+        tally.reserve()?;
+        let turned = meet(&mut self.pump, book, pass, self.turns, stream, fate);
+        Ok(tally.note(turned).is_ok())
+    }
+
+    /// A crash or a recovery of the side of a stream. Where another call is at work at the side it is tried again.
+    #[tactic(auto, using(crate::proofs::Turning::recorded_more, crate::proofs::Turning::recorded_none))]
+    fn suffer<R: Wait>(
+        &mut self,
+        rt: &R,
+        book: &Book,
+        pass: &mut Pass,
+        stream: u32,
+        fate: Fate,
+        tally: &mut Tally,
+    ) -> Result<(), NoMemory>
+        requires { BelongTogether book.now pass.old self.old.pump }
+        ensures { Recorded book.now pass.old pass.new self.old.pump self.new.pump tally.old.made.items tally.new.made.items }
+    {
+        'tries: for _ in rt.forever() {
+            if self.attempt(book, pass, stream, fate, tally)? {
+                break;
+            }
+            thread::yield_now();
+        }
+        Ok(())
+    }
+
+    /// A crash or a recovery of the host: one event for each of its streams, in their order.
+    #[tactic(auto, using(crate::proofs::Turning::recorded_more, crate::proofs::Turning::recorded_none))]
+    fn suffer_all<R: Wait>(
+        &mut self,
+        rt: &R,
+        book: &Book,
+        pass: &mut Pass,
+        streams: &[u32],
+        fate: Fate,
+        tally: &mut Tally,
+    ) -> Result<(), NoMemory>
+        requires { BelongTogether book.now pass.old self.old.pump }
+        ensures { Recorded book.now pass.old pass.new self.old.pump self.new.pump tally.old.made.items tally.new.made.items }
+    {
+        'sides: for stream in streams {
+            self.suffer(rt, book, pass, *stream, fate, tally)?;
+        }
+        Ok(())
+    }
+
+    /// What the plan has for this turn. A host that recovers has new words.
+    #[tactic(auto, using(crate::proofs::Turning::recorded_more, crate::proofs::Turning::recorded_none))]
+    fn follow_plan<R: Wait>(
+        &mut self,
+        rt: &R,
+        book: &Book,
+        pass: &mut Pass,
+        streams: &[u32],
+        tally: &mut Tally,
+    ) -> Result<(), NoMemory>
+        requires { BelongTogether book.now pass.old self.old.pump }
+        ensures { Recorded book.now pass.old pass.new self.old.pump self.new.pump tally.old.made.items tally.new.made.items }
+    {
+        let Some(fate) = self.plan.after(self.turns) else {
+            pass.number();
+            return Ok(());
+        };
+        if fate == Fate::Recover {
+            self.renew();
+        }
+        self.suffer_all(rt, book, pass, streams, fate, tally)
+    }
+
+    /// The words of the next life.
+    fn renew(&mut self)
+        ensures { self.new.pump.charges ≡ self.old.pump.charges }
+    {
+        self.incarnation = self.incarnation.saturating_add(1);
+        let words = self.source.words(self.incarnation);
+        self.pump.renew(words);
+    }
+
+    /// Makes one turn after another, until all crashes and recoveries of its host have happened and no book has clients at
+    /// work.
+    ///
+    /// Where memory is refused it ends at once.
+    #[tactic(auto, using(crate::proofs::Turning::recorded_more, crate::proofs::Turning::recorded_none))]
+    pub fn work<R: Wait>(
+        &mut self,
+        rt: &R,
+        alloc: Global,
+        book: &Book,
+        pass: &mut Pass,
+        streams: &[u32],
+        at_work: &AtomicU32,
+        tally: &mut Tally,
+    ) -> Result<(), NoMemory>
+        requires { BelongTogether book.now pass.old self.old.pump }
+        ensures { Recorded book.now pass.old pass.new self.old.pump self.new.pump tally.old.made.items tally.new.made.items }
+    {
+        'turns: for _ in rt.forever() {
+            if self.plan.is_over() && at_work.load(Ordering::SeqCst) == 0 {
+                break;
+            }
+            self.turn(alloc, book, pass, tally)?;
+            self.turns = self.turns.saturating_add(1);
+            self.follow_plan(rt, book, pass, streams, tally)?;
+        }
+        Ok(())
+    }
+}

@@ -1,0 +1,56 @@
+//! What a run answers.
+ghost use Rattle.std.specs.Prelude.{◌≡◌, [], Some};
+
+use crate::report::Chronicle;
+use amo_book::Closed;
+use amo_world::Event;
+use std::alloc::Global;
+
+/// What a run did.
+#[derive(Drop)]
+pub struct Ran {
+    /// The events of its book in the order of positions, or those of the senders' book.
+    pub events: Vec<Event>,
+    /// What the end of that book told.
+    pub closed: Closed,
+    /// The events of the receivers' book in the order of its positions. There are none where a run has one book.
+    pub receivers: Vec<Event>,
+    /// What the end of the receivers' book told.
+    pub receivers_closed: Option<Closed>,
+    /// How often the links failed.
+    pub link_faults: u64,
+    /// How many turns met Busy.
+    pub busy: u64,
+}
+
+impl Ran {
+    /// A run on one book.
+    pub(crate) fn of_one(alloc: Global, book: Chronicle) -> Ran
+        ensures events { (result.events ≡ book.events) × (result.closed ≡ book.closed) }
+        ensures none { result.receivers.items ≡ [] }
+    {
+        Ran {
+            events: book.events,
+            closed: book.closed,
+            receivers: Vec::new(alloc),
+            receivers_closed: None,
+            link_faults: book.link_faults,
+            busy: book.busy,
+        }
+    }
+
+    /// A run on two books, the senders' and the receivers'.
+    pub(crate) fn of_two(senders: Chronicle, receivers: Chronicle) -> Ran
+        ensures senders { (result.events ≡ senders.events) × (result.closed ≡ senders.closed) }
+        ensures receivers { (result.receivers ≡ receivers.events) × (result.receivers_closed ≡ Some receivers.closed) }
+    {
+        Ran {
+            events: senders.events,
+            closed: senders.closed,
+            receivers: receivers.events,
+            receivers_closed: Some(receivers.closed),
+            link_faults: senders.link_faults.saturating_add(receivers.link_faults),
+            busy: senders.busy.saturating_add(receivers.busy),
+        }
+    }
+}

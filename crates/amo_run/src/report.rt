@@ -1,0 +1,69 @@
+//! The end of a run.
+ghost use Rattle.std.specs.Prelude.{◌≡◌, IfOk, map};
+ghost use Rattle.amo_run.specs.Whole.{Ends, IsWhole};
+
+use crate::RunFault;
+use crate::home::Home;
+use amo_book::{Book, Closed};
+use amo_world::Event;
+use std::alloc::{AllocError, Global};
+
+/// What is left of a book: its history, in the order of positions, and what its end told.
+#[derive(Drop)]
+pub struct Chronicle {
+    pub events: Vec<Event>,
+    pub closed: Closed,
+    /// How often the links failed.
+    pub link_faults: u64,
+    /// How many turns met Busy.
+    pub busy: u64,
+}
+
+/// Closes the book, from which nothing is missing, and puts the events in order.
+pub fn settle(alloc: Global, book: Book, home: Home) -> Result<Chronicle, RunFault>
+    requires { Ends book home }
+    ensures { IfOk result (λ r. IsWhole book.sides book.passes r.closed r.events.items) }
+{
+    let Home {
+        passes,
+        charges,
+        events,
+        is_short,
+        is_cut_off,
+        link_faults,
+        busy,
+    } = home;
+    if is_cut_off {
+        return Err(RunFault::Device);
+    }
+    if is_short {
+        return Err(RunFault::NoMemory);
+    }
+    let Ok(closed) = book.close(passes, charges) else {
+        unreachable!()
+    };
+    let mut events = events;
+    let Ok(()) = events.sort_by_key(|one: &(u64, Event)| one.0) else {
+        return Err(RunFault::NoMemory);
+    };
+    let Ok(events) = bare(alloc, events) else {
+        return Err(RunFault::NoMemory);
+    };
+    Ok(Chronicle {
+        events,
+        closed,
+        link_faults,
+        busy,
+    })
+}
+
+/// The events without their positions.
+fn bare(alloc: Global, placed: Vec<(u64, Event)>) -> Result<Vec<Event>, AllocError>
+    ensures { IfOk result (λ events. events.items ≡ map (λ one. one.1) placed.items) }
+{
+    let mut events = Vec::with_capacity(alloc, placed.len())?;
+    'events: for (_position, event) in placed {
+        events.push(event)?;
+    }
+    Ok(events)
+}

@@ -1,0 +1,144 @@
+//! Whole runs, on threads.
+ghost use Rattle.std.specs.Prelude.{◌≡◌, ◌≤◌, length};
+
+use super::*;
+use crate::crew::Wires;
+use crate::report::Chronicle;
+use crate::source::channel_words;
+use crate::whole_run::run_scripts;
+use amo_net::{Lossy, LossyEnd};
+use amo_object::End;
+use amo_packet::Message;
+use amo_world::{Act, Event, Reply, World};
+use std::alloc::Global;
+use std::sync::atomic::{AtomicBool, Ordering};
+use std::sync::{Mutex, Wait};
+use std::test::*;
+use std::thread::Threads;
+
+mod overlap;
+
+/// A run of two streams in memory.
+const SMALL: RunSettings = RunSettings {
+    streams: 2,
+    clients: 4,
+    crashes: 2,
+    seed: [7; 32],
+    link: LinkKind::Memory,
+    pumps: 1,
+    split: false,
+};
+
+/// A run of eight streams over sockets, with three pumps at each host.
+const LARGE: RunSettings = RunSettings {
+    streams: 8,
+    clients: 16,
+    crashes: 20,
+    seed: [7; 32],
+    link: LinkKind::Udp,
+    pumps: 3,
+    split: false,
+};
+
+/// A run of eight streams in memory, on two books.
+const APART: RunSettings = RunSettings {
+    streams: 8,
+    clients: 16,
+    crashes: 20,
+    seed: [7; 32],
+    link: LinkKind::Memory,
+    pumps: 3,
+    split: true,
+};
+
+/// A run of these scripts over a channel in memory.
+fn run_small<S: Script + Send + Drop, R: Threads + Wait + Sync>(
+    rt: &R,
+    alloc: Global,
+    scripts: Vec<S>,
+) -> Result<Chronicle, Fail>
+    requires { length scripts.items ≤ 56 }
+{
+    let channel = Mutex::new(Lossy::new(alloc, channel_words(SMALL.seed, 0)));
+    let wires = Wires {
+        senders: Vec::from_array(alloc, [LossyEnd::new(rt, &channel, End::Sender)])?,
+        receivers: Vec::from_array(alloc, [LossyEnd::new(rt, &channel, End::Receiver)])?,
+    };
+    Ok(run_scripts(rt, alloc, &SMALL, wires, scripts)?)
+}
+
+/// Whether a world accepts all of these events.
+fn is_accepted(alloc: Global, events: Vec<Event>) -> Result<bool, Fail> {
+    let mut world = World::new(alloc).ok().ok_or("a world")?;
+    for event in events {
+        if event.stream < 1 || event.stream > 256 || world.apply(event).is_err() {
+            return Ok(false);
+        }
+    }
+    Ok(true)
+}
+
+/// How many crashes there are among these events.
+fn crashes(events: &[Event]) -> usize {
+    let mut count = 0usize;
+    for event in events {
+        if event.act == Act::Crash {
+            count = count.saturating_add(1);
+        }
+    }
+    count
+}
+
+/// Whether each of these events is of this side.
+fn are_of(side: End, events: &[Event]) -> bool {
+    for event in events {
+        if event.side != side {
+            return false;
+        }
+    }
+    true
+}
+
+/// What four clients did over a channel that loses, with a crash of each host, is right, honest and fresh.
+#[test]
+fn small_run(rt: HostRuntime) -> Result<(), Fail> {
+    let ran = run(&rt, rt.alloc(), &SMALL)?;
+    assert!(rt; ran.events.len() as u64 == ran.closed.count());
+    assert_eq!(rt; crashes(ran.events.as_slice()), 4);
+    assert!(rt; ran.receivers.is_empty());
+    assert!(rt; is_accepted(rt.alloc(), ran.events)?);
+    Ok(())
+}
+
+/// So is what sixteen clients did over sockets. Each crash of a host is one of each of its streams.
+#[test]
+fn runs_over_sockets(rt: HostRuntime) -> Result<(), Fail> {
+    let ran = run(&rt, rt.alloc(), &LARGE)?;
+    assert_eq!(rt; crashes(ran.events.as_slice()), 160);
+    assert!(rt; is_accepted(rt.alloc(), ran.events)?);
+    Ok(())
+}
+
+/// Two books: the senders' has the events of senders alone, the receivers' those of receivers.
+#[test]
+fn runs_on_two_books(rt: HostRuntime) -> Result<(), Fail> {
+    let ran = run(&rt, rt.alloc(), &APART)?;
+    assert_eq!(rt; crashes(ran.events.as_slice()), 80);
+    assert_eq!(rt; crashes(ran.receivers.as_slice()), 80);
+    assert!(rt; are_of(End::Sender, ran.events.as_slice()));
+    assert!(rt; are_of(End::Receiver, ran.receivers.as_slice()));
+    Ok(())
+}
+
+#[test]
+fn faults_have_numbers_and_texts(rt: HostRuntime) -> Result<(), Fail> {
+    let rows = [
+        (RunFault::Device, 71, "a socket failed"),
+        (RunFault::NoMemory, 9, "out of memory"),
+    ];
+    for (fault, code, text) in rows {
+        assert_eq!(rt; fault.code(), code);
+        assert_eq!(rt; fault.to_string(rt.alloc())?.as_str(), text);
+    }
+    Ok(())
+}

@@ -1,0 +1,93 @@
+//! How a pump comes by its link.
+ghost use Rattle.std.specs.Prelude.{◌≡◌, ◌<◌};
+ghost use Rattle.amo_host.specs.Station.{BelongTogether};
+ghost use Rattle.amo_run.specs.Crew.{Returned};
+
+use crate::work::{Pumped, Task, cut_off, drive};
+use amo_book::{Book, Pass};
+use amo_net::{Lossy, LossyEnd, UdpPort};
+use amo_word::ChaChaWords;
+use std::alloc::Global;
+use std::marker::Brand;
+use std::net::SocketAddr;
+use std::sync::Wait;
+use std::sync::atomic::AtomicU32;
+use std::sync::ledger::{Blank, Ledger};
+
+/// What becomes a link on the thread of the pump that uses it.
+pub trait Wire {
+    ghost use Rattle.amo_host.specs.Station.{BelongTogether};
+    ghost use Rattle.amo_run.specs.Crew.{Returned};
+
+    /// Drives a pump over the link.
+    fn drive<R: Wait>(
+        self,
+        rt: &R,
+        alloc: Global,
+        book: &Book,
+        pass: Pass,
+        task: Task,
+        at_work: &AtomicU32,
+    ) -> Pumped
+        requires { BelongTogether book.now pass task.pump }
+        ensures { Returned pass task.pump.charges result };
+}
+
+impl<'a, W: Wait> Wire for LossyEnd<'a, ChaChaWords, W> {
+    fn drive<R: Wait>(
+        self,
+        rt: &R,
+        alloc: Global,
+        book: &Book,
+        pass: Pass,
+        task: Task,
+        at_work: &AtomicU32,
+    ) -> Pumped {
+        drive(rt, alloc, book, pass, task, self, at_work)
+    }
+}
+
+/// A socket, and where its peer is.
+#[derive(Drop)]
+pub struct Socket {
+    pub port: UdpPort,
+    pub peer: SocketAddr,
+}
+
+impl Wire for Socket {
+    fn drive<R: Wait>(
+        self,
+        rt: &R,
+        alloc: Global,
+        book: &Book,
+        pass: Pass,
+        task: Task,
+        at_work: &AtomicU32,
+    ) -> Pumped {
+        drive_socket::<R, Brand>(rt, alloc, book, pass, task, self, at_work, Blank::new(1))
+    }
+}
+
+/// Connects the socket, and drives a pump over it. The blank becomes the ledger in which contracts count its failures.
+fn drive_socket<R: Wait, L: Ledger>(
+    rt: &R,
+    alloc: Global,
+    book: &Book,
+    pass: Pass,
+    task: Task,
+    socket: Socket,
+    at_work: &AtomicU32,
+    blank: Blank,
+) -> Pumped
+    requires name { blank.name ≡ L.name }
+    requires parts { blank.parts ≡ L.parts }
+    requires some { 0 < L.parts }
+    requires together { BelongTogether book.now pass task.pump }
+    ensures { Returned pass task.pump.charges result }
+{
+    let Socket { port, peer } = socket;
+    match port.connect::<L>(peer, blank) {
+        Ok(link) => drive(rt, alloc, book, pass, task, link, at_work),
+        Err(_) => cut_off(alloc, pass, task),
+    }
+}

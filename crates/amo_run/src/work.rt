@@ -1,0 +1,212 @@
+//! What the threads of a run do, and what comes back from them.
+ghost use Rattle.std.specs.Prelude.{◌≡◌, IfOk};
+ghost use Rattle.amo_host.specs.Station.{BelongTogether};
+ghost use Rattle.amo_run.specs.Crew.{Did, Returned};
+
+use crate::engine::{Engine, Tally};
+use crate::plan::Plan;
+use crate::source::Source;
+use crate::wire::Wire;
+use crate::{Script, client};
+use amo_book::{Book, Charge, Pass};
+use amo_host::Pump;
+use amo_net::Link;
+use amo_word::ChaChaWords;
+use amo_world::{Event, NoMemory};
+use std::alloc::Global;
+use std::snapshot::Snapshot;
+use std::sync::Wait;
+use std::sync::atomic::AtomicU32;
+use std::thread::{Promise, PromisedHandle};
+
+/// What a client's thread gives back.
+#[derive(Drop)]
+pub struct Done {
+    pub pass: Pass,
+    pub made: Result<Vec<(u64, Event)>, NoMemory>,
+}
+
+/// The promise that the pass comes back, and that its own events have grown by those of the list.
+#[derive(Drop)]
+pub struct ClientPromise {
+    pub pass: Snapshot<Pass>,
+}
+
+impl Promise<Done> for ClientPromise {
+    ghost use Rattle.amo_run.specs.Crew.{Did};
+
+    ghost kept_by = { λ p d. Did p.pass.value d };
+}
+
+/// A client's thread that runs.
+#[derive(Drop)]
+pub struct ClientThread {
+    pub thread: PromisedHandle<Done, ClientPromise>,
+}
+
+/// A pump before its first turn.
+#[derive(Drop)]
+pub struct Task {
+    pub pump: Pump<ChaChaWords>,
+    pub plan: Plan,
+    pub source: Source,
+    /// The streams of its charges.
+    pub streams: Vec<u32>,
+}
+
+/// A pump for a thread, and what becomes its link there.
+#[derive(Drop)]
+pub struct PumpJob<C> {
+    pub task: Task,
+    pub wire: C,
+}
+
+/// What a pump's thread gives back.
+#[derive(Drop)]
+pub struct Pumped {
+    pub pass: Pass,
+    pub charges: Vec<Charge>,
+    pub made: Result<Vec<(u64, Event)>, NoMemory>,
+    /// It had no link, and made no turn.
+    pub is_cut_off: bool,
+    pub link_faults: u64,
+    pub busy: u64,
+}
+
+/// The promise that pass and charges come back, and that the pass's own events have grown by those of the list.
+#[derive(Drop)]
+pub struct PumpPromise {
+    pub pass: Snapshot<Pass>,
+    pub pump: Snapshot<Pump<ChaChaWords>>,
+}
+
+impl Promise<Pumped> for PumpPromise {
+    ghost use Rattle.amo_run.specs.Crew.{Returned};
+
+    ghost kept_by = { λ p d. Returned p.pass.value p.pump.value.charges d };
+}
+
+/// A pump's thread that runs.
+#[derive(Drop)]
+pub struct PumpThread {
+    pub thread: PromisedHandle<Pumped, PumpPromise>,
+}
+
+/// What a client's thread runs.
+pub fn follow_script<S: Script + Drop, R: Wait>(
+    rt: &R,
+    alloc: Global,
+    book: &Book,
+    pass: Pass,
+    script: S,
+) -> Done
+    requires { pass.book ≡ book.now.id }
+    ensures { Did pass result }
+{
+    let (mut pass, mut script) = (pass, script);
+    let made = client(rt, alloc, book, &mut pass, &mut script);
+    Done { pass, made }
+}
+
+/// What a pump's thread runs.
+pub fn follow_task<C: Wire + Drop, R: Wait>(
+    rt: &R,
+    alloc: Global,
+    book: &Book,
+    pass: Pass,
+    job: PumpJob<C>,
+    at_work: &AtomicU32,
+) -> Pumped
+    requires { BelongTogether book.now pass job.task.pump }
+    ensures { Returned pass job.task.pump.charges result }
+{
+    let PumpJob { task, wire } = job;
+    wire.drive(rt, alloc, book, pass, task, at_work)
+}
+
+/// Drives a pump over its link.
+#[tactic(auto, using(crate::proofs::Crews::told_all, crate::proofs::Crews::made_kept))]
+pub fn drive<L: Link + Drop, R: Wait>(
+    rt: &R,
+    alloc: Global,
+    book: &Book,
+    pass: Pass,
+    task: Task,
+    link: L,
+    at_work: &AtomicU32,
+) -> Pumped
+    requires { BelongTogether book.now pass task.pump }
+    ensures { Returned pass task.pump.charges result }
+{
+    let Task {
+        pump,
+        plan,
+        source,
+        streams,
+    } = task;
+    let mut engine = Engine {
+        pump,
+        link,
+        plan,
+        source,
+        turns: 0,
+        incarnation: 0,
+    };
+    let mut pass = pass;
+    let mut tally = Tally {
+        made: Vec::new(alloc),
+        link_faults: 0,
+        busy: 0,
+    };
+    let worked = engine.work(
+        rt,
+        alloc,
+        book,
+        &mut pass,
+        streams.as_slice(),
+        at_work,
+        &mut tally,
+    );
+    let Tally {
+        made,
+        link_faults,
+        busy,
+    } = tally;
+    let Engine { pump, .. } = engine;
+    Pumped {
+        pass,
+        charges: pump.finish(),
+        made: kept(worked, made),
+        is_cut_off: false,
+        link_faults,
+        busy,
+    }
+}
+
+/// What comes back where there is no link.
+pub fn cut_off(alloc: Global, pass: Pass, task: Task) -> Pumped
+    ensures { Returned pass task.pump.charges result }
+{
+    let Task { pump, .. } = task;
+    Pumped {
+        pass,
+        charges: pump.finish(),
+        made: Ok(Vec::new(alloc)),
+        is_cut_off: true,
+        link_faults: 0,
+        busy: 0,
+    }
+}
+
+/// The list, unless memory was refused.
+fn kept(
+    worked: Result<(), NoMemory>,
+    made: Vec<(u64, Event)>,
+) -> Result<Vec<(u64, Event)>, NoMemory>
+    ensures { IfOk result (λ m. m.items ≡ made.items) }
+{
+    match worked {
+        Ok(()) => Ok(made),
+        Err(NoMemory) => Err(NoMemory),
+    }
+}
