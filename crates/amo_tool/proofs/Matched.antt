@@ -1,11 +1,31 @@
 -- What the matches of a command tell of its arguments.
-use Rattle.std.proofs.Common.{◌≡◌, ◌∙◌, Option, sym}
+use Rattle.std.proofs.Common.{◌≡◌, ◌∙◌, Bool, true, false, codes, Option, Some, None, Result, Ok, refl, rules, subst, sym}
 use Rattle.std.specs.Option.{option_map}
+use Rattle.std.specs.Prelude.{IfNone, MatchBool, if◌then◌else◌}
 use Rattle.std.specs.Borrow.{Bor}
-use Rattle.clap.specs.Words.{Text, first_of, first_value, rows_of}
+use Rattle.clap.specs.Words.{ReadsOne, Text, first_of, first_value, rows_of}
 use Rattle.clap.specs.declared.parser.matches.Found.{Found}
 use Rattle.clap.proofs.WalkLemmas.{first_value-rows}
 
 -- the first value, by the rows
 pub first_text : (found : Found) (name : Text) (o : Option (Bor Text)) (text : Option Text) → option_map (λ s. s.now) o ≡ first_value found name → option_map (λ s. s.now) o ≡ text → first_of name (rows_of found) ≡ text
 first_text found name o text given is = sym (first_value-rows found name) ∙ (sym given ∙ is)
+
+-- a value was read from a text
+pub read_one : {A E : Type 0} (G : Text → Result A E → Type 0) (o : Option Text) (r : Option A) (x : A) → (o ≡ None → r ≡ None) → ((t : Text) → o ≡ Some t → ReadsOne G t r) → r ≡ Some x → (t : Text) × (o ≡ Some t) × G t (Ok x)
+read_one G None r x none value is = let e : None ≡ Some x = sym (none refl) ∙ is in absurd (search rules)
+read_one G (Some t) r x none value is = (t, refl, subst (λ s. ReadsOne G t s) is (value t refl))
+
+-- the text of a flag
+pub flag_text : (flag : Bool) (t : Text) → MatchBool flag (t ≡ codes "true") (t ≡ codes "false") → t ≡ (if flag then codes "true" else codes "false")
+flag_text true t is = is
+flag_text false t is = is
+
+-- one value is one text
+pub same_text : (o : Option Text) (s t : Text) → o ≡ Some s → o ≡ Some t → s ≡ t
+same_text o s t a b = let both : Some s ≡ Some t = sym a ∙ b in search rules
+
+-- what holds where there is none, and what follows from it
+pub if_none : {A : Type 0} {P Q : Type 0} (o : Option A) → (P → Q) → IfNone o P → IfNone o Q
+if_none None f h = f h
+if_none (Some x) f h = h

@@ -1,13 +1,25 @@
 -- What the program's arguments choose.
-use Rattle.std.specs.Prelude.{◌≡◌, List, Option, Some, codes, option_map, string_bytes}
-use Rattle.clap.specs.Words.{Row, Text, first_of, subcommand_of}
-use Rattle.amo_tool.specs.Commands.{amo}
+use Rattle.std.specs.Prelude.{◌≡◌, ℕ, Bool, if◌then◌else◌, List, Option, Some, codes, length, option_map, string_bytes}
+use Rattle.hex.specs.Hex.{IsBytes}
+use Rattle.std.specs.Str.Parse.{digits_value, without_leading_plus}
+use Rattle.clap.specs.Words.{Row, Text, first_of, one_of, subcommand_of, subcommand_rows_of}
+use Rattle.clap.specs.declared.parser.matches.ArgMatches.{ArgMatches}
+use Rattle.amo_text.specs.Hexadecimal.{hex}
+use Rattle.amo_run.specs.Settings.{AreWithin}
+use Rattle.amo_run.specs.declared.settings.LinkKind.{LinkKind}
+use Rattle.amo_run.specs.declared.settings.LinkKind.TheVariants.{Memory, Udp}
+use Rattle.amo_run.specs.declared.settings.RunSettings.{RunSettings}
+use Rattle.amo_tool.specs.Commands.{Names, AreLinks, amo}
 use Rattle.amo_tool.specs.declared.choice.Settings.{Settings}
-use Rattle.amo_tool.specs.declared.choice.Settings.TheVariants.{Replay, Audit, Explain}
+use Rattle.amo_tool.specs.declared.choice.Settings.TheVariants.{Replay, Run, Audit, Explain}
 
 -- the match of the arguments has this command, with these matches of its own
 abbrev pub HasCommand : List Text → Text → List Row → Type 0
-HasCommand arguments name rows = subcommand_of amo arguments ≡ Some (name, rows)
+HasCommand arguments name rows = (links : Names) × AreLinks links × (subcommand_of (amo links) arguments ≡ Some (name, rows))
+
+-- the command that was met and its matches are those of the arguments
+abbrev pub Matches : List Text → ArgMatches → Type 0
+Matches arguments matches = (links : Names) × AreLinks links × (subcommand_rows_of matches ≡ subcommand_of (amo links) arguments)
 
 -- the first value of an argument of this name
 abbrev pub HasText : List Row → Text → Text → Type 0
@@ -17,8 +29,50 @@ HasText rows name text = first_of name rows ≡ Some text
 abbrev pub HasTextOrNone : List Row → Text → Option Text → Type 0
 HasTextOrNone rows name text = first_of name rows ≡ text
 
+-- the value of an argument of this name, read as a number
+abbrev pub HasNumber : List Row → Text → ℕ → Type 0
+HasNumber rows name number = (text : Text) × (one_of name rows ≡ Some text) × (digits_value 10 (without_leading_plus text) ≡ number)
+
+-- whether the flag of this name is there
+abbrev pub HasFlag : List Row → Text → Bool → Type 0
+HasFlag rows name flag = one_of name rows ≡ Some (if flag then codes "true" else codes "false")
+
+abbrev pub link_name : LinkKind → Text
+link_name Memory = codes "memory"
+link_name Udp = codes "udp"
+
+-- the matches of `run` have these values, each within its limits
+pub record HasSettings (rows : List Row) (settings : RunSettings) : Type 0 where
+  pub streams : HasNumber rows (codes "streams") settings.streams
+  pub clients : HasNumber rows (codes "clients") settings.clients
+  pub crashes : HasNumber rows (codes "crashes") settings.crashes
+  pub seed : HasText rows (codes "seed") (hex settings.seed)
+  pub link : HasText rows (codes "link") (link_name settings.link)
+  pub pumps : HasNumber rows (codes "pumps") settings.pumps
+  pub split : HasFlag rows (codes "split") settings.split
+  pub within : AreWithin settings
+
+-- the matches of `run` have the values of these settings
+abbrev pub ChoosesRun : List Row → Settings → Type 0
+ChoosesRun rows (Run settings file) = HasSettings rows settings × HasText rows (codes "journal") (string_bytes file)
+ChoosesRun rows _ = ⊥
+
+-- the matches of `run` have no seed: its text spells no 32 bytes
+abbrev pub HasNoSeed : List Row → Type 0
+HasNoSeed rows = (seed : List ℕ) → IsBytes seed → length seed ≡ 32 → HasText rows (codes "seed") (hex seed) → ⊥
+
+-- the match of the arguments is one of `run`, without a seed
+abbrev pub LacksSeed : List Text → Type 0
+LacksSeed arguments = (rows : List Row) × HasCommand arguments (codes "run") rows × HasNoSeed rows
+
 abbrev pub Chooses : List Text → Settings → Type 0
 Chooses arguments (Replay file) = (rows : List Row) × HasCommand arguments (codes "replay") rows × HasText rows (codes "FILE") (string_bytes file)
+Chooses arguments (Run settings file) = (rows : List Row) × HasCommand arguments (codes "run") rows × ChoosesRun rows (Run settings file)
 Chooses arguments (Audit file second) = (rows : List Row) × HasCommand arguments (codes "audit") rows
     × HasText rows (codes "FILE") (string_bytes file) × HasTextOrNone rows (codes "SECOND") (option_map string_bytes second)
 Chooses arguments (Explain file) = (rows : List Row) × HasCommand arguments (codes "explain") rows × HasText rows (codes "FILE") (string_bytes file)
+
+-- what is asked of a run is within its limits
+abbrev pub IsWithin : Settings → Type 0
+IsWithin (Run settings file) = AreWithin settings
+IsWithin _ = Unit {0}

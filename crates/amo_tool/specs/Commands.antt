@@ -1,9 +1,11 @@
 -- The program's commands, as `clap` defines their matches.
-use Rattle.std.specs.Prelude.{◌≡◌, true, false, codes, Some}
-use Rattle.clap.specs.Words.{App, Rule, app_of, new_app, new_rule, with_rule, with_subcommand}
-use Rattle.clap.specs.declared.builder.action.ArgAction.TheVariants.{Set}
+use Rattle.std.specs.Prelude.{◌≡◌, ℕ, true, false, codes, Some, List, [], ◌∷◌, map}
+use Rattle.std.specs.Borrow.{Bor}
+use Rattle.clap.specs.Words.{App, Rule, Text, app_of, new_app, new_rule, with_rule, with_subcommand}
+use Rattle.clap.specs.declared.builder.action.ArgAction.TheVariants.{Set, SetTrue}
 use Rattle.clap.specs.declared.builder.command.Command.{Command}
 use Rattle.clap.specs.declared.builder.command.Command.TheViews.{out-Command}
+use Rattle.clap.specs.declared.builder.value_parser.ValueParser.TheVariants as parser
 
 -- FILE: required, with one value
 abbrev pub file : Rule
@@ -13,8 +15,45 @@ file = record (new_rule (codes "FILE")) { required = true; action = Some Set }
 abbrev pub second_file : Rule
 second_file = record (new_rule (codes "SECOND")) { value_names = 1; action = Some Set }
 
+-- an option that is required, with one value
+abbrev pub text : Text → Rule
+text name = record (new_rule name) { long = Some name; value_names = 1; required = true; action = Some Set }
+
+-- the same, the value being a number from `low` to `high`
+abbrev pub number : Text → ℕ → ℕ → Rule
+number name low high = record (text name) { parser = Some (parser.Unsigned low high) }
+
+-- --pumps: a number from 1 to 4, and 1 where it is absent
+abbrev pub pumps : Rule
+pumps = record (new_rule (codes "pumps")) { long = Some (codes "pumps"); value_names = 1; defaults = codes "1" ∷ []; action = Some Set; parser = Some (parser.Unsigned 1 4) }
+
+-- --split: it is there, or it is not
+abbrev pub split : Rule
+split = record (new_rule (codes "split")) { long = Some (codes "split"); action = Some SetTrue }
+
+-- a list of texts in memory
+abbrev pub Names : Type 0
+Names = Bor (List (Bor Text))
+
+-- what may carry the packets
+abbrev pub AreLinks : Names → Type 0
+AreLinks names = map (λ name. name.now) names.now ≡ codes "memory" ∷ codes "udp" ∷ []
+
+-- --link: required, the value being one of these names
+abbrev pub link : Names → Rule
+link names = record (text (codes "link")) { parser = Some (parser.Names names) }
+
+abbrev pub IsLink : Rule → Type 0
+IsLink rule = (names : Names) × AreLinks names × (rule ≡ link names)
+
 abbrev pub replay : App
 replay = with_rule (new_app (codes "replay")) file
+
+abbrev pub run_before_link : App
+run_before_link = with_rule (with_rule (with_rule (with_rule (new_app (codes "run")) (number (codes "streams") 1 256)) (number (codes "clients") 1 56)) (number (codes "crashes") 0 1000)) (text (codes "seed"))
+
+abbrev pub run : Names → App
+run links = with_rule (with_rule (with_rule (with_rule run_before_link (link links)) (text (codes "journal"))) pumps) split
 
 abbrev pub audit : App
 audit = with_rule (with_rule (new_app (codes "audit")) file) second_file
@@ -26,9 +65,15 @@ explain = with_rule (new_app (codes "explain")) file
 abbrev pub bare : App
 bare = let app = new_app (codes "amo") in record app { top = record app.top { has_version = true; subcommand_required = true; arg_required_else_help = true } }
 
-abbrev pub amo : App
-amo = with_subcommand (with_subcommand (with_subcommand bare replay.top) audit.top) explain.top
+abbrev pub amo : Names → App
+amo links = with_subcommand (with_subcommand (with_subcommand (with_subcommand bare replay.top) (run links).top) audit.top) explain.top
 
 -- the command is this one, and shares no argument with commands below it
 abbrev pub IsCommand : App → Command → Type 0
 IsCommand app command = (app_of command ≡ app) × ((out-Command command).has_globals ≡ false)
+
+abbrev pub IsRun : Command → Type 0
+IsRun command = (links : Names) × AreLinks links × IsCommand (run links) command
+
+abbrev pub IsAmo : Command → Type 0
+IsAmo command = (links : Names) × AreLinks links × (app_of command ≡ amo links)

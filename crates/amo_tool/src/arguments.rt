@@ -1,24 +1,31 @@
 //! Reads the program's arguments.
-ghost use Rattle.std.specs.Prelude.{codes, IfErr, IfOk, map, option_map, string_bytes};
+ghost use Rattle.std.specs.Prelude.{◌≢◌, ◌≤◌, codes, IfErr, IfNone, IfOk, IfSome, IsErrOf, map, option_map, string_bytes};
 ghost use Rattle.clap.specs.Words.{found_of, rows_of};
+ghost use Rattle.amo_text.specs.Hexadecimal.{hex};
 ghost use Rattle.amo_tool.specs.Arguments.{HasStatus};
-ghost use Rattle.amo_tool.specs.Chosen.{Chooses, HasText, HasTextOrNone};
+ghost use Rattle.amo_tool.specs.Chosen.{Chooses, ChoosesRun, HasFlag, HasNoSeed, HasNumber, HasText, HasTextOrNone, LacksSeed, Matches, link_name};
 
 use crate::choice::{ArgumentsFault, Settings};
-use crate::commands::command;
+use crate::commands::{CLIENTS, CRASHES, PUMPS, STREAMS, command};
+use amo_run::{LinkKind, RunSettings};
+use amo_text::laws::hex_is_injective;
+use amo_text::read_hex;
 use clap::error::ErrorKind;
 use clap::{ArgMatches, Error};
 use std::alloc::{AllocError, Global};
 
 /// Reads the arguments, the program's name first.
 pub fn settings(alloc: Global, arguments: Vec<String>) -> Result<Settings, ArgumentsFault>
-    // The command and its values are those of the match that `clap` defines for these arguments.
+    // The command and its values are those of the match that `clap` defines for these arguments, each within its limits.
     ensures chosen { IfOk result (λ chosen. Chooses (map string_bytes arguments.items) chosen) }
     ensures status { IfErr result HasStatus }
+    // A seed is blamed only where all else is right, and it is no seed.
+    ensures seed { IsErrOf result ArgumentsFault.Seed → LacksSeed (map string_bytes arguments.items) }
 {
     match parse(alloc, arguments.as_slice()) {
-        Ok(settings) => Ok(settings),
-        Err(error) => Err(refusal(alloc, &error)),
+        Ok(Some(settings)) => Ok(settings),
+        Ok(None) => Err(ArgumentsFault::Seed),
+        Err(error) => Err(refused(alloc, &error)),
     }
 }
 
@@ -27,7 +34,7 @@ pub fn not_text(alloc: Global) -> ArgumentsFault
     ensures status { HasStatus result }
 {
     match error_about(alloc, "invalid UTF-8 was detected in one or more arguments") {
-        Ok(error) => refusal(alloc, &error),
+        Ok(error) => refused(alloc, &error),
         Err(AllocError) => ArgumentsFault::NoMemory,
     }
 }
@@ -38,22 +45,60 @@ fn error_about(alloc: Global, message: &str) -> Result<Error, AllocError> {
     command.error(ErrorKind::ValueValidation, message)
 }
 
-/// The settings that the arguments choose.
-fn parse(alloc: Global, arguments: &[String]) -> Result<Settings, Error>
-    ensures chosen { IfOk result (λ chosen. Chooses (map string_bytes arguments.now) chosen) }
+/// The settings that the arguments choose; none where they have no seed for a run.
+fn parse(alloc: Global, arguments: &[String]) -> Result<Option<Settings>, Error>
+    ensures chosen { IfOk result (λ chosen. IfSome chosen (Chooses (map string_bytes arguments.now))) }
+    ensures seed { IfOk result (λ chosen. IfNone chosen (LacksSeed (map string_bytes arguments.now))) }
 {
-    let matches = command(alloc)?.try_get_matches_from(arguments)?;
+    let matches = matches_of(alloc, arguments)?;
     if let Some(replay) = matches.subcommand_matches("replay") {
-        return Ok(Settings::Replay(text_of(alloc, replay, "FILE")?));
+        return Ok(Some(Settings::Replay(text_of(alloc, replay, "FILE")?)));
+    }
+    if let Some(run) = matches.subcommand_matches("run") {
+        return parse_run(alloc, run);
     }
     if let Some(audit) = matches.subcommand_matches("audit") {
         let file = text_of(alloc, audit, "FILE")?;
-        return Ok(Settings::Audit(file, second_file_of(alloc, audit)?));
+        return Ok(Some(Settings::Audit(file, second_file_of(alloc, audit)?)));
     }
     match matches.subcommand_matches("explain") {
-        Some(explain) => Ok(Settings::Explain(text_of(alloc, explain, "FILE")?)),
+        Some(explain) => Ok(Some(Settings::Explain(text_of(alloc, explain, "FILE")?))),
         None => Err(beyond(alloc)?),
     }
+}
+
+/// The match of the arguments.
+fn matches_of<'a>(alloc: Global, arguments: &'a [String]) -> Result<ArgMatches<'a>, Error>
+    ensures { IfOk result (Matches (map string_bytes arguments.entry.now)) }
+{
+    command(alloc)?.try_get_matches_from(arguments)
+}
+
+/// The settings that the arguments of `run` choose; none where they have no seed.
+fn parse_run(alloc: Global, matches: &ArgMatches<'_>) -> Result<Option<Settings>, Error>
+    ensures chosen { IfOk result (λ chosen. IfSome chosen (ChoosesRun (rows_of (found_of matches.now)))) }
+    ensures seed { IfOk result (λ chosen. IfNone chosen (HasNoSeed (rows_of (found_of matches.now)))) }
+{
+    let streams = number_of(alloc, matches, "streams", 1, STREAMS)?;
+    let clients = number_of(alloc, matches, "clients", 1, CLIENTS)?;
+    let crashes = number_of(alloc, matches, "crashes", 0, CRASHES)?;
+    let link = link_of(alloc, matches)?;
+    let journal = text_of(alloc, matches, "journal")?;
+    let pumps = number_of(alloc, matches, "pumps", 1, PUMPS)?;
+    let split = flag_of(alloc, matches, "split")?;
+    let Some(seed) = seed_of(alloc, matches)? else {
+        return Ok(None);
+    };
+    let settings = RunSettings {
+        streams,
+        clients,
+        crashes,
+        seed,
+        link,
+        pumps,
+        split,
+    };
+    Ok(Some(Settings::Run(settings, journal)))
 }
 
 /// The text of an argument of a command.
@@ -76,14 +121,71 @@ fn second_file_of(alloc: Global, matches: &ArgMatches<'_>) -> Result<Option<Stri
     }
 }
 
-/// The error of a match that `clap` does not give: it has a command and each required argument.
+/// The number of an argument, from `low` to `high`.
+fn number_of(
+    alloc: Global,
+    matches: &ArgMatches<'_>,
+    name: &str,
+    low: u32,
+    high: u32,
+) -> Result<u32, Error>
+    ensures { IfOk result (λ number. HasNumber (rows_of (found_of matches.now)) name.now number × (low ≤ number) × (number ≤ high)) }
+{
+    match matches.get_one::<u32>(name) {
+        Some(number) if low <= number && number <= high => Ok(number),
+        _ => Err(beyond(alloc)?),
+    }
+}
+
+/// The seed of a run; none where its text spells no 32 bytes.
+fn seed_of(alloc: Global, matches: &ArgMatches<'_>) -> Result<Option<[u8; 32]>, Error>
+    ensures seed { IfOk result (λ seed. IfSome seed (λ bytes. HasText (rows_of (found_of matches.now)) (codes "seed") (hex bytes))) }
+    ensures none { IfOk result (λ seed. IfNone seed (HasNoSeed (rows_of (found_of matches.now)))) }
+{
+    let Some(text) = matches.get_str("seed") else {
+        return Err(beyond(alloc)?);
+    };
+    let mut seed = [0; 32];
+    match read_hex(text.as_bytes(), seed.as_mut_slice()) {
+        Some(32) => Ok(Some(seed)),
+        Some(_) => {
+            hex_is_injective();
+            Ok(None)
+        }
+        None => Ok(None),
+    }
+}
+
+/// What carries the packets of a run.
+fn link_of(alloc: Global, matches: &ArgMatches<'_>) -> Result<LinkKind, Error>
+    ensures { IfOk result (λ link. HasText (rows_of (found_of matches.now)) (codes "link") (link_name link)) }
+{
+    match matches.get_str("link") {
+        Some("memory") => Ok(LinkKind::Memory),
+        Some("udp") => Ok(LinkKind::Udp),
+        _ => Err(beyond(alloc)?),
+    }
+}
+
+/// Whether a flag is there.
+fn flag_of(alloc: Global, matches: &ArgMatches<'_>, name: &str) -> Result<bool, Error>
+    ensures { IfOk result (HasFlag (rows_of (found_of matches.now)) name.now) }
+{
+    match matches.get_one::<bool>(name) {
+        Some(flag) => Ok(flag),
+        None => Err(beyond(alloc)?),
+    }
+}
+
+/// The error of a match that `clap` does not give: it has a command, and each argument's value is what it has to be.
 fn beyond(alloc: Global) -> Result<Error, AllocError> {
     error_about(alloc, "a command or one of its arguments is missing")
 }
 
 /// The text of arguments that did not parse, or of help that was asked for.
-fn refusal(alloc: Global, error: &Error) -> ArgumentsFault
+fn refused(alloc: Global, error: &Error) -> ArgumentsFault
     ensures status { HasStatus result }
+    ensures text { result ≢ ArgumentsFault.Seed }
 {
     if error.kind() == ErrorKind::OutOfMemory {
         return ArgumentsFault::NoMemory;

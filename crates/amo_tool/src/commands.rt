@@ -1,20 +1,34 @@
 //! The program's commands, as they are described to `clap`.
 ghost use Rattle.std.specs.Prelude.{◌≡◌, IfOk, false};
-ghost use Rattle.clap.specs.Words.{app_of, rule_of};
+ghost use Rattle.clap.specs.Words.{app_of, new_app, rule_of};
 ghost use Rattle.amo_tool.specs.Commands as described;
 
 use crate::texts;
+use clap::builder::ValueParser;
 use clap::{Arg, ArgAction, Command};
 use std::alloc::{AllocError, Global};
 
 /// The name that the program goes by in its texts.
 const NAME: &str = "amo";
 
+/// The greatest numbers of a run: of its streams, of its clients, of its crashes, and of the pumps of each host.
+pub(crate) const STREAMS: u32 = 256;
+
+pub(crate) const CLIENTS: u32 = 56;
+
+pub(crate) const CRASHES: u32 = 1000;
+
+pub(crate) const PUMPS: u32 = 4;
+
+/// What may carry the packets of a run.
+static LINKS: [&str; 2] = ["memory", "udp"];
+
 /// The whole program.
 pub(crate) fn command<'a>(alloc: Global) -> Result<Command<'a>, AllocError>
-    ensures { IfOk result (λ c. app_of c ≡ described.amo) }
+    ensures { IfOk result described.IsAmo }
 {
     let replay = replay(alloc)?;
+    let run = run(alloc)?;
     let audit = audit(alloc)?;
     let explain = explain(alloc)?;
     Command::new(alloc, NAME)
@@ -25,6 +39,7 @@ pub(crate) fn command<'a>(alloc: Global) -> Result<Command<'a>, AllocError>
         .subcommand_required(true)
         .arg_required_else_help(true)
         .subcommand(replay)?
+        .subcommand(run)?
         .subcommand(audit)?
         .subcommand(explain)
 }
@@ -32,18 +47,56 @@ pub(crate) fn command<'a>(alloc: Global) -> Result<Command<'a>, AllocError>
 fn replay<'a>(alloc: Global) -> Result<Command<'a>, AllocError>
     ensures { IfOk result (described.IsCommand described.replay) }
 {
-    Command::new(alloc, "replay")
-        .about(texts::REPLAY_ABOUT)
-        .after_help(texts::REPLAY_AFTER_HELP)
-        .arg(file(alloc, "The schedule"))
+    with_texts(
+        alloc,
+        "replay",
+        texts::REPLAY_ABOUT,
+        texts::REPLAY_AFTER_HELP,
+    )
+    .arg(file(alloc, "The schedule"))
+}
+
+fn run<'a>(alloc: Global) -> Result<Command<'a>, AllocError>
+    ensures { IfOk result described.IsRun }
+{
+    with_texts(alloc, "run", texts::RUN_ABOUT, texts::RUN_AFTER_HELP)
+        .arg(number(
+            alloc,
+            "streams",
+            1,
+            STREAMS,
+            "The number of streams, 1 to 256",
+        ))?
+        .arg(number(
+            alloc,
+            "clients",
+            1,
+            CLIENTS,
+            "The number of clients, 1 to 56",
+        ))?
+        .arg(number(
+            alloc,
+            "crashes",
+            0,
+            CRASHES,
+            "The number of crashes, 0 to 1000",
+        ))?
+        .arg(text(
+            alloc,
+            "seed",
+            "HEX",
+            "What identifiers and losses are drawn from, 64 digits",
+        ))?
+        .arg(link(alloc))?
+        .arg(text(alloc, "journal", "FILE", "Where the journal goes"))?
+        .arg(pumps(alloc))?
+        .arg(split(alloc))
 }
 
 fn audit<'a>(alloc: Global) -> Result<Command<'a>, AllocError>
     ensures { IfOk result (described.IsCommand described.audit) }
 {
-    Command::new(alloc, "audit")
-        .about(texts::AUDIT_ABOUT)
-        .after_help(texts::AUDIT_AFTER_HELP)
+    with_texts(alloc, "audit", texts::AUDIT_ABOUT, texts::AUDIT_AFTER_HELP)
         .arg(file(alloc, "The journal"))?
         .arg(second_file(alloc))
 }
@@ -51,10 +104,27 @@ fn audit<'a>(alloc: Global) -> Result<Command<'a>, AllocError>
 fn explain<'a>(alloc: Global) -> Result<Command<'a>, AllocError>
     ensures { IfOk result (described.IsCommand described.explain) }
 {
-    Command::new(alloc, "explain")
-        .about(texts::EXPLAIN_ABOUT)
-        .after_help(texts::EXPLAIN_AFTER_HELP)
-        .arg(file(alloc, "The journal"))
+    with_texts(
+        alloc,
+        "explain",
+        texts::EXPLAIN_ABOUT,
+        texts::EXPLAIN_AFTER_HELP,
+    )
+    .arg(file(alloc, "The journal"))
+}
+
+/// The command of this name, without arguments, and what help says of it.
+fn with_texts<'a>(
+    alloc: Global,
+    name: &'static str,
+    about: &'static str,
+    after_help: &'static str,
+) -> Command<'a>
+    ensures { described.IsCommand (new_app name.entry.now) result }
+{
+    Command::new(alloc, name)
+        .about(about)
+        .after_help(after_help)
 }
 
 /// The argument that names a command's file.
@@ -77,4 +147,70 @@ fn second_file<'a>(alloc: Global) -> Arg<'a>
         .value_name("FILE")
         .help("The journal of a second process")
         .action(ArgAction::Set)
+}
+
+/// The option of this name, whose value is a number from `low` to `high`.
+fn number<'a>(alloc: Global, name: &'static str, low: u32, high: u32, help: &'static str) -> Arg<'a>
+    ensures rule { rule_of result ≡ described.number name.entry.now low high }
+    ensures local { result.global ≡ false }
+{
+    Arg::new(alloc, name)
+        .long(name)
+        .value_name("N")
+        .help(help)
+        .required(true)
+        .action(ArgAction::Set)
+        .value_parser(ValueParser::unsigned(u64::from(low), u64::from(high)))
+}
+
+/// The option of this name, whose value is any text.
+fn text<'a>(alloc: Global, name: &'static str, value: &'static str, help: &'static str) -> Arg<'a>
+    ensures rule { rule_of result ≡ described.text name.entry.now }
+    ensures local { result.global ≡ false }
+{
+    Arg::new(alloc, name)
+        .long(name)
+        .value_name(value)
+        .help(help)
+        .required(true)
+        .action(ArgAction::Set)
+}
+
+/// The option that names what carries the packets.
+fn link<'a>(alloc: Global) -> Arg<'a>
+    ensures rule { described.IsLink (rule_of result) }
+    ensures local { result.global ≡ false }
+{
+    Arg::new(alloc, "link")
+        .long("link")
+        .value_name("LINK")
+        .help("What carries the packets")
+        .required(true)
+        .action(ArgAction::Set)
+        .value_parser(ValueParser::Names(LINKS.as_slice()))
+}
+
+/// The option that tells how many pumps a host has.
+fn pumps<'a>(alloc: Global) -> Arg<'a>
+    ensures rule { rule_of result ≡ described.pumps }
+    ensures local { result.global ≡ false }
+{
+    Arg::new(alloc, "pumps")
+        .long("pumps")
+        .value_name("N")
+        .help("The number of pumps of each host, 1 to 4")
+        .default_value("1")
+        .action(ArgAction::Set)
+        .value_parser(ValueParser::unsigned(1, u64::from(PUMPS)))
+}
+
+/// The option that gives each host a book and a journal of its own.
+fn split<'a>(alloc: Global) -> Arg<'a>
+    ensures rule { rule_of result ≡ described.split }
+    ensures local { result.global ≡ false }
+{
+    Arg::new(alloc, "split")
+        .long("split")
+        .help("Gives each host a book and a journal of its own, FILE.s and FILE.r")
+        .action(ArgAction::SetTrue)
 }

@@ -1,6 +1,8 @@
 //! Why the program fails.
 use amo_audit::JournalFault;
 use amo_replay::ToolFault;
+use amo_run::RunFault;
+use std::alloc::AllocError;
 use std::io;
 use std::io::ErrorKind;
 use thiserror::Error;
@@ -8,13 +10,13 @@ use thiserror::Error;
 /// Why the program cannot end what it was asked for. Standard error gets its text, and the status is 4.
 #[derive(Clone, Copy, Debug, PartialEq, Eq, Error)]
 pub(crate) enum Failure {
-    /// Memory was refused.
+    /// Memory or a thread was refused.
     #[error("amo: out of memory")]
     NoMemory,
     /// Another call was at work at a side of the book.
     #[error("amo: busy")]
     Busy,
-    /// A file or standard output failed.
+    /// A file, a socket or standard output failed.
     #[error("amo: device")]
     Device,
 }
@@ -35,6 +37,21 @@ impl From<JournalFault> for Failure {
             JournalFault::NoMemory => Failure::NoMemory,
             _ => Failure::Device,
         }
+    }
+}
+
+impl From<RunFault> for Failure {
+    fn from(fault: RunFault) -> Failure {
+        match fault {
+            RunFault::NoMemory => Failure::NoMemory,
+            RunFault::Device => Failure::Device,
+        }
+    }
+}
+
+impl From<AllocError> for Failure {
+    fn from(_: AllocError) -> Failure {
+        Failure::NoMemory
     }
 }
 

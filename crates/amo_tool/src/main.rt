@@ -1,9 +1,12 @@
-//! The program `amo`: replays schedules on a book with both sides of 256 streams, and prints what they reply and emit; and
-//! audits and explains journals. It opens no socket and starts no thread yet.
+//! The program `amo`: replays schedules on a book with both sides of 256 streams, and prints what they reply and emit; runs the
+//! service between two hosts, and keeps a journal; and audits and explains journals.
 //!
-//! `arguments` reads the program's arguments, which `commands` describes, and `choice` is what they choose. `replaying` and
-//! `judging` do it, and `failure` is why they cannot.
+//! `arguments` reads the program's arguments, which `commands` describes, and `choice` is what they choose. `replaying`, `running`
+//! and `judging` do it, and `failure` is why they cannot.
 #![tactic(auto)]
+
+ghost use Rattle.std.specs.Prelude.{IfOk};
+ghost use Rattle.amo_tool.specs.Chosen.{IsWithin};
 
 mod arguments;
 mod choice;
@@ -11,6 +14,7 @@ mod commands;
 mod failure;
 mod judging;
 mod replaying;
+mod running;
 #[cfg(test)]
 mod tests;
 mod texts;
@@ -20,20 +24,30 @@ use crate::choice::{ArgumentsFault, Settings};
 use crate::failure::Failure;
 use crate::judging::{audit_files, explain_file};
 use crate::replaying::replay_file;
+use crate::running::run_to_file;
 use std::env;
 use std::io::{ErrorKind, Write};
+use std::net::Net;
 use std::process::ExitCode;
 use std::rt::{Env, Files};
+use std::sync::Wait;
+use std::thread::Threads;
+
+/// The status of refused arguments.
+const REFUSED: u8 = 2;
 
 /// The status of a failure.
 const FAILED: u8 = 4;
 
 fn main(rt: HostRuntime) -> ExitCode {
-    ExitCode::from(run(&rt, rt.stderr()))
+    ExitCode::from(obey(&rt, rt.stderr()))
 }
 
 /// Does what the program's arguments ask for, and answers the status to end with.
-fn run<R: AllocGlobal + Env + Files + Print + Eprint, E: Write + Drop>(rt: &R, errors: E) -> u8 {
+fn obey<
+    R: AllocGlobal + Env + Files + Print + Eprint + Threads + Wait + Net + Sync,
+    E: Write + Drop,
+>(rt: &R, errors: E) -> u8 {
     let done = match choose(rt) {
         Ok(Settings::Replay(file)) => replay_file(rt, file.as_str(), errors),
         Ok(Settings::Audit(file, second)) => {
@@ -41,7 +55,12 @@ fn run<R: AllocGlobal + Env + Files + Print + Eprint, E: Write + Drop>(rt: &R, e
             audit_files(rt, file.as_str(), second)
         }
         Ok(Settings::Explain(file)) => explain_file(rt, file.as_str(), errors),
+        Ok(Settings::Run(settings, file)) => run_to_file(rt, &settings, file.as_str()),
         Err(ArgumentsFault::Text(text, status)) => show(rt, text.as_str(), status),
+        Err(ArgumentsFault::Seed) => {
+            let _ = rt.eprintln(ArgumentsFault::Seed);
+            Ok(REFUSED)
+        }
         Err(ArgumentsFault::NoMemory) => Err(Failure::NoMemory),
     };
     match done {
@@ -54,7 +73,10 @@ fn run<R: AllocGlobal + Env + Files + Print + Eprint, E: Write + Drop>(rt: &R, e
 }
 
 /// The settings that the program's arguments choose.
-fn choose<R: AllocGlobal + Env>(rt: &R) -> Result<Settings, ArgumentsFault> {
+#[tactic(auto, using(crate::proofs::Within::within))]
+fn choose<R: AllocGlobal + Env>(rt: &R) -> Result<Settings, ArgumentsFault>
+    ensures { IfOk result IsWithin }
+{
     let arguments = match env::args(rt) {
         Ok(arguments) => arguments.collect(rt.alloc()),
         Err(error) if error.kind() == ErrorKind::InvalidData => return Err(not_text(rt.alloc())),

@@ -1,6 +1,7 @@
 //! The program's arguments.
 use crate::arguments::settings;
 use crate::choice::{ArgumentsFault, Settings};
+use amo_run::{LinkKind, RunSettings};
 use std::alloc::{AllocError, Global};
 use std::test::Fail;
 
@@ -19,6 +20,7 @@ Usage: amo <COMMAND>
 
 Commands:
   replay   Replays a schedule, and prints a line for each event
+  run      Runs the service between two hosts that crash, and keeps a journal of what happened
   audit    Audits a journal, or those of two processes, and prints a line with the verdict
   explain  Explains a journal: what the at-most-once queue did for each stream
   help     Print this message or the help of the given subcommand(s)
@@ -29,6 +31,8 @@ Options:
 
 Examples:
   amo replay examples/handshake.schedule
+  amo run --streams 8 --clients 16 --crashes 20 --link udp --journal run.journal \\
+    --seed 0000000000000000000000000000000000000000000000000000000000000000
   amo audit examples/good_journal.journal
   amo explain examples/good_journal.journal
 
@@ -38,9 +42,10 @@ Status:
   2  a malformed schedule or journal, a gap in a journal, two journals of one side, or arguments
      that do not parse
   3  a premise is broken: a packet that nobody emitted, or a word used twice
-  4  out of memory, busy, or a file or standard output that cannot be opened, read or written
+  4  out of memory, busy, or a file, a socket or standard output that cannot be opened, read or
+     written
 
-Faults go to standard error. `amo: device` is a file or standard output that failed,
+Faults go to standard error. `amo: device` is a file, a socket or standard output that failed,
 also where there is no such file.
 ";
 
@@ -85,6 +90,53 @@ Status:
 
 Example:
   amo replay examples/handshake.schedule
+";
+
+const RUN_HELP: &str =
+    "Runs the service between two hosts that crash, and keeps a journal of what happened
+
+Usage: amo run [OPTIONS] --streams <N> --clients <N> --crashes <N> --seed <HEX> --link <LINK> --journal <FILE>
+
+Options:
+      --streams <N>     The number of streams, 1 to 256
+      --clients <N>     The number of clients, 1 to 56
+      --crashes <N>     The number of crashes, 0 to 1000
+      --seed <HEX>      What identifiers and losses are drawn from, 64 digits
+      --link <LINK>     What carries the packets [possible values: memory, udp]
+      --journal <FILE>  Where the journal goes
+      --pumps <N>       The number of pumps of each host, 1 to 4 [default: 1]
+      --split           Gives each host a book and a journal of its own, FILE.s and FILE.r
+  -h, --help            Print help
+
+The senders of all streams are one host, their receivers another. Each pump and each client is a
+thread. Streams are numbered from 1, all else from 0.
+
+Client I works on stream 1 + (I div 2) mod S, S being the number of streams, and makes 1000 calls.
+Where I is even it puts a message and asks what became of it, by turns; else it gets messages.
+
+Crash K hits the senders where K is even, else the receivers, after turn 50 * (K div 2 + 1) of each
+pump there. Ten turns later they recover, with nothing known.
+
+LINK is one of these:
+  memory  a channel that loses, repeats and reorders packets
+  udp     sockets on 127.0.0.1, on ports that the system picks
+
+HEX is 64 lower-case hexadecimal digits. Threads take turns as they may, so that two runs with one
+seed differ.
+
+Output, a line:
+  events E, link faults F  the journals have E events, and faults of the system lost F packets
+
+Status:
+  0  the journal is written; `amo audit` of it prints `yes`
+  2  `amo: seed`: HEX is not 64 lower-case hexadecimal digits
+  4  `amo: out of memory`: memory or a thread was refused
+     `amo: device`: a socket, the journal's file or standard output failed
+
+Example:
+  amo run --streams 8 --clients 16 --crashes 20 --link udp --journal run.journal \\
+    --seed 0000000000000000000000000000000000000000000000000000000000000000
+  amo audit run.journal
 ";
 
 const AUDIT_HELP: &str =
@@ -173,6 +225,19 @@ Example:
   amo explain examples/good_journal.journal
 ";
 
+const NO_OPTIONS: &str = "error: the following required arguments were not provided:
+  --streams <N>
+  --clients <N>
+  --crashes <N>
+  --seed <HEX>
+  --link <LINK>
+  --journal <FILE>
+
+Usage: amo run --streams <N> --clients <N> --crashes <N> --seed <HEX> --link <LINK> --journal <FILE>
+
+For more information, try '--help'.
+";
+
 const NO_FILE: &str = "error: the following required arguments were not provided:
   <FILE>
 
@@ -184,12 +249,14 @@ For more information, try '--help'.
 /// The texts that users see, whole.
 #[test]
 fn shows_its_texts(rt: HostRuntime) -> Result<(), Fail> {
-    let rows: [(&[&str], u8, &str); 8] = [
+    let rows: [(&[&str], u8, &str); 10] = [
         (&["amo"], 2, HELP),
         (&["amo", "--help"], 0, HELP),
         (&["amo", "-h"], 0, HELP),
         (&["amo", "replay"], 2, NO_FILE),
         (&["amo", "replay", "--help"], 0, REPLAY_HELP),
+        (&["amo", "run"], 2, NO_OPTIONS),
+        (&["amo", "run", "--help"], 0, RUN_HELP),
         (&["amo", "audit", "--help"], 0, AUDIT_HELP),
         (&["amo", "explain", "--help"], 0, EXPLAIN_HELP),
         (&["amo", "--version"], 0, "amo 0.1.0\n"),
@@ -234,7 +301,7 @@ fn reads_the_arguments(rt: HostRuntime) -> Result<(), Fail> {
             "unexpected argument 'c'",
         ),
         (&["amo", "explain", "a", "b"], 2, "unexpected argument 'b'"),
-        (&["amo", "run"], 2, "unrecognized subcommand 'run'"),
+        (&["amo", "walk"], 2, "unrecognized subcommand 'walk'"),
     ];
     for (given, status, part) in rows {
         let refused = settings(rt.alloc(), arguments(rt.alloc(), given)?);
@@ -246,11 +313,184 @@ fn reads_the_arguments(rt: HostRuntime) -> Result<(), Fail> {
     Ok(())
 }
 
+const ZEROS: &str = "0000000000000000000000000000000000000000000000000000000000000000";
+
+/// The arguments of a run with these values for its six required options, and these options behind them.
+fn run_arguments(
+    alloc: Global,
+    values: [&str; 6],
+    more: &[&str],
+) -> Result<Vec<String>, AllocError> {
+    let names = [
+        "--streams",
+        "--clients",
+        "--crashes",
+        "--seed",
+        "--link",
+        "--journal",
+    ];
+    let mut all = arguments(alloc, &["amo", "run"])?;
+    for (name, value) in names.iter().zip(values.iter()) {
+        all.push(String::from_str(alloc, name)?)?;
+        all.push(String::from_str(alloc, value)?)?;
+    }
+    for text in more {
+        all.push(String::from_str(alloc, text)?)?;
+    }
+    Ok(all)
+}
+
+#[test]
+fn reads_a_run(rt: HostRuntime) -> Result<(), Fail> {
+    let alloc = rt.alloc();
+    let least = RunSettings {
+        streams: 1,
+        clients: 1,
+        crashes: 0,
+        seed: [0; 32],
+        link: LinkKind::Memory,
+        pumps: 1,
+        split: false,
+    };
+    let values = ["1", "1", "0", ZEROS, "memory", "a b"];
+    let chosen = settings(alloc, run_arguments(alloc, values, &[])?);
+    assert!(rt;
+        matches!(&chosen, Ok(Settings::Run(run, file)) if *run == least && file.as_str() == "a b")
+    );
+    let mut seed = [0; 32];
+    seed[0] = 0x0f;
+    seed[31] = 0xa1;
+    let most = RunSettings {
+        streams: 256,
+        clients: 56,
+        crashes: 1000,
+        seed,
+        link: LinkKind::Udp,
+        pumps: 4,
+        split: true,
+    };
+    let digits = "0f000000000000000000000000000000000000000000000000000000000000a1";
+    let values = ["256", "56", "1000", digits, "udp", "j"];
+    let chosen = settings(
+        alloc,
+        run_arguments(alloc, values, &["--pumps=4", "--split"])?,
+    );
+    assert!(rt;
+        matches!(&chosen, Ok(Settings::Run(run, file)) if *run == most && file.as_str() == "j")
+    );
+    Ok(())
+}
+
+#[test]
+fn refuses_a_run(rt: HostRuntime) -> Result<(), Fail> {
+    let alloc = rt.alloc();
+    let rows: [([&str; 6], &[&str], &str); 13] = [
+        (
+            ["0", "1", "0", ZEROS, "udp", "j"],
+            &[],
+            "0 is not in 1..=256",
+        ),
+        (
+            ["257", "1", "0", ZEROS, "udp", "j"],
+            &[],
+            "257 is not in 1..=256",
+        ),
+        (
+            ["x", "1", "0", ZEROS, "udp", "j"],
+            &[],
+            "invalid digit found in string",
+        ),
+        (
+            ["1", "0", "0", ZEROS, "udp", "j"],
+            &[],
+            "0 is not in 1..=56",
+        ),
+        (
+            ["1", "57", "0", ZEROS, "udp", "j"],
+            &[],
+            "57 is not in 1..=56",
+        ),
+        (
+            ["1", "1", "1001", ZEROS, "udp", "j"],
+            &[],
+            "1001 is not in 0..=1000",
+        ),
+        (
+            ["1", "1", "0", ZEROS, "UDP", "j"],
+            &[],
+            "[possible values: memory, udp]",
+        ),
+        (
+            ["1", "1", "0", "0", "tcp", "j"],
+            &[],
+            "[possible values: memory, udp]",
+        ),
+        (
+            ["1", "1", "0", ZEROS, "udp", "j"],
+            &["--pumps", "0"],
+            "0 is not in 1..=4",
+        ),
+        (
+            ["1", "1", "0", ZEROS, "udp", "j"],
+            &["--pumps", "5"],
+            "5 is not in 1..=4",
+        ),
+        (
+            ["1", "1", "0", ZEROS, "udp", "j"],
+            &["--split=yes"],
+            "unexpected value 'yes'",
+        ),
+        (
+            ["1", "1", "0", ZEROS, "udp", "j"],
+            &["--streams", "2"],
+            "cannot be used multiple times",
+        ),
+        (
+            ["1", "1", "0", ZEROS, "udp", "j"],
+            &["k"],
+            "unexpected argument 'k'",
+        ),
+    ];
+    for (values, more, part) in rows {
+        let refused = settings(alloc, run_arguments(alloc, values, more)?);
+        assert!(rt;
+            matches!(&refused, Err(ArgumentsFault::Text(text, 2)) if text.contains(part)),
+            "{values:?} {more:?}"
+        );
+    }
+    Ok(())
+}
+
+/// The seed is judged after all else.
+#[test]
+fn refuses_a_seed(rt: HostRuntime) -> Result<(), Fail> {
+    let alloc = rt.alloc();
+    let rows = [
+        "-",
+        "00",
+        "000000000000000000000000000000000000000000000000000000000000000",
+        "00000000000000000000000000000000000000000000000000000000000000000",
+        "0000000000000000000000000000000000000000000000000000000000000000aa",
+        "000000000000000000000000000000000000000000000000000000000000000A",
+        "000000000000000000000000000000000000000000000000000000000000000g",
+    ];
+    for text in rows {
+        let values = ["1", "1", "0", text, "udp", "j"];
+        let refused = settings(alloc, run_arguments(alloc, values, &[])?);
+        assert!(rt; matches!(&refused, Err(ArgumentsFault::Seed)), "{text}");
+    }
+    Ok(())
+}
+
 #[test]
 fn tells_each_fault(rt: HostRuntime) -> Result<(), Fail> {
     let alloc = rt.alloc();
     let text = ArgumentsFault::Text(String::from_str(alloc, "error: no such word")?, 2);
     assert_eq!(rt; text.to_string(alloc)?.as_str(), "error: no such word");
+    assert_eq!(rt;
+        ArgumentsFault::Seed.to_string(alloc)?.as_str(),
+        "amo: seed"
+    );
     assert_eq!(rt;
         ArgumentsFault::NoMemory.to_string(alloc)?.as_str(),
         "amo: out of memory"

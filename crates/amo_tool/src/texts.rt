@@ -8,6 +8,8 @@ pub(crate) const ABOUT: &str =
 
 pub(crate) const AFTER_HELP: &str = "Examples:
   amo replay examples/handshake.schedule
+  amo run --streams 8 --clients 16 --crashes 20 --link udp --journal run.journal \\
+    --seed 0000000000000000000000000000000000000000000000000000000000000000
   amo audit examples/good_journal.journal
   amo explain examples/good_journal.journal
 
@@ -17,9 +19,10 @@ Status:
   2  a malformed schedule or journal, a gap in a journal, two journals of one side, or arguments
      that do not parse
   3  a premise is broken: a packet that nobody emitted, or a word used twice
-  4  out of memory, busy, or a file or standard output that cannot be opened, read or written
+  4  out of memory, busy, or a file, a socket or standard output that cannot be opened, read or
+     written
 
-Faults go to standard error. `amo: device` is a file or standard output that failed,
+Faults go to standard error. `amo: device` is a file, a socket or standard output that failed,
 also where there is no such file.";
 
 pub(crate) const REPLAY_ABOUT: &str = "Replays a schedule, and prints a line for each event";
@@ -56,6 +59,40 @@ Status:
 
 Example:
   amo replay examples/handshake.schedule";
+
+pub(crate) const RUN_ABOUT: &str =
+    "Runs the service between two hosts that crash, and keeps a journal of what happened";
+
+pub(crate) const RUN_AFTER_HELP: &str =
+    "The senders of all streams are one host, their receivers another. Each pump and each client is a
+thread. Streams are numbered from 1, all else from 0.
+
+Client I works on stream 1 + (I div 2) mod S, S being the number of streams, and makes 1000 calls.
+Where I is even it puts a message and asks what became of it, by turns; else it gets messages.
+
+Crash K hits the senders where K is even, else the receivers, after turn 50 * (K div 2 + 1) of each
+pump there. Ten turns later they recover, with nothing known.
+
+LINK is one of these:
+  memory  a channel that loses, repeats and reorders packets
+  udp     sockets on 127.0.0.1, on ports that the system picks
+
+HEX is 64 lower-case hexadecimal digits. Threads take turns as they may, so that two runs with one
+seed differ.
+
+Output, a line:
+  events E, link faults F  the journals have E events, and faults of the system lost F packets
+
+Status:
+  0  the journal is written; `amo audit` of it prints `yes`
+  2  `amo: seed`: HEX is not 64 lower-case hexadecimal digits
+  4  `amo: out of memory`: memory or a thread was refused
+     `amo: device`: a socket, the journal's file or standard output failed
+
+Example:
+  amo run --streams 8 --clients 16 --crashes 20 --link udp --journal run.journal \\
+    --seed 0000000000000000000000000000000000000000000000000000000000000000
+  amo audit run.journal";
 
 pub(crate) const AUDIT_ABOUT: &str =
     "Audits a journal, or those of two processes, and prints a line with the verdict";

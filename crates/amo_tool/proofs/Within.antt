@@ -1,0 +1,13 @@
+-- What is chosen is within its limits.
+use Rattle.std.proofs.Common.{List}
+use Rattle.clap.specs.Words.{Text}
+use Rattle.amo_tool.specs.Chosen.{Chooses, IsWithin}
+use Rattle.amo_tool.specs.declared.choice.Settings.{Settings}
+use Rattle.amo_tool.specs.declared.choice.Settings.TheVariants.{Replay, Run, Audit, Explain}
+
+-- of each match
+pub within : (arguments : List Text) (chosen : Settings) → Chooses arguments chosen → IsWithin chosen
+within arguments (Replay file) h = tt
+within arguments (Run settings file) h = h.2.0.within
+within arguments (Audit file second) h = tt
+within arguments (Explain file) h = tt
