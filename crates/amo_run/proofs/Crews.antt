@@ -1,6 +1,7 @@
 -- Lists of passes, threads and charges.
 use Rattle.std.proofs.Common.{◌≡◌, ℕ, zero, suc, ◌+◌, ◌<◌, List, [], ◌∷◌, ◌++◌, length, reverse, map, slice_get, Some, refl, sym, ap, ap₂, ◌∙◌, subst, arith, Bool, true, false, Vec, Result, Ok, Err, IfOk, append_assoc, append-nil}
 use Rattle.std.proofs.lemmas.List.{reverse-append, map-append}
+use Rattle.amo_object.specs.declared.step.End.{End}
 use Rattle.amo_world.specs.declared.event.Event.{Event}
 use Rattle.amo_world.specs.declared.fault.NoMemory.{NoMemory}
 use Rattle.amo_book.specs.Book.{BookState, Each, Lists, first_pass}
@@ -9,10 +10,13 @@ use Rattle.amo_book.specs.Closed.{IsOf, AllPasses, AllCharges}
 use Rattle.amo_book.specs.Pass.{PassState}
 use Rattle.amo_host.specs.Station.{Station}
 use Rattle.amo_run.specs.declared.home.Home.{Home}
+use Rattle.std.proofs.lemmas.List.Elements.{All-nil, All-append}
+use Rattle.amo_run.specs.Fits.{Fits, AllFit}
 use Rattle.amo_run.specs.Told.{told, Tells}
 use Rattle.amo_run.specs.Engine.{tie, ties, Recorded}
 use Rattle.amo_run.specs.Crew.{Made, Adds, EachAt, IsNew, IsHome, joined, dealt, lent, SoFar}
 use Rattle.amo_run.specs.declared.work.PumpThread.{PumpThread}
+use Rattle.amo_run.proofs.Tellings.{tells_none}
 
 head_is : {A : Type 0} (d : A) → List A → A
 head_is d [] = d
@@ -88,21 +92,29 @@ charges_all n xs ys all e place lt = let h = all place lt in let t = tied_at xs 
 told_home : (b : BookState) (p : ℕ) (c : PassState) (xs : List (ℕ × Event)) → Tells (first_pass b.id p) c xs → IsHome b p c
 told_home b p c xs t = record { book = t.book; number = t.number }
 
-made_home : {A : Type 0} (b : BookState) (p : ℕ) (c : PassState) (made : Result (Vec (ℕ × Event) A) NoMemory) → Made (first_pass b.id p) c made → IsHome b p c
-made_home b p c (Ok made) t = told_home b p c made.items t
+made_home : {A : Type 0} (b : BookState) (p : ℕ) (c : PassState) (made : Result (Vec (ℕ × Event) A) NoMemory) → Made b.sides (first_pass b.id p) c made → IsHome b p c
+made_home b p c (Ok made) t = told_home b p c made.items t.0
 made_home b p c (Err fault) t = told_home b p c t.0 t.1
 
 made_joined : {A : Type 0} (b : BookState) (p : ℕ) (cs : List PassState) (c : PassState) (made : Result (Vec (ℕ × Event) A) NoMemory) (es es' : List (ℕ × Event))
-    → Made (first_pass b.id p) c made → Adds made es es' → es ≡ joined cs → es' ≡ joined (cs ++ c ∷ [])
-made_joined b p cs c (Ok made) es es' t a e = a ∙ (ap₂ (λ x y. x ++ y) e (sym t.grew) ∙ sym (joined_more cs c))
+    → Made b.sides (first_pass b.id p) c made → Adds made es es' → es ≡ joined cs → es' ≡ joined (cs ++ c ∷ [])
+made_joined b p cs c (Ok made) es es' t a e = a ∙ (ap₂ (λ x y. x ++ y) e (sym t.0.grew) ∙ sym (joined_more cs c))
 made_joined b p cs c (Err fault) es es' t a e = absurd a
 
-pub home_more : (b : BookState) (cs : List PassState) (c : PassState) {A : Type 0} (made : Result (Vec (ℕ × Event) A) NoMemory) → EachAt (IsHome b) 0 cs → Made (first_pass b.id (length cs)) c made → EachAt (IsHome b) 0 (cs ++ c ∷ [])
+pub home_more : (b : BookState) (cs : List PassState) (c : PassState) {A : Type 0} (made : Result (Vec (ℕ × Event) A) NoMemory) → EachAt (IsHome b) 0 cs → Made b.sides (first_pass b.id (length cs)) c made → EachAt (IsHome b) 0 (cs ++ c ∷ [])
 home_more b cs c made h t = at_more (IsHome b) 0 (length cs) cs c (omega arith) h (made_home b (length cs) c made t)
 
 pub events_more : {A : Type 0} (b : BookState) (cs : List PassState) (c : PassState) (made : Result (Vec (ℕ × Event) A) NoMemory) (es es' : List (ℕ × Event)) (lost kept : Bool)
-    → Made (first_pass b.id (length cs)) c made → (lost ≡ false → es ≡ joined cs) → (kept ≡ true → Adds made es es') → lost ≡ false → kept ≡ true → es' ≡ joined (cs ++ c ∷ [])
+    → Made b.sides (first_pass b.id (length cs)) c made → (lost ≡ false → es ≡ joined cs) → (kept ≡ true → Adds made es es') → lost ≡ false → kept ≡ true → es' ≡ joined (cs ++ c ∷ [])
 events_more b cs c made es es' lost kept t e a l k = made_joined b (length cs) cs c made es es' t (a k) (e l)
+
+made_fit : {A : Type 0} (b : BookState) (v c : PassState) (made : Result (Vec (ℕ × Event) A) NoMemory) (es es' : List (ℕ × Event)) → Made b.sides v c made → Adds made es es' → AllFit b.sides es → AllFit b.sides es'
+made_fit b v c (Ok made) es es' t a f = subst (AllFit b.sides) (sym a) (All-append (λ (one : ℕ × Event). Fits b.sides one.1) es made.items f t.1)
+made_fit b v c (Err fault) es es' t a f = absurd a
+
+pub fit_more : {A : Type 0} (b : BookState) (v c : PassState) (made : Result (Vec (ℕ × Event) A) NoMemory) (es es' : List (ℕ × Event)) (lost kept : Bool)
+    → Made b.sides v c made → (lost ≡ false → AllFit b.sides es) → (kept ≡ true → Adds made es es') → lost ≡ false → kept ≡ true → AllFit b.sides es'
+fit_more b v c made es es' lost kept t f a l k = made_fit b v c made es es' t (a k) (f l)
 
 -- passes that made no call are at home
 new_home : (b : BookState) (k : ℕ) (cs : List PassState) → EachAt (IsNew b) k cs → EachAt (IsHome b) k cs
@@ -114,21 +126,26 @@ new_joined b k [] h = refl
 new_joined b k (c ∷ cs) h = ap₂ (λ x y. x ++ y) (ap told h.0) (new_joined b (suc k) cs h.1)
 
 pub sofar_new : (b : BookState) (h : Home) → EachAt (IsNew b) 0 h.passes.items → h.events.items ≡ [] → SoFar b h
-sofar_new b h p e = record { passes = new_home b 0 h.passes.items p; events = λ l. e ∙ sym (new_joined b 0 h.passes.items p) }
+sofar_new b h p e = record {
+  passes = new_home b 0 h.passes.items p;
+  events = λ l. e ∙ sym (new_joined b 0 h.passes.items p);
+  fit = λ l. subst (AllFit b.sides) (sym e) (All-nil (λ (one : ℕ × Event). Fits b.sides one.1));
+}
 
 pub sofar_same : (b : BookState) (h h' : Home) → h'.passes ≡ h.passes → h'.events ≡ h.events → (h'.is_short ≡ false → h.is_short ≡ false) → SoFar b h → SoFar b h'
 sofar_same b h h' p e l s = record {
   passes = subst (λ v. EachAt (IsHome b) 0 v.items) (sym p) s.passes;
   events = λ n. ap (λ v. v.items) e ∙ (s.events (l n) ∙ ap (λ v. joined v.items) (sym p));
+  fit = λ n. subst (AllFit b.sides) (sym (ap (λ v. v.items) e)) (s.fit (l n));
 }
 
 -- a record that began empty is what the pass tells
-pub told_all : {W : Type 0} (book : BookState) (s t : Station W) (v w : PassState) (old new : List (ℕ × Event)) → Recorded book v w s t old new → old ≡ [] → Tells v w new
-told_all book s t v w old new r none = subst (Tells v w) (sym (r.added ∙ ap (λ l. l ++ r.more) none)) r.advances.tells
+pub told_all : {W : Type 0} (book : BookState) (s t : Station W) (v w : PassState) (old new : List (ℕ × Event)) → Recorded book v w s t old new → old ≡ [] → Tells v w new × AllFit book.sides new
+told_all book s t v w old new r none = let same : new ≡ r.more = r.added ∙ ap (λ l. l ++ r.more) none in (subst (Tells v w) (sym same) r.advances.tells, subst (AllFit book.sides) (sym same) r.advances.fit)
 
-pub made_kept : {A : Type 0} (v w : PassState) (made : Result (Vec (ℕ × Event) A) NoMemory) (new : List (ℕ × Event)) → IfOk made (λ m. m.items ≡ new) → Tells v w new → Made v w made
-made_kept v w (Ok made) new is t = subst (Tells v w) (sym is) t
-made_kept v w (Err fault) new is t = (new, t)
+pub made_kept : {A : Type 0} (sides : List (End × ℕ)) (v w : PassState) (made : Result (Vec (ℕ × Event) A) NoMemory) (new : List (ℕ × Event)) → IfOk made (λ m. m.items ≡ new) → Tells v w new × AllFit sides new → Made sides v w made
+made_kept sides v w (Ok made) new is t = (subst (Tells v w) (sym is) t.0, subst (AllFit sides) (sym is) t.1)
+made_kept sides v w (Err fault) new is t = (new, t.0)
 
 pub each_less : {A : Type 0} (P : A → Type 0) (xs : List A) (x : A) → Each P (xs ++ x ∷ []) → Each P xs × P x
 each_less P [] x h = (tt, h.0)

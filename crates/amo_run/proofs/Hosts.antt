@@ -1,17 +1,17 @@
 -- The pumps of a host have its charges.
-use Rattle.std.proofs.Common.{◌≡◌, ℕ, zero, suc, ◌+◌, ◌*◌, ◌/◌, ◌%◌, ◌<◌, ◌≤◌, List, [], ◌∷◌, ◌++◌, length, map, slice_get, Some, refl, sym, ap, ◌∙◌, subst, append_assoc, arith}
+use Rattle.std.proofs.Common.{◌≡◌, ℕ, zero, suc, ◌+◌, ◌*◌, ◌/◌, ◌%◌, ◌<◌, ◌≤◌, List, [], ◌∷◌, ◌++◌, length, map, slice_get, Some, refl, sym, ap, ◌∙◌, subst, append_assoc, append-nil, arith}
 use Rattle.std.proofs.lemmas.List.{length-append, length-map}
 use Rattle.std.proofs.lemmas.Nat.{div-add-mod', mod_below}
 use Rattle.std.proofs.Math.Nat.{mul_comm}
-use Rattle.amo_book.specs.Book.{Each}
-use Rattle.amo_book.specs.Charge.{ChargeState}
+use Rattle.amo_book.specs.Book.{BookState, Each}
+use Rattle.amo_book.specs.Charge.{ChargeState, IsChargeOf}
 use Rattle.amo_book.specs.Closed.{HasCharge}
 use Rattle.amo_host.specs.Charges.{CanBeDriven}
-use Rattle.amo_host.specs.Division.{Divides, CanBeDivided}
+use Rattle.amo_host.specs.Division.{IsPart, Divides, CanBeDivided}
 use Rattle.amo_host.specs.Station.{Station}
-use Rattle.amo_run.specs.Crew.{dealt}
+use Rattle.amo_run.specs.Crew.{IsOurs, dealt}
 
-each_at : {A : Type 0} (P : A → Type 0) (xs : List A) (k : ℕ) (x : A) → Each P xs → slice_get xs k ≡ Some x → P x
+pub each_at : {A : Type 0} (P : A → Type 0) (xs : List A) (k : ℕ) (x : A) → Each P xs → slice_get xs k ≡ Some x → P x
 each_at P [] k x h e = cc
 each_at P (y ∷ ys) zero x h e = let is : y ≡ x = cc in subst P is h.0
 each_at P (y ∷ ys) (suc k) x h e = each_at P ys k x h.1 e
@@ -63,8 +63,8 @@ each_map P f [] h = tt
 each_map P f (x ∷ xs) h = (h.0, each_map P f xs h.1)
 
 module _ {W : Type 0} (charges : List ChargeState) (window pumps : ℕ) (words : List W) (stations : List (Station W)) where
-  stations_ours : (P : ChargeState → Type 0) → Divides charges window pumps words stations → Each P charges → Each (λ (s : Station W). Each P s.charges) stations
-  stations_ours P d h = each_of (λ (s : Station W). Each P s.charges) stations (λ p s e. each_of P s.charges (λ k x at. each_at P charges (p + pumps * k) x h (sym ((d.part p s e).each k) ∙ at)))
+  stations_ours : (b : BookState) → Divides charges window pumps words stations → Each (IsChargeOf b.id b.sides) charges → Each (IsOurs {W = W} b) stations
+  stations_ours b d h = each_of (IsOurs {W = W} b) stations (λ p s e. (each_of (IsChargeOf b.id b.sides) s.charges (λ k x at. each_at (IsChargeOf b.id b.sides) charges (p + pumps * k) x h (sym ((d.part p s e).each k) ∙ at)), (d.begins p s e).station))
 
   stations_have : Divides charges window pumps words stations → 1 ≤ pumps → (place : ℕ) → HasCharge charges place → HasCharge (dealt stations) place
   stations_have d some place h =
@@ -86,11 +86,10 @@ module _ {A W : Type 0} (f : A → Station W) (old new : List A) (stations : Lis
   added charges window pumps words e d some place h =
       subst (λ l. HasCharge l place) (sym (ap dealt e ∙ dealt_both (map f old) stations)) (has_right (dealt (map f old)) (dealt stations) place (stations_have charges window pumps words stations d some place h))
 
-  pub ours : (P : ChargeState → Type 0) (charges : List ChargeState) (window pumps : ℕ) (words : List W) → map f new ≡ map f old ++ stations → Divides charges window pumps words stations
-      → Each P charges → Each (λ (x : A). Each P (f x).charges) old → Each (λ (x : A). Each P (f x).charges) new
-  ours P charges window pumps words e d h was =
-      let Q : Station W → Type 0 = λ s. Each P s.charges in
-      map_each Q f new (subst (Each Q) (sym e) (each_both Q (map f old) stations (each_map Q f old was) (stations_ours charges window pumps words stations P d h)))
+  pub ours : (b : BookState) (charges : List ChargeState) (window pumps : ℕ) (words : List W) → map f new ≡ map f old ++ stations → Divides charges window pumps words stations
+      → Each (IsChargeOf b.id b.sides) charges → Each (λ (x : A). IsOurs b (f x)) old → Each (λ (x : A). IsOurs b (f x)) new
+  ours b charges window pumps words e d h was =
+      map_each (IsOurs {W = W} b) f new (subst (Each (IsOurs {W = W} b)) (sym e) (each_both (IsOurs {W = W} b) (map f old) stations (each_map (IsOurs {W = W} b) f old was) (stations_ours charges window pumps words stations b d h)))
 
   pub counted : map f new ≡ map f old ++ stations → length new ≡ length old + length stations
   counted e = sym (length-map new f) ∙ (ap length e ∙ (length-append (map f old) stations ∙ ap (λ n. n + length stations) (length-map old f)))

@@ -1,7 +1,9 @@
 pub mod Backs
 pub mod Crews
 pub mod Hosts
+pub mod Lines
 pub mod Merges
 pub mod Openings
+pub mod Spellings
 pub mod Tellings
 pub mod Turning

@@ -1,6 +1,8 @@
 -- What a pump's calls do to its pass and its charges.
-use Rattle.std.proofs.Common.{◌≡◌, ℕ, Bool, true, false, zero, suc, ◌<◌, ◌^◌, List, [], ◌∷◌, ◌++◌, Option, Some, None, slice_get, slice_set, refl, sym, ap, ap₂, ◌∙◌, subst, append_assoc, append-nil}
+use Rattle.std.proofs.Common.{◌≡◌, ℕ, Bool, true, false, zero, suc, ◌<◌, ◌^◌, List, [], ◌∷◌, ◌++◌, length, Option, Some, None, map, slice_get, slice_set, refl, sym, ap, ap₂, ◌∙◌, subst, append_assoc, append-nil, arith}
+use Rattle.std.specs.Borrow.{Bor}
 use Rattle.amo_object.specs.declared.step.End.{End}
+use Rattle.amo_object.specs.declared.step.End.TheVariants as end
 use Rattle.amo_packet.specs.declared.packet.OwnedPacket.{OwnedPacket}
 use Rattle.amo_packet.specs.Grammar.{Spells}
 use Rattle.amo_core.specs.declared.act.Act.{Act}
@@ -9,17 +11,34 @@ use Rattle.amo_core.specs.declared.reply.Reply.TheVariants as reply
 use Rattle.amo_world.specs.declared.event.Event.{Event}
 use Rattle.amo_book.specs.Book.{BookState}
 use Rattle.amo_book.specs.Charge.{ChargeState}
+use Rattle.amo_book.specs.Drive.{Driven}
 use Rattle.amo_book.specs.Pass.{PassState, event}
 use Rattle.amo_book.specs.declared.drive.Done.{Done}
-use Rattle.amo_host.specs.Station.{Station, BelongTogether, moved_past}
-use Rattle.amo_host.specs.Turn.{Happened, Nothing, TurnsAlone, TurnsWith, GoesDownOrUp, Fails}
+use Rattle.amo_host.specs.Station.{Station, IsStation, moved_past}
+use Rattle.amo_host.specs.Turn.{Happened, Nothing, TurnsAlone, TurnsWith, Turns, GoesDownOrUp, Fails}
 use Rattle.amo_host.specs.declared.fault.PumpFault.{PumpFault}
 use Rattle.amo_host.specs.declared.turned.Kind.{Kind}
 use Rattle.amo_host.specs.declared.turned.Kind.TheVariants as kind
 use Rattle.amo_host.specs.declared.turned.Turned.{Turned}
 use Rattle.amo_host.specs.declared.turned.Turned.TheVariants.{Idle, Unread, Stranger, Did}
+use Rattle.std.specs.List.{All}
+use Rattle.std.specs.Option.{option_map}
+use Rattle.std.proofs.lemmas.Option.{slice_get-map}
+use Rattle.amo_host.specs.Charges.{stream_mode_of}
+use Rattle.amo_host.specs.Host.{IsFor, streams_of}
+use Rattle.amo_host.specs.declared.agenda.StreamMode.{StreamMode}
+use Rattle.std.proofs.lemmas.List.Elements.{All-nil, All-cons, All-append}
+use Rattle.hex.specs.Hex.{IsBytes}
+use Rattle.amo_world.specs.History.{IsRight, stream_before}
+use Rattle.amo_world.specs.Stream.{Stream, reply_of}
+use Rattle.amo_book.specs.Book.{Each}
+use Rattle.amo_book.specs.Charge.{IsChargeOf}
+use Rattle.amo_audit.specs.Journal.{HasAct, HasReply, IsPacketOf}
+use Rattle.amo_audit.proofs.Packets.{packet_spelt}
+use Rattle.amo_run.specs.Fits.{Fits, AllFit}
 use Rattle.amo_run.specs.Told.{Tells}
-use Rattle.amo_run.specs.Engine.{tie, ties, Advances, Recorded, IsSmall, act_told, done_at, told_of}
+use Rattle.amo_run.specs.Engine.{tie, ties, Works, Advances, Recorded, IsSmall, act_told, done_at, told_of}
+use Rattle.amo_run.proofs.Hosts.{each_at}
 use Rattle.amo_run.proofs.Tellings.{tells_none, tells_one, tells_more}
 
 -- a charge with the tie of the one that stood there
@@ -28,82 +47,118 @@ ties_set [] k c d at same = refl
 ties_set (x ∷ xs) zero c d at same = let is : x ≡ c = cc in ap (λ t. t ∷ ties xs) (same ∙ sym (ap tie is))
 ties_set (x ∷ xs) (suc k) c d at same = ap (λ l. tie x ∷ l) (ties_set xs k c d at same)
 
-module _ {W : Type 0} (book : BookState) (s t : Station W) (v w : PassState) where
-  pub same_advances : BelongTogether book w t → t.charges ≡ s.charges → w ≡ v → Advances book v w s t []
-  same_advances b c h = record { together = b; charges = ap ties c; tells = tells_none v w h }
+pub fit_none : (sides : List (End × ℕ)) → AllFit sides []
+fit_none sides = All-nil (λ (one : ℕ × Event). Fits sides one.1)
 
-  nothing : (old new : List ℕ) → BelongTogether book w t → Nothing s t v w old new → Advances book v w s t []
+pub fit_one : (sides : List (End × ℕ)) (n : ℕ) (e : Event) → Fits sides e → AllFit sides ((n, e) ∷ [])
+fit_one sides n e f = All-cons (λ (one : ℕ × Event). Fits sides one.1) (n, e) [] f (fit_none sides)
+
+resends : (side : End) (stream : ℕ) → HasAct side stream act.Resend
+resends end.Sender stream = tt
+resends end.Receiver stream = tt
+
+crashes : (side : End) (stream : ℕ) → HasAct side stream act.Crash
+crashes end.Sender stream = tt
+crashes end.Receiver stream = tt
+
+recovers : (side : End) (stream : ℕ) → HasAct side stream act.Recover
+recovers end.Sender stream = tt
+recovers end.Receiver stream = tt
+
+delivers : (side : End) (stream : ℕ) (p : OwnedPacket) (word : ℕ) → IsPacketOf stream p → word < 2 ^ 64 → HasAct side stream (act.Deliver p word)
+delivers end.Sender stream p word h small = (h, small)
+delivers end.Receiver stream p word h small = (h, small)
+
+-- a packet for the charge in a place is one of its stream
+for_stream : {W : Type 0} (s : Station W) (place : ℕ) (p : OwnedPacket) (c : ChargeState) → IsStation s → IsFor s.host place p → slice_get s.charges place ≡ Some c → p.stream ≡ c.stream
+for_stream s place p c h f at =
+    let modes : slice_get s.host.modes place ≡ Some (stream_mode_of c) = ap (λ l. slice_get l place) (sym h.modes) ∙ (slice_get-map stream_mode_of s.charges place ∙ ap (option_map stream_mode_of) at) in
+    let streams : slice_get (streams_of s.host.modes) place ≡ Some c.stream = slice_get-map (λ (m : StreamMode). m.stream) s.host.modes place ∙ ap (option_map (λ (m : StreamMode). m.stream)) modes in
+    let both : Some p.stream ≡ Some c.stream = sym f.stream ∙ streams in cc
+
+-- only a sender starts
+starts : (s : Stream) (side : End) (stream word : ℕ) → reply_of s side (act.Start word) ≡ Some reply.Done → word < 2 ^ 64 → HasAct side stream (act.Start word)
+starts s end.Sender stream word is small = small
+starts s end.Receiver stream word is small = cc
+
+module _ {W : Type 0} (book : BookState) (s t : Station W) (v w : PassState) where
+  pub same_advances : Works book w t → t.charges ≡ s.charges → w ≡ v → Advances book v w s t []
+  same_advances b c h = record { together = b; charges = ap ties c; tells = tells_none v w h; fit = fit_none book.sides }
+
+  nothing : (old new : List ℕ) → Works book w t → Nothing s t v w old new → Advances book v w s t []
   nothing old new b h = same_advances b (ap (λ (x : Station W). x.charges) h.0) h.1
 
-  happened : (old new : List ℕ) (place now : ℕ) (a : Act) (resent : Bool) (side : End) (stream : ℕ) (done : Done) → BelongTogether book w t
-      → Happened s t v w old new place now a resent side stream done → done.position < 2 ^ 64 → Advances book v w s t ((done.position, event v.number side stream a reply.Done) ∷ [])
-  happened old new place now a resent side stream done b h small =
+  -- an event at a charge of the book
+  happened : (r : Station W) (old new : List ℕ) (place now : ℕ) (a : Act) (resent : Bool) (side : End) (stream : ℕ) (done : Done) → r.charges ≡ s.charges → Works book v s → Works book w t
+      → Happened r t v w old new place now a resent side stream done → done.position < 2 ^ 64 → HasAct side stream a → HasReply a reply.Done → Advances book v w s t ((done.position, event v.number side stream a reply.Done) ∷ [])
+  happened r old new place now a resent side stream done same was b h small acts replies =
       let e : Event = event v.number h.charge.side h.charge.stream a reply.Done in
       let one : Tells v w ((done.position, e) ∷ []) = tells_one v w e done.position h.driven.grown h.driven.answered refl small in
+      let at : slice_get s.charges place ≡ Some h.charge = sym (ap (λ l. slice_get l place) same) ∙ h.at in
+      let ours : IsChargeOf book.id book.sides h.charge = each_at (IsChargeOf book.id book.sides) s.charges place h.charge was.0.1 at in
+      let there : ◌≡◌ {A = End × ℕ} (side, stream) (h.charge.side, h.charge.stream) = ap₂ (λ (p : End) (q : ℕ). (p, q)) h.of_side h.of_stream in
       record {
         together = b;
-        charges = ap ties h.charges ∙ ties_set s.charges place h.charge (record h.charge { mode = done.mode }) h.at refl;
-        tells = subst (λ (x : End × ℕ). Tells v w ((done.position, event v.number x.0 x.1 a reply.Done) ∷ [])) (sym (ap₂ (λ (p : End) (q : ℕ). (p, q)) h.of_side h.of_stream)) one;
+        charges = ap ties h.charges ∙ (ties_set r.charges place h.charge (record h.charge { mode = done.mode }) h.at refl ∙ ap ties same);
+        tells = subst (λ (x : End × ℕ). Tells v w ((done.position, event v.number x.0 x.1 a reply.Done) ∷ [])) (sym there) one;
+        fit = fit_one book.sides done.position (event v.number side stream a reply.Done) (record { place = h.charge.place; at = ours.1 ∙ sym (ap Some there); act = acts; reply = replies });
       }
 
-  started : (place : ℕ) (old new : List ℕ) (now word : ℕ) (side : End) (stream : ℕ) (done : Done) → BelongTogether book w t
-      → Happened (moved_past s place) t v w old new place now (act.Start word) false side stream done → done.position < 2 ^ 64 → Advances book v w s t ((done.position, event v.number side stream (act.Start word) reply.Done) ∷ [])
-  started place old new now word side stream done b h small =
-      let e : Event = event v.number h.charge.side h.charge.stream (act.Start word) reply.Done in
-      let one : Tells v w ((done.position, e) ∷ []) = tells_one v w e done.position h.driven.grown h.driven.answered refl small in
-      record {
-        together = b;
-        charges = ap ties h.charges ∙ ties_set s.charges place h.charge (record h.charge { mode = done.mode }) h.at refl;
-        tells = subst (λ (x : End × ℕ). Tells v w ((done.position, event v.number x.0 x.1 (act.Start word) reply.Done) ∷ [])) (sym (ap₂ (λ (p : End) (q : ℕ). (p, q)) h.of_side h.of_stream)) one;
-      }
-
-  fate : (a : Act) (k : Kind) (stream now : ℕ) (turned : Turned) → act_told k None ≡ Some a → BelongTogether book w t → GoesDownOrUp a k stream now s t v w turned → IsSmall turned
+  fate : (a : Act) (k : Kind) (stream now : ℕ) (turned : Turned) → act_told k None ≡ Some a → ((side : End) (named : ℕ) → HasAct side named a) → HasReply a reply.Done → Works book v s → Works book w t → GoesDownOrUp a k stream now s t v w turned → IsSmall turned
       → Advances book v w s t (told_of v.number None turned)
-  fate a k stream now Idle is b h small = absurd h
-  fate a k stream now (Unread f) is b h small = absurd h
-  fate a k stream now Stranger is b h small = same_advances b (ap (λ (x : Station W). x.charges) h.1) h.2
-  fate a k stream now (Did side named j done) is b (place, at, same, of, none, words, rest) small =
-      subst (λ (o : Option Act). Advances book v w s t (done_at v.number side named done.position o)) (sym (ap (λ x. act_told x None) of ∙ is)) (happened rest.0 rest.1 place now a false side named done b rest.2 small)
+  fate a k stream now Idle is acts replies was b h small = absurd h
+  fate a k stream now (Unread f) is acts replies was b h small = absurd h
+  fate a k stream now Stranger is acts replies was b h small = same_advances b (ap (λ (x : Station W). x.charges) h.1) h.2
+  fate a k stream now (Did side named j done) is acts replies was b (place, at, same, of, none, words, rest) small =
+      subst (λ (o : Option Act). Advances book v w s t (done_at v.number side named done.position o)) (sym (ap (λ x. act_told x None) of ∙ is)) (happened s rest.0 rest.1 place now a false side named done refl was b rest.2 small.0 (acts side named) replies)
 
-  pub crash_advances : (stream now : ℕ) (turned : Turned) → BelongTogether book w t → GoesDownOrUp act.Crash kind.Crash stream now s t v w turned → IsSmall turned
+  pub crash_advances : (stream now : ℕ) (turned : Turned) → Works book v s → Works book w t → GoesDownOrUp act.Crash kind.Crash stream now s t v w turned → IsSmall turned
       → Advances book v w s t (told_of v.number None turned)
-  crash_advances stream now turned b h small = fate act.Crash kind.Crash stream now turned refl b h small
+  crash_advances stream now turned was b h small = fate act.Crash kind.Crash stream now turned refl crashes tt was b h small
 
-  pub recover_advances : (stream now : ℕ) (turned : Turned) → BelongTogether book w t → GoesDownOrUp act.Recover kind.Recover stream now s t v w turned → IsSmall turned
+  pub recover_advances : (stream now : ℕ) (turned : Turned) → Works book v s → Works book w t → GoesDownOrUp act.Recover kind.Recover stream now s t v w turned → IsSmall turned
       → Advances book v w s t (told_of v.number None turned)
-  recover_advances stream now turned b h small = fate act.Recover kind.Recover stream now turned refl b h small
+  recover_advances stream now turned was b h small = fate act.Recover kind.Recover stream now turned refl recovers tt was b h small
 
-  pub failed_advances : (to_come : W → ℕ → Option ℕ) (old new : List ℕ) (fault : PumpFault) → BelongTogether book w t → Fails to_come s t v w old new fault → Advances book v w s t []
+  pub failed_advances : (to_come : W → ℕ → Option ℕ) (old new : List ℕ) (fault : PumpFault) → Works book w t → Fails to_come s t v w old new fault → Advances book v w s t []
   failed_advances to_come old new fault b h = same_advances b h.charges h.pass
 
-  pub alone_advances : (to_come : W → ℕ → Option ℕ) (now : ℕ) (old new : List ℕ) (turned : Turned) → BelongTogether book w t → TurnsAlone to_come now s t v w old new turned → IsSmall turned
+  pub alone_advances : (to_come : W → ℕ → Option ℕ) (now : ℕ) (old new : List ℕ) (turned : Turned) → Works book v s → Works book w t → IsRight w.seen → TurnsAlone to_come now s t v w old new turned → IsSmall turned
       → Advances book v w s t (told_of v.number None turned)
-  alone_advances to_come now old new Idle b h small = nothing old new b h.1
-  alone_advances to_come now old new (Unread f) b h small = absurd h
-  alone_advances to_come now old new Stranger b h small = absurd h
-  alone_advances to_come now old new (Did side stream kind.Resend done) b (place, next, words, h) small = happened old new place now act.Resend true side stream done b h small
-  alone_advances to_come now old new (Did side stream (kind.Start word) done) b (place, next, drew, h) small = started place old new now word side stream done b h small
-  alone_advances to_come now old new (Did side stream (kind.Deliver word) done) b h small = absurd h
-  alone_advances to_come now old new (Did side stream kind.Crash done) b h small = absurd h
-  alone_advances to_come now old new (Did side stream kind.Recover done) b h small = absurd h
+  alone_advances to_come now old new Idle was b right h small = nothing old new b h.1
+  alone_advances to_come now old new (Unread f) was b right h small = absurd h
+  alone_advances to_come now old new Stranger was b right h small = absurd h
+  alone_advances to_come now old new (Did side stream kind.Resend done) was b right (place, next, words, h) small = happened s old new place now act.Resend true side stream done refl was b h small.0 (resends side stream) tt
+  alone_advances to_come now old new (Did side stream (kind.Start word) done) was b right (place, next, drew, h) small =
+      let last : IsRight (event v.number h.charge.side h.charge.stream (act.Start word) reply.Done ∷ h.driven.grown.earlier) = subst IsRight h.driven.grown.seen right in
+      let replied : reply_of (stream_before h.driven.grown.earlier (event v.number h.charge.side h.charge.stream (act.Start word) reply.Done)) side (act.Start word) ≡ Some reply.Done =
+      ap (λ (x : End). reply_of (stream_before h.driven.grown.earlier (event v.number h.charge.side h.charge.stream (act.Start word) reply.Done)) x (act.Start word)) h.of_side ∙ last.0 in
+      happened (moved_past s place) old new place now (act.Start word) false side stream done refl was b h small.0 (starts (stream_before h.driven.grown.earlier (event v.number h.charge.side h.charge.stream (act.Start word) reply.Done)) side stream word replied small.1) tt
+  alone_advances to_come now old new (Did side stream (kind.Deliver word) done) was b right h small = absurd h
+  alone_advances to_come now old new (Did side stream kind.Crash done) was b right h small = absurd h
+  alone_advances to_come now old new (Did side stream kind.Recover done) was b right h small = absurd h
 
-  pub with_advances : (to_come : W → ℕ → Option ℕ) (newest now : ℕ) (bytes old new : List ℕ) (p : OwnedPacket) (turned : Turned) → BelongTogether book w t
+  pub with_advances : (to_come : W → ℕ → Option ℕ) (newest now : ℕ) (bytes old new : List ℕ) (p : OwnedPacket) (turned : Turned) → Works book v s → Works book w t → IsBytes bytes
       → ((q : OwnedPacket) → Spells newest bytes q → p ≡ q) → TurnsWith to_come newest bytes now s t v w old new turned → IsSmall turned
       → Advances book v w s t (told_of v.number (Some p) turned)
-  with_advances to_come newest now bytes old new p Idle b one h small = absurd h
-  with_advances to_come newest now bytes old new p (Unread f) b one h small = nothing old new b h.1
-  with_advances to_come newest now bytes old new p Stranger b one (q, spelt, strange, h) small = nothing old new b h
-  with_advances to_come newest now bytes old new p (Did side stream kind.Resend done) b one h small = absurd h
-  with_advances to_come newest now bytes old new p (Did side stream (kind.Start word) done) b one h small = absurd h
-  with_advances to_come newest now bytes old new p (Did side stream (kind.Deliver word) done) b one (q, place, spelt, meant, drew, h) small =
-      subst (λ (x : OwnedPacket). Advances book v w s t ((done.position, event v.number side stream (act.Deliver x word) reply.Done) ∷ [])) (sym (one q spelt)) (happened old new place now (act.Deliver q word) false side stream done b h small)
-  with_advances to_come newest now bytes old new p (Did side stream kind.Crash done) b one h small = absurd h
-  with_advances to_come newest now bytes old new p (Did side stream kind.Recover done) b one h small = absurd h
+  with_advances to_come newest now bytes old new p Idle was b known one h small = absurd h
+  with_advances to_come newest now bytes old new p (Unread f) was b known one h small = nothing old new b h.1
+  with_advances to_come newest now bytes old new p Stranger was b known one (q, spelt, strange, h) small = nothing old new b h
+  with_advances to_come newest now bytes old new p (Did side stream kind.Resend done) was b known one h small = absurd h
+  with_advances to_come newest now bytes old new p (Did side stream (kind.Start word) done) was b known one h small = absurd h
+  with_advances to_come newest now bytes old new p (Did side stream (kind.Deliver word) done) was b known one (q, place, spelt, meant, drew, h) small =
+      let whole = packet_spelt bytes newest q q known spelt refl in
+      let same : q.stream ≡ stream = for_stream s place q h.charge was.1 meant h.at ∙ sym h.of_stream in
+      let packet : IsPacketOf stream q = record { spellable = whole.0.0; bytes = whole.0.1; stream = same } in
+      subst (λ (x : OwnedPacket). Advances book v w s t ((done.position, event v.number side stream (act.Deliver x word) reply.Done) ∷ [])) (sym (one q spelt))
+      (happened s old new place now (act.Deliver q word) false side stream done refl was b h small.0 (delivers side stream q word packet small.1) tt)
+  with_advances to_come newest now bytes old new p (Did side stream kind.Crash done) was b known one h small = absurd h
+  with_advances to_come newest now bytes old new p (Did side stream kind.Recover done) was b known one h small = absurd h
 
   pub recorded_turn : (old new more : List (ℕ × Event)) → Advances book v w s t more → new ≡ old ++ more → Recorded book v w s t old new
   recorded_turn old new more a added = record { more = more; added = added; advances = a }
 
-  pub recorded_none : (old new : List (ℕ × Event)) → BelongTogether book w t → t.charges ≡ s.charges → w ≡ v → new ≡ old → Recorded book v w s t old new
+  pub recorded_none : (old new : List (ℕ × Event)) → Works book w t → t.charges ≡ s.charges → w ≡ v → new ≡ old → Recorded book v w s t old new
   recorded_none old new b c h same = record { more = []; added = same ∙ sym (append-nil old); advances = same_advances b c h }
 
 pub recorded_more : {W : Type 0} (book : BookState) (r s t : Station W) (u v w : PassState) (a b c : List (ℕ × Event)) → Recorded book u v r s a b → Recorded book v w s t b c → Recorded book u w r t a c
@@ -114,5 +169,6 @@ recorded_more book r s t u v w a b c x y = record {
     together = y.advances.together;
     charges = y.advances.charges ∙ x.advances.charges;
     tells = tells_more u v w x.more y.more x.advances.tells y.advances.tells;
+    fit = All-append (λ (one : ℕ × Event). Fits book.sides one.1) x.more y.more x.advances.fit y.advances.fit;
   };
 }

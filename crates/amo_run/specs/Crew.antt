@@ -1,14 +1,17 @@
 -- What goes into the threads of a run, and what comes back.
 use Rattle.std.specs.Prelude.{◌≡◌, ℕ, suc, ◌+◌, ◌≤◌, false, List, [], ◌∷◌, ◌++◌, length, map, Vec, Result, Ok, Err}
+use Rattle.atomic_table.specs.Seated.{TableId}
+use Rattle.amo_object.specs.declared.step.End.{End}
 use Rattle.amo_world.specs.declared.event.Event.{Event}
 use Rattle.amo_world.specs.declared.fault.NoMemory.{NoMemory}
-use Rattle.amo_book.specs.Book.{BookState, Each, first_pass}
+use Rattle.amo_book.specs.Book.{BookState, Each, IsLawful, first_pass}
 use Rattle.amo_book.specs.Charge.{ChargeState, IsChargeOf}
 use Rattle.amo_book.specs.Closed.{AllCharges}
 use Rattle.amo_book.specs.Pass.{PassState}
-use Rattle.amo_host.specs.Station.{Station}
+use Rattle.amo_host.specs.Station.{Station, IsStation}
 use Rattle.amo_run.specs.Told.{Tells, told}
 use Rattle.amo_run.specs.Engine.{ties}
+use Rattle.amo_run.specs.Fits.{AllFit}
 use Rattle.amo_run.specs.declared.crew.Crew.{Crew}
 use Rattle.amo_run.specs.declared.home.Home.{Home}
 use Rattle.amo_run.specs.declared.work.Done.{Done}
@@ -17,10 +20,10 @@ use Rattle.amo_run.specs.declared.work.ClientThread.{ClientThread}
 use Rattle.amo_run.specs.declared.work.PumpJob.{PumpJob}
 use Rattle.amo_run.specs.declared.work.PumpThread.{PumpThread}
 
--- the events by which the pass's own have grown, or a list that was given up
-abbrev pub Made : {A : Type 0} → PassState → PassState → Result (Vec (ℕ × Event) A) NoMemory → Type 0
-Made v w (Ok made) = Tells v w made.items
-Made v w (Err fault) = (lost : List (ℕ × Event)) × Tells v w lost
+-- the events by which the pass's own have grown, each of a side of the book, or a list that was given up
+abbrev pub Made : {A : Type 0} → List (End × ℕ) → PassState → PassState → Result (Vec (ℕ × Event) A) NoMemory → Type 0
+Made sides v w (Ok made) = Tells v w made.items × AllFit sides made.items
+Made sides v w (Err fault) = (lost : List (ℕ × Event)) × Tells v w lost
 
 -- the second list is the first with these events behind it
 abbrev pub Adds : {A : Type 0} → Result (Vec (ℕ × Event) A) NoMemory → List (ℕ × Event) → List (ℕ × Event) → Type 0
@@ -28,12 +31,12 @@ Adds (Ok made) es es' = es' ≡ es ++ made.items
 Adds (Err fault) es es' = ⊥
 
 -- a client's thread: the pass is back, with these events in its history
-abbrev pub Did : PassState → Done → Type 0
-Did v d = Made v d.pass d.made
+abbrev pub Did : BookState → PassState → Done → Type 0
+Did book v d = Made book.sides v d.pass d.made
 
 -- a pump's thread: so is its pass, and its charges are those that it was given
-abbrev pub Returned : PassState → List ChargeState → Pumped → Type 0
-Returned v charges d = Made v d.pass d.made × (ties d.charges.items ≡ ties charges)
+abbrev pub Returned : BookState → PassState → List ChargeState → Pumped → Type 0
+Returned book v charges d = Made book.sides v d.pass d.made × (ties d.charges.items ≡ ties charges)
 
 -- P holds of each element with its number, counted from k
 abbrev pub EachAt : {A : Type 0} → (ℕ → A → Type 0) → ℕ → List A → Type 0
@@ -44,12 +47,16 @@ EachAt P k (x ∷ xs) = P k x × EachAt P (suc k) xs
 abbrev pub IsNew : BookState → ℕ → PassState → Type 0
 IsNew book p c = c ≡ first_pass book.id p
 
+-- a pump whose charges are this book's
+abbrev pub IsOurs : {W : Type 0} → BookState → Station W → Type 0
+IsOurs book s = Each (IsChargeOf book.id book.sides) s.charges × IsStation s
+
 -- the thread was promised to give that pass back
 abbrev pub IsClient : BookState → ℕ → ClientThread → Type 0
-IsClient book p t = t.thread.promise.pass.value ≡ first_pass book.id p
+IsClient book p t = (t.thread.promise.book.value ≡ book) × (t.thread.promise.pass.value ≡ first_pass book.id p)
 
 abbrev pub IsPump : BookState → ℕ → PumpThread → Type 0
-IsPump book p t = t.thread.promise.pass.value ≡ first_pass book.id p
+IsPump book p t = (t.thread.promise.book.value ≡ book) × (t.thread.promise.pass.value ≡ first_pass book.id p)
 
 -- the charges of these pumps, pump by pump
 abbrev pub dealt : {W : Type 0} → List (Station W) → List ChargeState
@@ -75,6 +82,7 @@ joined (c ∷ cs) = told c ++ joined cs
 pub record SoFar (of : BookState) (h : Home) : Type 0 where
   pub passes : EachAt (IsHome of) 0 h.passes.items
   pub events : h.is_short ≡ false → h.events.items ≡ joined h.passes.items
+  pub fit : h.is_short ≡ false → AllFit of.sides h.events.items
 
 -- All passes are back, and so are these charges, unless memory was refused.
 pub record IsBack (of : BookState) (charges : List ChargeState) (h : Home) : Type 0 where
@@ -86,5 +94,6 @@ pub record IsBack (of : BookState) (charges : List ChargeState) (h : Home) : Typ
 pub record IsReady {S C : Type 0} (crew : Crew S C) : Type 0 where
   pub passes : EachAt (IsNew crew.book) 0 crew.passes.items × (length crew.passes.items ≡ crew.book.passes)
   pub enough : length crew.jobs.items + length crew.scripts.items ≤ length crew.passes.items
-  pub ours : Each (λ (j : PumpJob C). Each (IsChargeOf crew.book.id crew.book.sides) j.task.pump.charges) crew.jobs.items
+  pub ours : Each (λ (j : PumpJob C). IsOurs crew.book j.task.pump) crew.jobs.items
   pub all : AllCharges (dealt (map (λ (j : PumpJob C). j.task.pump) crew.jobs.items)) (length crew.book.sides)
+  pub lawful : IsLawful crew.book.sides crew.book.passes

@@ -10,13 +10,14 @@ use Rattle.amo_world.specs.declared.event.Event.{Event}
 use Rattle.amo_book.specs.Book.{BookState}
 use Rattle.amo_book.specs.Charge.{ChargeState}
 use Rattle.amo_book.specs.Pass.{PassState, event}
-use Rattle.amo_host.specs.Station.{Station, BelongTogether}
+use Rattle.amo_host.specs.Station.{Station, IsStation, BelongTogether}
 use Rattle.amo_host.specs.declared.fault.PumpFault.{PumpFault}
 use Rattle.amo_host.specs.declared.turned.Kind.{Kind}
 use Rattle.amo_host.specs.declared.turned.Kind.TheVariants as kind
 use Rattle.amo_host.specs.declared.turned.Turned.{Turned}
 use Rattle.amo_host.specs.declared.turned.Turned.TheVariants.{Did}
 use Rattle.amo_run.specs.declared.engine.Turn.{Turn}
+use Rattle.amo_run.specs.Fits.{AllFit}
 use Rattle.amo_run.specs.Told.{Tells, listed}
 
 -- what no act changes in a charge: its book, its place there, its side and its stream
@@ -26,11 +27,16 @@ tie c = (c.book, (c.place, (c.side, c.stream)))
 abbrev pub ties : List ChargeState → List (TableId × (ℕ × (End × ℕ)))
 ties charges = map tie charges
 
--- The pass's own events have grown by these. Pass and pump still belong together, and the charges are those that the pump had.
+-- a pump, whose charges are this book's as the pass is
+abbrev pub Works : {W : Type 0} → BookState → PassState → Station W → Type 0
+Works book v s = BelongTogether book v s × IsStation s
+
+-- The pass's own events have grown by these, each of a side of the book. Pass and pump still belong together, and the charges are those that the pump had.
 pub record Advances {W : Type 0} (book : BookState) (v w : PassState) (s t : Station W) (made : List (ℕ × Event)) : Type 0 where
-  pub together : BelongTogether book w t
+  pub together : Works book w t
   pub charges : ties t.charges ≡ ties s.charges
   pub tells : Tells v w made
+  pub fit : AllFit book.sides made
 
 -- the same, and the record has grown by these events
 pub record Recorded {W : Type 0} (book : BookState) (v w : PassState) (s t : Station W) (old new : List (ℕ × Event)) : Type 0 where
@@ -57,9 +63,15 @@ abbrev pub told_of : ℕ → Option OwnedPacket → Turned → List (ℕ × Even
 told_of pass packet (Did side stream k done) = done_at pass side stream done.position (act_told k packet)
 told_of pass packet _ = []
 
--- a position is a number of 64 bits
+-- a word is a number of 64 bits
+abbrev pub HasWord : Kind → Type 0
+HasWord (kind.Start word) = word < 2 ^ 64
+HasWord (kind.Deliver word) = word < 2 ^ 64
+HasWord _ = Unit {0}
+
+-- so is a position
 abbrev pub IsSmall : Turned → Type 0
-IsSmall (Did side stream k done) = done.position < 2 ^ 64
+IsSmall (Did side stream k done) = (done.position < 2 ^ 64) × HasWord k
 IsSmall _ = Unit {0}
 
 -- what a turn made

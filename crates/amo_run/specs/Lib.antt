@@ -1,6 +1,7 @@
 pub mod Crew
 pub mod Engine
 pub mod Fault
+pub mod Fits
 pub mod Parts
 pub mod Ran
 pub mod Settings

@@ -1,5 +1,5 @@
 -- What may be asked of a run.
-use Rattle.std.specs.Prelude.{◌≤◌}
+use Rattle.std.specs.Prelude.{ℕ, ◌≤◌}
 use Rattle.amo_run.specs.declared.settings.RunSettings.{RunSettings}
 
 -- 1 to 256 streams, 1 to 56 clients, at most 1000 crashes, and 1 to 4 pumps a host

@@ -10,6 +10,7 @@ use Rattle.amo_book.specs.Pass.{Serves, automaton_after}
 use Rattle.amo_book.specs.Rule.{AllBelow}
 use Rattle.amo_run.specs.declared.home.Home.{Home}
 use Rattle.amo_run.specs.Crew.{EachAt, IsHome, joined}
+use Rattle.amo_run.specs.Fits.{AllFit}
 
 -- events in the order of time, each with its position
 abbrev pub numbered : ℕ → List Event → List (ℕ × Event)
@@ -34,3 +35,4 @@ pub record Ends (book : BookState) (h : Home) : Type 0 where
   pub events : h.is_short ≡ false → h.events.items ≡ joined h.passes.items
   pub charges : h.is_short ≡ false → AllCharges h.charges.items (length book.sides)
   pub ours : h.is_short ≡ false → Each (IsChargeOf book.id book.sides) h.charges.items
+  pub fit : h.is_short ≡ false → AllFit book.sides h.events.items

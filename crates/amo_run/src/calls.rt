@@ -1,8 +1,13 @@
 //! The body of a client's thread.
 ghost use Rattle.std.specs.Prelude.{◌≡◌, ◌<◌, ◌^◌, ℕ, List, IfOk, IfSome, OnErr};
 ghost use Rattle.amo_object.specs.declared.step.End.TheVariants as end;
+ghost use Rattle.amo_packet.specs.Message.{IsShort};
+ghost use Rattle.amo_text.specs.Message.{IsMessage};
+ghost use Rattle.amo_core.specs.declared.act.Act.TheVariants.{Get};
+ghost use Rattle.amo_audit.specs.Journal.{HasReply};
 ghost use Rattle.amo_world.specs.declared.event.Event.{Event};
 ghost use Rattle.amo_book.specs.Calls.{put_answer, get_answer, ack_answer};
+ghost use Rattle.amo_run.specs.Fits.{AllFit};
 ghost use Rattle.amo_run.specs.Told.{Tells, listed, made_by};
 
 use crate::{ClientCall, ClientReply, Script};
@@ -17,7 +22,7 @@ use std::sync::Wait;
 ///
 /// Nothing bounds a script, so this may never return. Where memory is refused the list is given up; the events stay in
 /// the history.
-#[tactic(auto, using(crate::proofs::Tellings::tells_more, crate::proofs::Tellings::tells_none))]
+#[tactic(auto, using(crate::proofs::Tellings::tells_more, crate::proofs::Tellings::tells_none, crate::proofs::Spellings::fit_both, crate::proofs::Turning::fit_none))]
 pub fn client<S: Script, R: Wait>(
     rt: &R,
     alloc: Global,
@@ -27,6 +32,7 @@ pub fn client<S: Script, R: Wait>(
 ) -> Result<Vec<(u64, Event)>, NoMemory>
     requires book { pass.old.book ≡ book.now.id }
     ensures told { IfOk result (λ made. Tells pass.old pass.new made.items) }
+    ensures fit { IfOk result (λ made. AllFit book.now.sides made.items) }
     ensures lost { OnErr result ((made : List (ℕ × Event)) × Tells pass.old pass.new made) }
 {
     let mut made = Vec::new(alloc);
@@ -53,6 +59,7 @@ fn answer<S: Script>(
 ) -> Result<Option<(u64, Event)>, NoMemory>
     requires book { pass.old.book ≡ book.now.id }
     ensures told { IfOk result (λ one. Tells pass.old pass.new (listed one)) }
+    ensures fit { IfOk result (λ one. AllFit book.now.sides (listed one)) }
     ensures memory { OnErr result (pass.new ≡ pass.old) }
 {
     match call {
@@ -63,7 +70,7 @@ fn answer<S: Script>(
 }
 
 /// A put. The message is copied for its event before the book takes it.
-#[tactic(auto, using(crate::proofs::Tellings::tells_grown))]
+#[tactic(auto, using(crate::proofs::Tellings::tells_grown, crate::proofs::Spellings::put_fits))]
 fn put<S: Script>(
     book: &Book,
     pass: &mut Pass,
@@ -73,8 +80,10 @@ fn put<S: Script>(
 ) -> Result<Option<(u64, Event)>, NoMemory>
     requires book { pass.old.book ≡ book.now.id }
     ensures told { IfOk result (λ one. Tells pass.old pass.new (listed one)) }
+    ensures fit { IfOk result (λ one. AllFit book.now.sides (listed one)) }
     ensures memory { OnErr result (pass.new ≡ pass.old) }
 {
+    is_message(&message);
     let number = pass.number();
     let Ok(copy) = message.clone() else {
         return Err(NoMemory);
@@ -86,10 +95,11 @@ fn put<S: Script>(
 }
 
 /// A get. The message goes from the reply to the event.
-#[tactic(auto, using(crate::proofs::Tellings::tells_grown))]
+#[tactic(auto, using(crate::proofs::Tellings::tells_grown, crate::proofs::Spellings::get_fits))]
 fn get<S: Script>(book: &Book, pass: &mut Pass, script: &mut S, stream: u32) -> Option<(u64, Event)>
     requires book { pass.old.book ≡ book.now.id }
     ensures told { Tells pass.old pass.new (listed result) }
+    ensures fit { AllFit book.now.sides (listed result) }
 {
     let number = pass.number();
     let reply = ClientReply::Get(book.get(pass, stream));
@@ -103,7 +113,7 @@ fn get<S: Script>(book: &Book, pass: &mut Pass, script: &mut S, stream: u32) -> 
 }
 
 /// A question for the last put.
-#[tactic(auto, using(crate::proofs::Tellings::tells_grown))]
+#[tactic(auto, using(crate::proofs::Tellings::tells_grown, crate::proofs::Spellings::ack_fits))]
 fn get_ack<S: Script>(
     book: &Book,
     pass: &mut Pass,
@@ -112,6 +122,7 @@ fn get_ack<S: Script>(
 ) -> Option<(u64, Event)>
     requires book { pass.old.book ≡ book.now.id }
     ensures told { Tells pass.old pass.new (listed result) }
+    ensures fit { AllFit book.now.sides (listed result) }
 {
     let number = pass.number();
     let answered = book.get_ack(pass, stream);
@@ -162,10 +173,14 @@ fn reply_to_put(answered: &Result<u64, PutFault>) -> Option<(Reply, u64)>
 
 /// The reply and the position that a get answered.
 fn reply_to_get(answered: Result<(Message, u64), GetFault>) -> Option<(Reply, u64)>
-    ensures { result ≡ get_answer answered }
+    ensures answer { result ≡ get_answer answered }
+    ensures reply { IfSome result (λ k. HasReply Get k.0) }
 {
     match answered {
-        Ok((message, position)) => Some((Reply::Got(message), position)),
+        Ok((message, position)) => {
+            is_message(&message);
+            Some((Reply::Got(message), position))
+        }
         Err(GetFault::Nothing(position)) => Some((Reply::Nothing, position)),
         Err(GetFault::Down(position)) => Some((Reply::Down, position)),
         Err(GetFault::Busy) => None,
@@ -185,4 +200,19 @@ fn reply_to_ack(answered: Result<(bool, u64), AckFault>) -> Option<(Reply, u64)>
         Err(AckFault::Busy) => None,
         Err(AckFault::NoStream) => None,
     }
+}
+
+/// What a journal asks of a message's bytes, which every message keeps. It does nothing.
+fn is_message(message: &Message)
+    ensures { IsMessage message.now }
+{
+    are_bytes(message.bytes());
+}
+
+/// The same, of bytes that are not too many.
+fn are_bytes(bytes: &[u8])
+    requires { IsShort bytes.now }
+    ensures { IsMessage bytes.now }
+{
+    let _ = bytes;
 }

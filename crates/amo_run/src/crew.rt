@@ -3,7 +3,7 @@ ghost use Rattle.std.specs.Prelude.{◌≡◌, ◌++◌, ◌*◌, ◌≤◌, len
 ghost use Rattle.amo_book.specs.Book.{AreFirstCharges, Each};
 ghost use Rattle.amo_book.specs.Charge.{IsChargeOf};
 ghost use Rattle.amo_book.specs.Closed.{AllCharges};
-ghost use Rattle.amo_run.specs.Crew.{IsReady, dealt};
+ghost use Rattle.amo_run.specs.Crew.{IsOurs, IsReady, dealt};
 ghost use Rattle.amo_run.specs.Parts.{hosts_of, passes_of, pumps_of, sides_of, HasWires};
 ghost use Rattle.amo_run.specs.Settings.{AreWithin};
 
@@ -76,7 +76,7 @@ fn jobs_of<C: Drop>(
     requires sides { book.now.sides ≡ sides_of part settings.now.streams }
     requires charges { AreFirstCharges book.now.id book.now.sides charges.items }
     requires belong { Each (IsChargeOf book.now.id book.now.sides) charges.items }
-    ensures ours { IfOk result (λ jobs. Each (λ j. Each (IsChargeOf book.now.id book.now.sides) j.task.pump.charges) jobs.items) }
+    ensures ours { IfOk result (λ jobs. Each (λ j. IsOurs book.now j.task.pump) jobs.items) }
     ensures all { IfOk result (λ jobs. AllCharges (dealt (map (λ j. j.task.pump) jobs.items)) (length book.now.sides)) }
     ensures count { IfOk result (λ jobs. length jobs.items ≡ hosts_of part * pumps_of settings.now) }
 {

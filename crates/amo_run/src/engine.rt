@@ -1,8 +1,8 @@
 //! What a pump's thread does: one turn after another over a link, with the crashes and recoveries of its host.
 ghost use Rattle.std.specs.Prelude.{◌≡◌, ◌≤◌, ◌<◌, ◌++◌, IfSome, OnOk, length, vec_len, vec_capacity};
-ghost use Rattle.amo_host.specs.Station.{BelongTogether};
+ghost use Rattle.amo_host.specs.Station.{IsStation};
 ghost use Rattle.amo_run.specs.Told.{listed};
-ghost use Rattle.amo_run.specs.Engine.{Advances, Recorded, IsSmall, act_told, told_of, made_in};
+ghost use Rattle.amo_run.specs.Engine.{Advances, HasWord, Recorded, IsSmall, Works, act_told, told_of, made_in};
 
 use crate::plan::{Fate, Plan};
 use crate::source::Source;
@@ -48,7 +48,8 @@ pub struct Turn {
 
 /// The act of an event of this kind, with the packet that was handed in.
 fn act_of(kind: Kind, packet: Option<OwnedPacket>) -> Option<Act>
-    ensures { result ≡ act_told kind packet }
+    ensures act { result ≡ act_told kind packet }
+    ensures word { HasWord kind }
 {
     match kind {
         Kind::Start(word) => Some(Act::Start(word)),
@@ -101,12 +102,14 @@ fn turn_alone<W: Words + Drop>(
     now: u64,
     out: &mut [u8; MAX_PACKET],
 ) -> Result<Turn, PumpFault>
-    requires { BelongTogether book.now pass.old pump.old }
+    requires { Works book.now pass.old pump.old }
     ensures { Advances book.now pass.old pass.new pump.old pump.new (made_in result) }
 {
-    let number = pass.number();
     match pump.turn(book, pass, now, None, out) {
-        Ok(turned) => Ok(turn_of(number, None, turned)),
+        Ok(turned) => {
+            let number = pass.number();
+            Ok(turn_of(number, None, turned))
+        }
         Err(fault) => Err(fault),
     }
 }
@@ -122,7 +125,7 @@ fn turn_with<W: Words + Drop>(
     bytes: &[u8],
     out: &mut [u8; MAX_PACKET],
 ) -> Result<Turn, PumpFault>
-    requires { BelongTogether book.now pass.old pump.old }
+    requires { Works book.now pass.old pump.old }
     ensures { Advances book.now pass.old pass.new pump.old pump.new (made_in result) }
 {
     let number = pass.number();
@@ -148,7 +151,7 @@ fn meet(
     stream: u32,
     fate: Fate,
 ) -> Result<Turn, PumpFault>
-    requires { BelongTogether book.now pass.old pump.old }
+    requires { Works book.now pass.old pump.old }
     ensures { Advances book.now pass.old pass.new pump.old pump.new (made_in result) }
 {
     let number = pass.number();
@@ -243,7 +246,7 @@ impl<L: Link> Engine<L> {
         pass: &mut Pass,
         tally: &mut Tally,
     ) -> Result<(), NoMemory>
-        requires { BelongTogether book.now pass.old self.old.pump }
+        requires { Works book.now pass.old self.old.pump }
         ensures { Recorded book.now pass.old pass.new self.old.pump self.new.pump tally.old.made.items tally.new.made.items }
     {
         tally.reserve()?;
@@ -284,7 +287,7 @@ impl<L: Link> Engine<L> {
         fate: Fate,
         tally: &mut Tally,
     ) -> Result<bool, NoMemory>
-        requires { BelongTogether book.now pass.old self.old.pump }
+        requires { Works book.now pass.old self.old.pump }
         ensures { Recorded book.now pass.old pass.new self.old.pump self.new.pump tally.old.made.items tally.new.made.items }
     {
         tally.reserve()?;
@@ -303,7 +306,7 @@ impl<L: Link> Engine<L> {
         fate: Fate,
         tally: &mut Tally,
     ) -> Result<(), NoMemory>
-        requires { BelongTogether book.now pass.old self.old.pump }
+        requires { Works book.now pass.old self.old.pump }
         ensures { Recorded book.now pass.old pass.new self.old.pump self.new.pump tally.old.made.items tally.new.made.items }
     {
         'tries: for _ in rt.forever() {
@@ -326,7 +329,7 @@ impl<L: Link> Engine<L> {
         fate: Fate,
         tally: &mut Tally,
     ) -> Result<(), NoMemory>
-        requires { BelongTogether book.now pass.old self.old.pump }
+        requires { Works book.now pass.old self.old.pump }
         ensures { Recorded book.now pass.old pass.new self.old.pump self.new.pump tally.old.made.items tally.new.made.items }
     {
         'sides: for stream in streams {
@@ -345,7 +348,7 @@ impl<L: Link> Engine<L> {
         streams: &[u32],
         tally: &mut Tally,
     ) -> Result<(), NoMemory>
-        requires { BelongTogether book.now pass.old self.old.pump }
+        requires { Works book.now pass.old self.old.pump }
         ensures { Recorded book.now pass.old pass.new self.old.pump self.new.pump tally.old.made.items tally.new.made.items }
     {
         let Some(fate) = self.plan.after(self.turns) else {
@@ -360,7 +363,8 @@ impl<L: Link> Engine<L> {
 
     /// The words of the next life.
     fn renew(&mut self)
-        ensures { self.new.pump.charges ≡ self.old.pump.charges }
+        ensures charges { self.new.pump.charges ≡ self.old.pump.charges }
+        ensures station { IsStation self.new.pump }
     {
         self.incarnation = self.incarnation.saturating_add(1);
         let words = self.source.words(self.incarnation);
@@ -382,7 +386,7 @@ impl<L: Link> Engine<L> {
         at_work: &AtomicU32,
         tally: &mut Tally,
     ) -> Result<(), NoMemory>
-        requires { BelongTogether book.now pass.old self.old.pump }
+        requires { Works book.now pass.old self.old.pump }
         ensures { Recorded book.now pass.old pass.new self.old.pump self.new.pump tally.old.made.items tally.new.made.items }
     {
         'turns: for _ in rt.forever() {

@@ -14,7 +14,7 @@ pub struct Home {
     pub events: Vec<(u64, Event)>,
     /// Memory was refused, so events or charges are lacking.
     pub is_short: bool,
-    /// A pump had no link.
+    /// A pump's socket did not connect.
     pub is_cut_off: bool,
     /// How often the links failed.
     pub link_faults: u64,
@@ -27,7 +27,7 @@ impl Home {
     pub fn take(&mut self, book: &Book, pass: Pass, made: Result<Vec<(u64, Event)>, NoMemory>)
         requires room { vec_len self.old.passes < vec_capacity self.old.passes }
         requires so_far { SoFar book.now self.old }
-        requires made { Made (first_pass book.now.id (length self.old.passes.items)) pass made }
+        requires made { Made book.now.sides (first_pass book.now.id (length self.old.passes.items)) pass made }
         ensures so_far { SoFar book.now self.new }
         ensures count { length self.new.passes.items ≡ length self.old.passes.items + 1 }
         ensures room { vec_capacity self.new.passes ≡ vec_capacity self.old.passes }

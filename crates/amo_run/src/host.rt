@@ -1,9 +1,8 @@
 //! The pumps of a host.
 ghost use Rattle.std.specs.Prelude.{◌≡◌, ◌+◌, ◌++◌, ◌≤◌, ◌<◌, ◌^◌, ℕ, length, map, IfOk, OnOk};
 ghost use Rattle.amo_book.specs.Book.{Each};
-ghost use Rattle.amo_book.specs.Charge.{IsChargeOf};
 ghost use Rattle.amo_book.specs.Closed.{HasCharge};
-ghost use Rattle.amo_run.specs.Crew.{dealt};
+ghost use Rattle.amo_run.specs.Crew.{IsOurs, dealt};
 ghost use Rattle.amo_run.specs.Parts.{pumps_of};
 ghost use Rattle.amo_run.specs.Settings.{AreWithin};
 ghost use Rattle.amo_run.specs.Sides.{IsHostOf};
@@ -108,8 +107,8 @@ pub fn push_host<C: Drop>(
     requires host { IsHostOf book.now charges.items }
     requires pumps { (1 ≤ host.pumps) × (host.pumps ≤ 4) × (host.pumps ≤ length charges.items) }
     requires wires { host.pumps ≤ length wires.items }
-    requires ours { Each (λ j. Each (IsChargeOf book.now.id book.now.sides) j.task.pump.charges) jobs.old.items }
-    ensures ours { OnOk result (Each (λ j. Each (IsChargeOf book.now.id book.now.sides) j.task.pump.charges) jobs.new.items) }
+    requires ours { Each (λ j. IsOurs book.now j.task.pump) jobs.old.items }
+    ensures ours { OnOk result (Each (λ j. IsOurs book.now j.task.pump) jobs.new.items) }
     ensures kept { OnOk result ((place : ℕ) → HasCharge (dealt (map (λ j. j.task.pump) jobs.old.items)) place → HasCharge (dealt (map (λ j. j.task.pump) jobs.new.items)) place) }
     ensures added { OnOk result ((place : ℕ) → HasCharge charges.items place → HasCharge (dealt (map (λ j. j.task.pump) jobs.new.items)) place) }
     ensures count { OnOk result (length jobs.new.items ≡ length jobs.old.items + host.pumps) }

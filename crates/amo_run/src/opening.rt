@@ -1,6 +1,6 @@
 //! A book of a run, and the pumps of its hosts.
 ghost use Rattle.std.specs.Prelude.{◌≡◌, ◌++◌, ◌≤◌, IfOk, OnOk};
-ghost use Rattle.amo_book.specs.Book.{Opens};
+ghost use Rattle.amo_book.specs.Book.{IsLawful, Opens};
 ghost use Rattle.amo_run.specs.Parts.{sides_of};
 ghost use Rattle.amo_run.specs.Sides.{sides_from};
 
@@ -19,11 +19,12 @@ pub struct Opened {
 }
 
 /// Opens a book with the sides of these hosts, of the streams from 1 on, and so many passes.
-#[tactic(auto, using(crate::proofs::Openings::may_open))]
+#[tactic(auto, using(crate::proofs::Openings::may_open, crate::proofs::Lines::lawful_book))]
 pub fn open(alloc: Global, part: Part, streams: u32, passes: usize) -> Result<Opened, RunFault>
     requires streams { (1 ≤ streams) × (streams ≤ 256) }
     requires passes { (2 ≤ passes) × (passes ≤ 64) }
-    ensures { IfOk result (λ o. Opens (sides_of part streams) passes o.book o.passes.items o.charges.items) }
+    ensures opens { IfOk result (λ o. Opens (sides_of part streams) passes o.book o.passes.items o.charges.items) }
+    ensures lawful { IfOk result (λ o. IsLawful o.book.sides o.book.passes) }
 {
     let Ok(sides) = all_sides(alloc, part, streams) else {
         return Err(RunFault::NoMemory);

@@ -1,5 +1,7 @@
 //! The end of a run.
-ghost use Rattle.std.specs.Prelude.{◌≡◌, IfOk, map};
+ghost use Rattle.std.specs.Prelude.{◌≡◌, All, IfOk, map};
+ghost use Rattle.amo_book.specs.Book.{IsLawful};
+ghost use Rattle.amo_audit.specs.Journal.{CanSpell};
 ghost use Rattle.amo_run.specs.Whole.{Ends, IsWhole};
 
 use crate::RunFault;
@@ -21,8 +23,10 @@ pub struct Chronicle {
 
 /// Closes the book, from which nothing is missing, and puts the events in order.
 pub fn settle(alloc: Global, book: Book, home: Home) -> Result<Chronicle, RunFault>
-    requires { Ends book home }
-    ensures { IfOk result (λ r. IsWhole book.sides book.passes r.closed r.events.items) }
+    requires ends { Ends book home }
+    requires lawful { IsLawful book.sides book.passes }
+    ensures whole { IfOk result (λ r. IsWhole book.sides book.passes r.closed r.events.items) }
+    ensures spelt { IfOk result (λ r. All CanSpell r.events.items) }
 {
     let Home {
         passes,

@@ -6,6 +6,7 @@ use crate::crew::Wires;
 use crate::report::Chronicle;
 use crate::source::channel_words;
 use crate::whole_run::run_scripts;
+use amo_audit::merge;
 use amo_net::{Lossy, LossyEnd};
 use amo_object::End;
 use amo_packet::Message;
@@ -119,14 +120,18 @@ fn runs_over_sockets(rt: HostRuntime) -> Result<(), Fail> {
     Ok(())
 }
 
-/// Two books: the senders' has the events of senders alone, the receivers' those of receivers.
+/// Two books: the senders' has the events of senders alone, the receivers' those of receivers, and there is an order in which they are
+/// right, honest and fresh.
 #[test]
+#[tactic(auto, using(crate::proofs::Lines::all_streams))]
 fn runs_on_two_books(rt: HostRuntime) -> Result<(), Fail> {
     let ran = run(&rt, rt.alloc(), &APART)?;
     assert_eq!(rt; crashes(ran.events.as_slice()), 80);
     assert_eq!(rt; crashes(ran.receivers.as_slice()), 80);
     assert!(rt; are_of(End::Sender, ran.events.as_slice()));
     assert!(rt; are_of(End::Receiver, ran.receivers.as_slice()));
+    let merged = merge(rt.alloc(), ran.events.as_slice(), ran.receivers.as_slice());
+    assert!(rt; is_accepted(rt.alloc(), merged.ok().ok_or("an order")?)?);
     Ok(())
 }
 

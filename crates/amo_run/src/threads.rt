@@ -1,10 +1,8 @@
 //! Pumps and clients at work at once.
 ghost use Rattle.std.specs.Prelude.{◌≡◌, ◌+◌, ◌++◌, ◌<◌, ◌≤◌, [], false, length, map, vec_len, vec_capacity, reverse, IfOk, IfSome, IfNone};
 ghost use Rattle.amo_book.specs.Book.{Each, first_pass};
-ghost use Rattle.amo_book.specs.Charge.{IsChargeOf};
-ghost use Rattle.amo_host.specs.Station.{BelongTogether};
-ghost use Rattle.amo_run.specs.Engine.{ties};
-ghost use Rattle.amo_run.specs.Crew.{Made, Returned, Did, EachAt, IsNew, IsClient, IsPump, IsBack, SoFar, dealt, lent};
+ghost use Rattle.amo_run.specs.Engine.{Works, ties};
+ghost use Rattle.amo_run.specs.Crew.{Made, Returned, Did, EachAt, IsNew, IsOurs, IsClient, IsPump, IsBack, SoFar, dealt, lent};
 
 use crate::home::Home;
 use crate::wire::Wire;
@@ -37,9 +35,9 @@ fn last_pass(passes: &mut Vec<Pass>, book: &Book) -> Option<Pass>
 /// The last of the pumps that wait for their threads.
 #[tactic(auto, using(crate::proofs::Crews::each_less, crate::proofs::Crews::dealt_more))]
 fn last_job<C>(jobs: &mut Vec<PumpJob<C>>, book: &Book) -> Option<PumpJob<C>>
-    requires { Each (λ j. Each (IsChargeOf book.now.id book.now.sides) j.task.pump.charges) jobs.old.items }
-    ensures rest { Each (λ j. Each (IsChargeOf book.now.id book.now.sides) j.task.pump.charges) jobs.new.items }
-    ensures last { IfSome result (λ j. Each (IsChargeOf book.now.id book.now.sides) j.task.pump.charges
+    requires { Each (λ j. IsOurs book.now j.task.pump) jobs.old.items }
+    ensures rest { Each (λ j. IsOurs book.now j.task.pump) jobs.new.items }
+    ensures last { IfSome result (λ j. IsOurs book.now j.task.pump
         × (dealt (map (λ k. k.task.pump) jobs.old.items) ≡ dealt (map (λ k. k.task.pump) jobs.new.items) ++ j.task.pump.charges)
         × (length jobs.old.items ≡ length jobs.new.items + 1)) }
     ensures none { IfNone result (jobs.old.items ≡ []) }
@@ -157,7 +155,7 @@ fn join_pumps<R: Threads + Wait>(rt: &R, book: &Book, threads: Vec<PumpThread>, 
 fn come_home(book: &Book, home: &mut Home, pumped: Pumped)
     requires room { vec_len home.old.passes < vec_capacity home.old.passes }
     requires so_far { SoFar book.now home.old }
-    requires made { Made (first_pass book.now.id (length home.old.passes.items)) pumped.pass pumped.made }
+    requires made { Made book.now.sides (first_pass book.now.id (length home.old.passes.items)) pumped.pass pumped.made }
     ensures so_far { SoFar book.now home.new }
     ensures count { length home.new.passes.items ≡ length home.old.passes.items + 1 }
     ensures room { vec_capacity home.new.passes ≡ vec_capacity home.old.passes }
@@ -202,7 +200,7 @@ pub fn at_once<S: Script + Send + Drop, C: Wire + Send + Drop, R: Threads + Wait
 ) -> Result<Home, RunFault>
     requires passes { EachAt (IsNew book.now) 0 passes.items × (length passes.items ≡ book.now.passes) }
     requires enough { length jobs.items + length scripts.items ≤ length passes.items }
-    requires ours { Each (λ j. Each (IsChargeOf book.now.id book.now.sides) j.task.pump.charges) jobs.items }
+    requires ours { Each (λ j. IsOurs book.now j.task.pump) jobs.items }
     ensures { IfOk result (λ h. IsBack book.now (dealt (map (λ j. j.task.pump) jobs.items)) h) }
 {
     let Ok(pump_room) = Vec::with_capacity(alloc, jobs.len()) else {
@@ -238,7 +236,7 @@ fn in_rooms<S: Script + Send + Drop, C: Wire + Send + Drop, R: Threads + Wait + 
 ) -> Result<Home, RunFault>
     requires passes { EachAt (IsNew book.now) 0 passes.items × (length passes.items ≡ book.now.passes) }
     requires enough { length jobs.items + length scripts.items ≤ length passes.items }
-    requires ours { Each (λ j. Each (IsChargeOf book.now.id book.now.sides) j.task.pump.charges) jobs.items }
+    requires ours { Each (λ j. IsOurs book.now j.task.pump) jobs.items }
     requires pump_room { (pump_room.items ≡ []) × (length jobs.items ≤ vec_capacity pump_room) }
     requires client_room { (client_room.items ≡ []) × (length scripts.items ≤ vec_capacity client_room) }
     ensures { IfOk result (λ h. IsBack book.now (dealt (map (λ j. j.task.pump) jobs.items)) h) }
@@ -249,7 +247,7 @@ fn in_rooms<S: Script + Send + Drop, C: Wire + Send + Drop, R: Threads + Wait + 
         |scope| -> Result<Home, RunFault>
             requires passes { EachAt (IsNew book.now) 0 passes.items × (length passes.items ≡ book.now.passes) }
             requires enough { length jobs.items + length scripts.items ≤ length passes.items }
-            requires ours { Each (λ j. Each (IsChargeOf book.now.id book.now.sides) j.task.pump.charges) jobs.items }
+            requires ours { Each (λ j. IsOurs book.now j.task.pump) jobs.items }
             requires pump_room { (pump_room.items ≡ []) × (length jobs.items ≤ vec_capacity pump_room) }
             requires client_room { (client_room.items ≡ []) × (length scripts.items ≤ vec_capacity client_room) }
             ensures { IfOk result (λ h. IsBack book.entry.now (dealt (map (λ j. j.task.pump) jobs.items)) h) }
@@ -261,14 +259,15 @@ fn in_rooms<S: Script + Send + Drop, C: Wire + Send + Drop, R: Threads + Wait + 
                     unreachable!()
                 };
                 let promise = PumpPromise {
+                    book: Snapshot::of(book),
                     pass: Snapshot::of(&pass),
                     pump: Snapshot::of(&job.task.pump),
                 };
                 let thread = scope.spawn_with(
                     promise,
                     move || -> Pumped
-                        requires { BelongTogether book.now pass job.task.pump }
-                        ensures { Returned pass job.task.pump.charges result }
+                        requires { Works book.now pass job.task.pump }
+                        ensures { Returned book.entry.now pass job.task.pump.charges result }
                     { follow_task(rt, alloc, book, pass, job, at_work) },
                 );
                 let Ok(thread) = thread else {
@@ -282,13 +281,14 @@ fn in_rooms<S: Script + Send + Drop, C: Wire + Send + Drop, R: Threads + Wait + 
                     unreachable!()
                 };
                 let promise = ClientPromise {
+                    book: Snapshot::of(book),
                     pass: Snapshot::of(&pass),
                 };
                 let thread = scope.spawn_with(
                     promise,
                     move || -> Done
                         requires { pass.book ≡ book.now.id }
-                        ensures { Did pass result }
+                        ensures { Did book.entry.now pass result }
                     { follow_script(rt, alloc, book, pass, script) },
                 );
                 let Ok(thread) = thread else {

@@ -1,8 +1,8 @@
 //! Two books at work at once.
-ghost use Rattle.std.specs.Prelude.{◌≡◌, ◌+◌, ◌≤◌, length, map, IfOk};
+ghost use Rattle.std.specs.Prelude.{◌≡◌, ◌+◌, ◌≤◌, length, map, All, IfOk};
+ghost use Rattle.amo_audit.specs.Journal.{CanSpell};
 ghost use Rattle.amo_book.specs.Book.{Each};
-ghost use Rattle.amo_book.specs.Charge.{IsChargeOf};
-ghost use Rattle.amo_run.specs.Crew.{EachAt, IsBack, IsNew, IsReady, dealt};
+ghost use Rattle.amo_run.specs.Crew.{EachAt, IsBack, IsNew, IsOurs, IsReady, dealt};
 ghost use Rattle.amo_run.specs.Whole.{IsWhole};
 
 use crate::crew::Crew;
@@ -45,6 +45,7 @@ pub fn both_at_once<S: Script + Send + Drop, C: Wire + Send + Drop, R: Threads +
     requires other { IsReady other }
     ensures one { IfOk result (λ t. IsWhole one.book.sides one.book.passes t.0.closed t.0.events.items) }
     ensures other { IfOk result (λ t. IsWhole other.book.sides other.book.passes t.1.closed t.1.events.items) }
+    ensures spelt { IfOk result (λ t. All CanSpell t.0.events.items × All CanSpell t.1.events.items) }
 {
     let Crew {
         book,
@@ -94,10 +95,10 @@ fn both_homes<S: Script + Send + Drop, C: Wire + Send + Drop, R: Threads + Wait 
 ) -> Result<(Home, Home), RunFault>
     requires passes { EachAt (IsNew here.now) 0 passes.items × (length passes.items ≡ here.now.passes) }
     requires enough { length jobs.items + length scripts.items ≤ length passes.items }
-    requires ours { Each (λ j. Each (IsChargeOf here.now.id here.now.sides) j.task.pump.charges) jobs.items }
+    requires ours { Each (λ j. IsOurs here.now j.task.pump) jobs.items }
     requires other_passes { EachAt (IsNew there.now) 0 other_passes.items × (length other_passes.items ≡ there.now.passes) }
     requires other_enough { length other_jobs.items + length other_scripts.items ≤ length other_passes.items }
-    requires other_ours { Each (λ j. Each (IsChargeOf there.now.id there.now.sides) j.task.pump.charges) other_jobs.items }
+    requires other_ours { Each (λ j. IsOurs there.now j.task.pump) other_jobs.items }
     ensures one { IfOk result (λ t. IsBack here.now (dealt (map (λ j. j.task.pump) jobs.items)) t.0) }
     ensures other { IfOk result (λ t. IsBack there.now (dealt (map (λ j. j.task.pump) other_jobs.items)) t.1) }
 {
@@ -107,10 +108,10 @@ fn both_homes<S: Script + Send + Drop, C: Wire + Send + Drop, R: Threads + Wait 
         |scope| -> Result<(Home, Home), RunFault>
             requires passes { EachAt (IsNew here.now) 0 passes.items × (length passes.items ≡ here.now.passes) }
             requires enough { length jobs.items + length scripts.items ≤ length passes.items }
-            requires ours { Each (λ j. Each (IsChargeOf here.now.id here.now.sides) j.task.pump.charges) jobs.items }
+            requires ours { Each (λ j. IsOurs here.now j.task.pump) jobs.items }
             requires other_passes { EachAt (IsNew there.now) 0 other_passes.items × (length other_passes.items ≡ there.now.passes) }
             requires other_enough { length other_jobs.items + length other_scripts.items ≤ length other_passes.items }
-            requires other_ours { Each (λ j. Each (IsChargeOf there.now.id there.now.sides) j.task.pump.charges) other_jobs.items }
+            requires other_ours { Each (λ j. IsOurs there.now j.task.pump) other_jobs.items }
             ensures one { IfOk result (λ t. IsBack here.entry.now (dealt (map (λ j. j.task.pump) jobs.items)) t.0) }
             ensures other { IfOk result (λ t. IsBack there.entry.now (dealt (map (λ j. j.task.pump) other_jobs.items)) t.1) }
         {
@@ -123,7 +124,7 @@ fn both_homes<S: Script + Send + Drop, C: Wire + Send + Drop, R: Threads + Wait 
                 move || -> Result<Home, RunFault>
                     requires passes { EachAt (IsNew there.now) 0 other_passes.items × (length other_passes.items ≡ there.now.passes) }
                     requires enough { length other_jobs.items + length other_scripts.items ≤ length other_passes.items }
-                    requires ours { Each (λ j. Each (IsChargeOf there.now.id there.now.sides) j.task.pump.charges) other_jobs.items }
+                    requires ours { Each (λ j. IsOurs there.now j.task.pump) other_jobs.items }
                     ensures { IfOk result (λ h. IsBack there.entry.now (dealt (map (λ j. j.task.pump) other_jobs.items)) h) }
                 {
                     at_once(

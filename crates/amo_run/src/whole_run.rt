@@ -1,5 +1,6 @@
 //! A whole run.
-ghost use Rattle.std.specs.Prelude.{◌≡◌, ◌+◌, ◌*◌, ◌≤◌, length, IfOk};
+ghost use Rattle.std.specs.Prelude.{◌≡◌, ◌+◌, ◌*◌, ◌≤◌, length, All, IfOk};
+ghost use Rattle.amo_audit.specs.Journal.{CanSpell};
 ghost use Rattle.amo_run.specs.declared.part.Part.TheVariants.{Both, Senders, Receivers};
 ghost use Rattle.amo_run.specs.Parts.{clients_of, passes_of, pumps_of, sides_of};
 ghost use Rattle.amo_run.specs.Ran.{IsOfBooks, IsOfTwo, IsRanOf};
@@ -37,6 +38,7 @@ pub fn run<R: Threads + Wait + Net + Sync>(
 ) -> Result<Ran, RunFault>
     requires within { AreWithin settings.now }
     ensures whole { IfOk result (IsRanOf settings.now) }
+    ensures spelt { IfOk result (λ r. All CanSpell r.events.items × All CanSpell r.receivers.items) }
 {
     match settings.link {
         LinkKind::Memory => run_in_memory(rt, alloc, settings),
@@ -52,6 +54,7 @@ fn run_in_memory<R: Threads + Wait + Sync>(
 ) -> Result<Ran, RunFault>
     requires within { AreWithin settings.now }
     ensures whole { IfOk result (IsRanOf settings.now) }
+    ensures spelt { IfOk result (λ r. All CanSpell r.events.items × All CanSpell r.receivers.items) }
 {
     let Ok(channels) = channels(alloc, settings.seed, pumps_of(settings)) else {
         return Err(RunFault::NoMemory);
@@ -142,6 +145,7 @@ fn pair<R: Net>(rt: &R) -> Result<(Socket, Socket), LinkFault> {
 }
 
 /// A run over these wires.
+#[tactic(auto, using(crate::proofs::Lines::no_lines))]
 fn run_over<C: Wire + Send + Drop, R: Threads + Wait + Sync>(
     rt: &R,
     alloc: Global,
@@ -152,6 +156,7 @@ fn run_over<C: Wire + Send + Drop, R: Threads + Wait + Sync>(
     requires senders { pumps_of settings.now ≤ length wires.senders.items }
     requires receivers { pumps_of settings.now ≤ length wires.receivers.items }
     ensures whole { IfOk result (IsRanOf settings.now) }
+    ensures spelt { IfOk result (λ r. All CanSpell r.events.items × All CanSpell r.receivers.items) }
 {
     if settings.split {
         return run_apart(rt, alloc, settings, wires);
@@ -175,7 +180,8 @@ pub fn run_scripts<S: Script + Send + Drop, C: Wire + Send + Drop, R: Threads + 
     requires senders { pumps_of settings.now ≤ length wires.senders.items }
     requires receivers { pumps_of settings.now ≤ length wires.receivers.items }
     requires scripts { length scripts.items ≤ 56 }
-    ensures { IfOk result (λ r. IsWhole (sides_of Both settings.now.streams) (passes_of Both (pumps_of settings.now) (length scripts.items)) r.closed r.events.items) }
+    ensures spelt { IfOk result (λ r. All CanSpell r.events.items) }
+    ensures whole { IfOk result (λ r. IsWhole (sides_of Both settings.now.streams) (passes_of Both (pumps_of settings.now) (length scripts.items)) r.closed r.events.items) }
 {
     let Crew {
         book,
@@ -197,7 +203,8 @@ fn run_apart<C: Wire + Send + Drop, R: Threads + Wait + Sync>(
     requires within { AreWithin settings.now }
     requires senders { pumps_of settings.now ≤ length wires.senders.items }
     requires receivers { pumps_of settings.now ≤ length wires.receivers.items }
-    ensures { IfOk result (IsOfTwo settings.now) }
+    ensures two { IfOk result (IsOfTwo settings.now) }
+    ensures spelt { IfOk result (λ r. All CanSpell r.events.items × All CanSpell r.receivers.items) }
 {
     let Wires { senders, receivers } = wires;
     let Ok(putting) = workloads(alloc, Part::Senders, settings) else {

@@ -1,7 +1,7 @@
 //! How a pump comes by its link.
 ghost use Rattle.std.specs.Prelude.{◌≡◌, ◌<◌};
-ghost use Rattle.amo_host.specs.Station.{BelongTogether};
 ghost use Rattle.amo_run.specs.Crew.{Returned};
+ghost use Rattle.amo_run.specs.Engine.{Works};
 
 use crate::work::{Pumped, Task, cut_off, drive};
 use amo_book::{Book, Pass};
@@ -16,8 +16,8 @@ use std::sync::ledger::{Blank, Ledger};
 
 /// What becomes a link on the thread of the pump that uses it.
 pub trait Wire {
-    ghost use Rattle.amo_host.specs.Station.{BelongTogether};
     ghost use Rattle.amo_run.specs.Crew.{Returned};
+    ghost use Rattle.amo_run.specs.Engine.{Works};
 
     /// Drives a pump over the link.
     fn drive<R: Wait>(
@@ -29,8 +29,8 @@ pub trait Wire {
         task: Task,
         at_work: &AtomicU32,
     ) -> Pumped
-        requires { BelongTogether book.now pass task.pump }
-        ensures { Returned pass task.pump.charges result };
+        requires { Works book.now pass task.pump }
+        ensures { Returned book.now pass task.pump.charges result };
 }
 
 impl<'a, W: Wait> Wire for LossyEnd<'a, ChaChaWords, W> {
@@ -82,12 +82,12 @@ fn drive_socket<R: Wait, L: Ledger>(
     requires name { blank.name ≡ L.name }
     requires parts { blank.parts ≡ L.parts }
     requires some { 0 < L.parts }
-    requires together { BelongTogether book.now pass task.pump }
-    ensures { Returned pass task.pump.charges result }
+    requires together { Works book.now pass task.pump }
+    ensures { Returned book.now pass task.pump.charges result }
 {
     let Socket { port, peer } = socket;
     match port.connect::<L>(peer, blank) {
         Ok(link) => drive(rt, alloc, book, pass, task, link, at_work),
-        Err(_) => cut_off(alloc, pass, task),
+        Err(fault) => cut_off(alloc, book, pass, task, fault),
     }
 }

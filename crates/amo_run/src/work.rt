@@ -1,7 +1,7 @@
 //! What the threads of a run do, and what comes back from them.
-ghost use Rattle.std.specs.Prelude.{◌≡◌, IfOk};
-ghost use Rattle.amo_host.specs.Station.{BelongTogether};
+ghost use Rattle.std.specs.Prelude.{◌≡◌, [], IfOk};
 ghost use Rattle.amo_run.specs.Crew.{Did, Returned};
+ghost use Rattle.amo_run.specs.Engine.{Works};
 
 use crate::engine::{Engine, Tally};
 use crate::plan::Plan;
@@ -10,7 +10,7 @@ use crate::wire::Wire;
 use crate::{Script, client};
 use amo_book::{Book, Charge, Pass};
 use amo_host::Pump;
-use amo_net::Link;
+use amo_net::{Link, LinkFault};
 use amo_word::ChaChaWords;
 use amo_world::{Event, NoMemory};
 use std::alloc::Global;
@@ -29,13 +29,14 @@ pub struct Done {
 /// The promise that the pass comes back, and that its own events have grown by those of the list.
 #[derive(Drop)]
 pub struct ClientPromise {
+    pub book: Snapshot<Book>,
     pub pass: Snapshot<Pass>,
 }
 
 impl Promise<Done> for ClientPromise {
     ghost use Rattle.amo_run.specs.Crew.{Did};
 
-    ghost kept_by = { λ p d. Did p.pass.value d };
+    ghost kept_by = { λ p d. Did p.book.value p.pass.value d };
 }
 
 /// A client's thread that runs.
@@ -67,7 +68,7 @@ pub struct Pumped {
     pub pass: Pass,
     pub charges: Vec<Charge>,
     pub made: Result<Vec<(u64, Event)>, NoMemory>,
-    /// It had no link, and made no turn.
+    /// Its socket did not connect, and it made no turn.
     pub is_cut_off: bool,
     pub link_faults: u64,
     pub busy: u64,
@@ -76,6 +77,7 @@ pub struct Pumped {
 /// The promise that pass and charges come back, and that the pass's own events have grown by those of the list.
 #[derive(Drop)]
 pub struct PumpPromise {
+    pub book: Snapshot<Book>,
     pub pass: Snapshot<Pass>,
     pub pump: Snapshot<Pump<ChaChaWords>>,
 }
@@ -83,7 +85,7 @@ pub struct PumpPromise {
 impl Promise<Pumped> for PumpPromise {
     ghost use Rattle.amo_run.specs.Crew.{Returned};
 
-    ghost kept_by = { λ p d. Returned p.pass.value p.pump.value.charges d };
+    ghost kept_by = { λ p d. Returned p.book.value p.pass.value p.pump.value.charges d };
 }
 
 /// A pump's thread that runs.
@@ -101,7 +103,7 @@ pub fn follow_script<S: Script + Drop, R: Wait>(
     script: S,
 ) -> Done
     requires { pass.book ≡ book.now.id }
-    ensures { Did pass result }
+    ensures { Did book.now pass result }
 {
     let (mut pass, mut script) = (pass, script);
     let made = client(rt, alloc, book, &mut pass, &mut script);
@@ -117,8 +119,8 @@ pub fn follow_task<C: Wire + Drop, R: Wait>(
     job: PumpJob<C>,
     at_work: &AtomicU32,
 ) -> Pumped
-    requires { BelongTogether book.now pass job.task.pump }
-    ensures { Returned pass job.task.pump.charges result }
+    requires { Works book.now pass job.task.pump }
+    ensures { Returned book.now pass job.task.pump.charges result }
 {
     let PumpJob { task, wire } = job;
     wire.drive(rt, alloc, book, pass, task, at_work)
@@ -135,8 +137,8 @@ pub fn drive<L: Link + Drop, R: Wait>(
     link: L,
     at_work: &AtomicU32,
 ) -> Pumped
-    requires { BelongTogether book.now pass task.pump }
-    ensures { Returned pass task.pump.charges result }
+    requires { Works book.now pass task.pump }
+    ensures { Returned book.now pass task.pump.charges result }
 {
     let Task {
         pump,
@@ -183,18 +185,30 @@ pub fn drive<L: Link + Drop, R: Wait>(
     }
 }
 
-/// What comes back where there is no link.
-pub fn cut_off(alloc: Global, pass: Pass, task: Task) -> Pumped
-    ensures { Returned pass task.pump.charges result }
+/// What comes back where there is no link, for want of a socket or of memory.
+#[tactic(auto, using(crate::proofs::Crews::made_kept, crate::proofs::Tellings::tells_none, crate::proofs::Turning::fit_none))]
+pub fn cut_off(alloc: Global, book: &Book, pass: Pass, task: Task, fault: LinkFault) -> Pumped
+    ensures { Returned book.now pass task.pump.charges result }
 {
+    let _ = book;
     let Task { pump, .. } = task;
     Pumped {
         pass,
         charges: pump.finish(),
-        made: Ok(Vec::new(alloc)),
-        is_cut_off: true,
+        made: nothing(alloc, fault),
+        is_cut_off: fault == LinkFault::Device,
         link_faults: 0,
         busy: 0,
+    }
+}
+
+/// No events, unless memory was refused.
+fn nothing(alloc: Global, fault: LinkFault) -> Result<Vec<(u64, Event)>, NoMemory>
+    ensures { IfOk result (λ m. m.items ≡ []) }
+{
+    match fault {
+        LinkFault::Device => Ok(Vec::new(alloc)),
+        LinkFault::NoMemory => Err(NoMemory),
     }
 }
 

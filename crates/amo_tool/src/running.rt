@@ -5,7 +5,7 @@ ghost use Rattle.amo_audit.specs.Journal.{CanSpell};
 ghost use Rattle.amo_run.specs.Settings.{AreWithin};
 
 use crate::failure::Failure;
-use amo_audit::{Out, can_spell, write_journal};
+use amo_audit::{Out, write_journal};
 use amo_run::{RunSettings, run};
 use amo_world::Event;
 use std::alloc::{AllocError, Global};
@@ -56,11 +56,9 @@ fn with_ending(alloc: Global, file: &str, ending: &str) -> Result<String, AllocE
 }
 
 /// Keeps the journal of these events in a file. What was written has left when it answers.
-fn keep<R: AllocGlobal + Files>(rt: &R, file: &str, events: &[Event]) -> Result<(), Failure> {
-    // Each event of a run has a line. This is tested, and not proved yet.
-    if !can_spell(events) {
-        return Err(Failure::Device);
-    }
+fn keep<R: AllocGlobal + Files>(rt: &R, file: &str, events: &[Event]) -> Result<(), Failure>
+    requires spelt { All CanSpell events.now }
+{
     keep_through::<R::File, Brand>(rt.alloc(), fs::create(rt, file)?, events, Blank::new(1))
 }
 

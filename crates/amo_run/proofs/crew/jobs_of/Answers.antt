@@ -1,11 +1,10 @@
-use Rattle.std.proofs.Common.{List, length, map, sym, ap, ◌∙◌, subst, arith}
+use Rattle.std.proofs.Common.{◌≡◌, ℕ, List, length, map, sym, ap, ◌∙◌, subst, arith}
 use Rattle.amo_object.specs.declared.step.End.TheVariants.{Sender, Receiver}
 use Rattle.amo_book.specs.Book.{Each}
-use Rattle.amo_book.specs.Charge.{IsChargeOf}
 use Rattle.amo_book.specs.Closed.{AllCharges}
 use Rattle.amo_run.specs.declared.part.Part.{Part}
 use Rattle.amo_run.specs.declared.work.PumpJob.{PumpJob}
-use Rattle.amo_run.specs.Crew.{dealt}
+use Rattle.amo_run.specs.Crew.{IsOurs, dealt}
 use Rattle.amo_run.specs.Parts.{sides_of}
 use Rattle.amo_run.proofs.Openings.{both_hosts, one_host, enough_charges, all_of_both, all_of_one}
 use Rattle.amo_run.proofs.crew.jobs_of.Goals as goal
@@ -47,7 +46,7 @@ push_host-requires-in-Receivers-clause-pumps g c = let t = one_host Receiver c.a
 
 pub returns-clause-ours : goal.returns-clause-ours
 returns-clause-ours g c =
-    let Ours : List (PumpJob g.row.C.Denot) → Type 0 = λ l. Each (λ (j : PumpJob g.row.C.Denot). Each (IsChargeOf c.args.book.now.id c.args.book.now.sides) j.task.pump.charges) l in
+    let Ours : List (PumpJob g.row.C.Denot) → Type 0 = λ l. Each (λ (j : PumpJob g.row.C.Denot). IsOurs c.args.book.now j.task.pump) l in
     elim c.match-part.branch [
       | in-Both+in-Ok+in_ok-push_host-in-Both+in_ok-push_host-in-Both-2 w ↦ subst Ours (sym (ap (λ v. v.items) w.jobs-is)) w.in_ok-push_host-in-Both-2.ensures.ours
       | in-Senders+in_ok-push_host-in-Senders w ↦ subst Ours (sym (ap (λ v. v.items) w.jobs-is)) w.in_ok-push_host-in-Senders.ensures.ours

@@ -6,7 +6,7 @@ use Rattle.amo_run.proofs.crew.muster.Goals as goal
 
 pub returns-clause-ready : goal.returns-clause-ready
 returns-clause-ready g c =
-    let o = c.in_ok-book.ensures in
+    let o = c.in_ok-book.ensures.opens in
     let product : c.hosts.result * c.pumps_of.result ≡ hosts_of c.args.part * pumps_of c.args.settings.now = ap₂ (λ a b. a * b) c.hosts.ensures c.pumps_of.ensures.count in
     let most = le-max_left (c.hosts.result * c.pumps_of.result + c.len.result) 2 in
     let count = c.in_ok-jobs.ensures.count in let chosen = c.max-passes.ensures in let scripts = c.len.ensures in let long = o.numbered_are.0 in
@@ -15,4 +15,5 @@ returns-clause-ready g c =
       enough = omega arith;
       ours = c.in_ok-jobs.ensures.ours;
       all = c.in_ok-jobs.ensures.all;
+      lawful = c.in_ok-book.ensures.lawful;
     }

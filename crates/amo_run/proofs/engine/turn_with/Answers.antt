@@ -1,4 +1,4 @@
-use Rattle.std.proofs.Common.{ℕ, List, Some, sym, ap, ◌∙◌, subst}
+use Rattle.std.proofs.Common.{◌≡◌, ℕ, List, Some, sym, ap, ◌∙◌, subst, arith}
 use Rattle.amo_packet.specs.declared.layout.TheConstants.{NEWEST_VERSION}
 use Rattle.amo_world.specs.declared.event.Event.{Event}
 use Rattle.amo_run.specs.Engine.{Advances, told_of}
@@ -9,4 +9,4 @@ pub returns-in-Ok-turn : goal.returns-in-Ok-turn
 returns-in-Ok-turn g c = subst (λ (l : List (ℕ × Event)). Advances c.args.book.now c.args.pass.now c.turn.new.pass c.args.pump.now c.turn.new.self l)
     (sym (c.turn_of-in-Ok-turn.ensures.told ∙ ap (λ (n : ℕ). told_of n (Some c.in-Ok-copied.packet) c.in-Ok-turn.turned) c.number-number.ensures.number))
     (with_advances c.args.book.now c.args.pump.now c.turn.new.self c.args.pass.now c.turn.new.pass g.W.Words.to_come NEWEST_VERSION c.args.now c.args.bytes.now c.args.out.now c.turn.new.out c.in-Ok-copied.packet c.in-Ok-turn.turned
-    c.turn.ensures.station.1 (λ q s. c.in-Ok-copied.ensures.ok ∙ c.in-Ok.ensures.complete q s) c.in-Ok-turn.ensures.turned c.turn_of-in-Ok-turn.ensures.small)
+    c.requires (c.turn.ensures.station.1, c.turn.ensures.station.0) (λ i. omega (arith, c.type_inv.bytes i)) (λ q s. c.in-Ok-copied.ensures.ok ∙ c.in-Ok.ensures.complete q s) c.in-Ok-turn.ensures.turned c.turn_of-in-Ok-turn.ensures.small)

@@ -1,7 +1,6 @@
-use Rattle.std.specs.Prelude.{◌≡◌, ◌+◌, ◌++◌, ◌≤◌, length, map, reverse, vec_capacity}
+use Rattle.std.specs.Prelude.{◌≡◌, ◌+◌, ◌++◌, ◌≤◌, [], length, map, reverse, vec_capacity}
 use Rattle.amo_book.specs.Book.{Each}
-use Rattle.amo_book.specs.Charge.{IsChargeOf}
-use Rattle.amo_run.specs.Crew.{EachAt, IsNew, IsClient, IsPump, dealt, lent}
+use Rattle.amo_run.specs.Crew.{EachAt, IsNew, IsOurs, IsClient, IsPump, dealt, lent}
 use Rattle.amo_run.proofs.threads.fn.in_rooms.scope.Given as goal
 
 -- The passes that are left are the first ones, and the threads have the others. What the pumps that wait hold and what is lent is all.
@@ -9,7 +8,7 @@ abbrev pub invariant-pumps : goal.invariant-pumps
 invariant-pumps g l = record {
   rest : EachAt (IsNew l.book.now) 0 l.passes.items;
   enough : length l.jobs.items + length l.scripts.items ≤ length l.passes.items;
-  ours : Each (λ j. Each (IsChargeOf l.book.now.id l.book.now.sides) j.task.pump.charges) l.jobs.items;
+  ours : Each (λ j. IsOurs l.book.now j.task.pump) l.jobs.items;
   threads : EachAt (IsPump l.book.now) (length l.passes.items) (reverse l.pumps.items);
   count : length l.pumps.items + length l.passes.items ≡ l.book.now.passes;
   room : length l.pumps.items + length l.jobs.items ≤ vec_capacity l.pumps;
