@@ -1,10 +1,9 @@
 -- What is seen of streams, event by event.
-use Rattle.std.proofs.Common.{◌≡◌, ◌↔◌, ℕ, ◌+◌, ◌-◌, ◌<◌, ◌≤◌, ◌==◌, Bool, true, false, inl, inr, ◌⊎◌, Some, List, [], ◌∷◌, ◌++◌, length, take, reverse, set, get_or, slice_get, refl, sym, ◌∙◌, ap, subst, arith}
-use Rattle.std.specs.List.{All}
+use Rattle.std.proofs.Common.{◌≡◌, ◌↔◌, ℕ, ◌+◌, ◌-◌, ◌<◌, ◌==◌, Bool, true, false, inl, inr, ◌⊎◌, Some, List, [], ◌∷◌, ◌++◌, length, take, reverse, set, get_or, slice_get, refl, sym, ◌∙◌, ap, subst, arith}
 use Rattle.std.specs.Option.{option_to_list}
 use Rattle.std.proofs.lemmas.Bool.{eq-eqb, eqb-true}
-use Rattle.std.proofs.lemmas.List.{take_all, take_more, reverse-append, length-set, length-append}
-use Rattle.std.proofs.lemmas.List.Elements.{All-contains, Contains-append_left, Contains-append_right, Contains-append_cases}
+use Rattle.std.proofs.lemmas.List.{take_more, reverse-append, length-set, length-append}
+use Rattle.std.proofs.lemmas.List.Elements.{Contains-append_left, Contains-append_right, Contains-append_cases}
 use Rattle.std.proofs.lemmas.Option.{slice_get_read}
 use Rattle.amo_object.specs.declared.step.Step.{Step}
 use Rattle.amo_world.specs.declared.event.Event.{Event}
@@ -97,33 +96,35 @@ there_more seen events e number known other = record {
     differ false is = refl
 
 -- all streams after one event more
-pub seen_more : (streams : List Seen) (events : List Event) (i : ℕ) (e : Event) (old new : Seen) → AreSeen streams (take i events)
-    → i < length events → e ≡ get_or events i e
-    → All (λ (x : Event). IsStream x.stream) events → old ≡ get_or streams (e.stream - 1) old → new.is_named ≡ true
-    → new.calls.items ≡ old.calls.items ++ option_to_list (call_of e.side e.act e.reply) → AreSeen (set streams (e.stream - 1) new) (take (i + 1) events)
-seen_more streams events i e old new seen within is all at named more =
-    subst (λ (es : List Event). AreSeen (set streams (e.stream - 1) new) es) (sym (take_more events i e within ∙ ap (λ (x : Event). take i events ++ x ∷ []) (sym is)))
-    (record {
-      count = length-set streams (e.stream - 1) new ∙ seen.count;
-      each = λ place kept has. by place kept (set_cases streams (e.stream - 1) new place kept has);
-    })
+pub seen_more : (streams : List Seen) (e : Event) (old new : Seen) → IsStream e.stream → old ≡ get_or streams (e.stream - 1) old → new.is_named ≡ true
+    → new.calls.items ≡ old.calls.items ++ option_to_list (call_of e.side e.act e.reply)
+    → (events : List Event) → AreSeen streams events → AreSeen (set streams (e.stream - 1) new) (events ++ e ∷ [])
+seen_more streams e old new ranged at named more events seen = record {
+  count = length-set streams (e.stream - 1) new ∙ seen.count;
+  each = λ place kept has. by place kept (set_cases streams (e.stream - 1) new place kept has);
+}
   where
-    ranged : (1 ≤ e.stream) × (e.stream ≤ 256)
-    ranged = All-contains (λ (x : Event). IsStream x.stream) events e all (i, within, sym is)
-
     by : (place : ℕ) (kept : Seen)
         → ((e.stream - 1 ≡ place) × (new ≡ kept)) ⊎ ((e.stream - 1 ≡ place → ⊥) × (slice_get streams place ≡ Some kept))
-        → IsSeen kept (place + 1) (take i events ++ e ∷ [])
+        → IsSeen kept (place + 1) (events ++ e ∷ [])
     by place kept (inl (here, same)) =
         let stands = slice_get_read streams 256 (e.stream - 1) old (sym seen.count) (omega (arith, ranged.0, ranged.1)) at in
-        let known : IsSeen old (place + 1) (take i events) = seen.each place old (subst (λ (k : ℕ). slice_get streams k ≡ Some old) here stands) in
-        subst (λ (s : Seen). IsSeen s (place + 1) (take i events ++ e ∷ [])) same
-        (here_more old new (take i events) e (place + 1) known (omega (arith, here, ranged.0)) named more)
-    by place kept (inr (apart, there)) = there_more kept (take i events) e (place + 1) (seen.each place kept there) (λ of. apart (omega (arith, of)))
+        let known : IsSeen old (place + 1) events = seen.each place old (subst (λ (k : ℕ). slice_get streams k ≡ Some old) here stands) in
+        subst (λ (s : Seen). IsSeen s (place + 1) (events ++ e ∷ [])) same
+        (here_more old new events e (place + 1) known (omega (arith, here, ranged.0)) named more)
+    by place kept (inr (apart, there)) = there_more kept events e (place + 1) (seen.each place kept there) (λ of. apart (omega (arith, of)))
 
--- after the last event that is all
-pub all_seen : (streams : List Seen) (events : List Event) (i : ℕ) → AreSeen streams (take i events) → length events ≤ i → AreSeen streams events
-all_seen streams events i seen end = subst (λ (es : List Event). AreSeen streams es) (take_all i events end) seen
+-- the past at the next place
+pub past_next : (events : List Event) (place : ℕ) (e : Event) → place < length events → e ≡ get_or events place e
+    → reverse (take (place + 1) events) ≡ e ∷ reverse (take place events)
+past_next events place e within is =
+    ap reverse (take_more events place e within ∙ ap (λ (x : Event). take place events ++ x ∷ []) (sym is)) ∙ reverse-append (take place events) (e ∷ [])
+
+-- the events up to a place and the one at it
+pub seen_next : (streams : List Seen) (events : List Event) (place : ℕ) (e : Event) → place < length events → e ≡ get_or events place e
+    → AreSeen streams (take place events ++ e ∷ []) → AreSeen streams (take (place + 1) events)
+seen_next streams events place e within is seen =
+    subst (λ (es : List Event). AreSeen streams es) (sym (take_more events place e within ∙ ap (λ (x : Event). take place events ++ x ∷ []) (sym is))) seen
 
 -- what is seen of the stream at a place
 pub seen_at : (streams : List Seen) (events : List Event) (place : ℕ) (seen : Seen) → AreSeen streams events → place < 256

@@ -2,6 +2,7 @@
 ghost use Rattle.std.specs.Prelude.{◌≡◌};
 
 use crate::NoMemory;
+use std::alloc::AllocError;
 use thiserror::Error;
 
 /// Why a history was not resolved. A place is that of the first event at fault, counted from 0.
@@ -44,6 +45,17 @@ impl From<NoMemory> for ResolveFault {
     ghost from_gives = { λ _ given. given ≡ fault.NoMemory };
 
     fn from(_: NoMemory) -> ResolveFault {
+        ResolveFault::NoMemory
+    }
+}
+
+impl From<AllocError> for ResolveFault {
+    ghost use Rattle.std.specs.Prelude.{◌≡◌};
+    ghost use Rattle.amo_resolve.specs.declared.fault.ResolveFault.TheVariants as fault;
+
+    ghost from_gives = { λ _ given. given ≡ fault.NoMemory };
+
+    fn from(_: AllocError) -> ResolveFault {
         ResolveFault::NoMemory
     }
 }

@@ -1,21 +1,26 @@
-//! Whether a history is right, honest and fresh.
-ghost use Rattle.std.specs.Prelude.{◌≡◌, ℕ, OnOk, IfErr, reverse};
+//! Whether a history is right, honest and fresh, and what is seen of its streams.
+ghost use Rattle.std.specs.Prelude.{◌≡◌, ℕ, OnOk, IfOk, IfErr, reverse};
 ghost use Rattle.std.specs.List.{All};
 ghost use Rattle.amo_world.specs.Stream.{IsStream};
 ghost use Rattle.amo_world.specs.History.{IsRight, IsHonest, IsFresh};
 ghost use Rattle.amo_resolve.specs.Fault.{IsFault};
+ghost use Rattle.amo_resolve.specs.Seen.{AreSeen};
 
+use crate::calls::{Seen, nothing_seen, see};
 use crate::{Event, ResolveFault};
 use amo_world::{World, WorldFault};
 use std::alloc::Global;
 
-/// Hands each event in to a world, and tells the first fault.
-pub(crate) fn judge(alloc: Global, events: &[Event]) -> Result<(), ResolveFault>
+/// Hands each event in to a world, and tells the first fault, or what is seen of each stream. Each event is looked at once: the one
+/// that the world has just taken is at hand.
+pub(crate) fn judge(alloc: Global, events: &[Event]) -> Result<Vec<Seen>, ResolveFault>
     requires { All (λ e. IsStream e.stream) events.now }
+    ensures seen { IfOk result (λ streams. AreSeen streams.items events.now) }
     ensures sound { OnOk result (IsRight (reverse events.now) × IsHonest (reverse events.now) × IsFresh (reverse events.now)) }
     ensures fault { IfErr result (λ fault. IsFault events.now fault) }
 {
     let mut world = World::new(alloc)?;
+    let mut streams = nothing_seen(alloc)?;
     for (place, event) in events.iter().enumerate() {
         match world.apply(event.copy()?) {
             Ok(()) => {}
@@ -24,6 +29,7 @@ pub(crate) fn judge(alloc: Global, events: &[Event]) -> Result<(), ResolveFault>
             Err(WorldFault::Unsent) => return Err(ResolveFault::Unsent(place)),
             Err(WorldFault::Repeat) => return Err(ResolveFault::Repeat(place)),
         }
+        see(alloc, &mut streams, event)?;
     }
-    Ok(())
+    Ok(streams)
 }

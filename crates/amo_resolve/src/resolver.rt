@@ -7,7 +7,6 @@ ghost use Rattle.amo_resolve.specs.Fault.{IsFault};
 ghost use Rattle.amo_resolve.specs.Resolved.{IsResolved};
 ghost use Rattle.amo_resolve.specs.Explanation.{IsExplained, Explains};
 
-use crate::calls::seen_by;
 use crate::explanation::explain;
 use crate::judge::judge;
 use crate::{Event, NoMemory, ResolveFault, Step};
@@ -35,17 +34,7 @@ pub fn resolve(alloc: Global, events: &[Event]) -> Result<Vec<Run>, ResolveFault
     ensures sound { OnOk result (IsRight (reverse events.now) × IsHonest (reverse events.now) × IsFresh (reverse events.now)) }
     ensures fault { IfErr result (λ fault. IsFault events.now fault) }
 {
-    judge(alloc, events)?;
-    Ok(runs_of(alloc, events)?)
-}
-
-/// Runs that explain a history that is right, honest and fresh.
-fn runs_of(alloc: Global, events: &[Event]) -> Result<Vec<Run>, NoMemory>
-    requires streams { All (λ e. IsStream e.stream) events.now }
-    requires sound { IsRight (reverse events.now) × IsHonest (reverse events.now) × IsFresh (reverse events.now) }
-    ensures { IfOk result (λ runs. IsResolved runs.items events.now) }
-{
-    let streams = seen_by(alloc, events)?;
+    let streams = judge(alloc, events)?;
     let mut runs = Vec::new(alloc);
     for place in 0..STREAMS {
         let seen = &streams[place as usize];
@@ -54,7 +43,7 @@ fn runs_of(alloc: Global, events: &[Event]) -> Result<Vec<Run>, NoMemory>
             let steps = explanation(alloc, seen.calls.as_slice())?;
             match runs.push(Run { stream, steps }) {
                 Ok(()) => {}
-                Err(_) => return Err(NoMemory),
+                Err(_) => return Err(ResolveFault::NoMemory),
             }
         }
     }

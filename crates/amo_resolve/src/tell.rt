@@ -40,17 +40,17 @@ fn copy_of(alloc: Global, step: &Step) -> Result<Step, AllocError>
 }
 
 impl<'a> Told<'a> {
-    /// Nothing yet.
-    fn new(alloc: Global) -> Told<'a>
-        ensures leads { (got : List (List ℕ)) → LeadsTo result.run.items [] (state_of got result.queue) }
-        ensures start { (got : List (List ℕ)) → state_of got result.queue ≡ start }
-        ensures parts { (result.queue.first ≡ 0) × (result.queue.known ≡ 0) × (result.queue.others ≡ []) }
+    /// Nothing yet, with room for so many steps.
+    fn new(alloc: Global, steps: usize) -> Result<Told<'a>, AllocError>
+        ensures leads { IfOk result (λ told. (got : List (List ℕ)) → LeadsTo told.run.items [] (state_of got told.queue)) }
+        ensures start { IfOk result (λ told. (got : List (List ℕ)) → state_of got told.queue ≡ start) }
+        ensures parts { IfOk result (λ told. (told.queue.first ≡ 0) × (told.queue.known ≡ 0) × (told.queue.others ≡ [])) }
     {
-        Told {
+        Ok(Told {
             alloc,
-            run: Vec::new(alloc),
+            run: Vec::with_capacity(alloc, steps)?,
             queue: Replica::new(alloc),
-        }
+        })
     }
 
     /// The call that comes next, if the queue allows it and it is no loss.
@@ -150,7 +150,7 @@ pub(crate) fn tell<'a>(
     ensures explains { IfOk result (λ run. IfSome run (λ steps. Explains steps.items calls.now)) }
     ensures none { IfOk result (λ run. IfNone run (¬ (IsExplained calls.now))) }
 {
-    let mut told = Told::new(alloc);
+    let mut told = Told::new(alloc, calls.len())?;
     for place in 0..calls.len() {
         let call = &calls[place];
         let note = note_at(notes, place);

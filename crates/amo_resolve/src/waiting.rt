@@ -27,7 +27,7 @@ impl<'a> Got<'a> {
     pub(crate) fn by(alloc: Global, calls: &'a [Step]) -> Result<Got<'a>, AllocError>
         ensures { IfOk result (λ got. got ≡ messages_got calls.now) }
     {
-        let mut messages = Vec::new(alloc);
+        let mut messages = Vec::with_capacity(alloc, calls.len())?;
         for call in calls {
             match got_by(call) {
                 Some(message) => messages.push(message)?,

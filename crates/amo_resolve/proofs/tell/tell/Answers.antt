@@ -14,13 +14,13 @@ pub loop-place-init : goal.loop-place-init
 loop-place-init c =
     let got = c.args.got.now in
     record {
-      leads = c.new-told.ensures.leads got;
-      within = λ some. absurd (omega (arith, some, c.new-told.ensures.parts.1));
-      later = ap (λ (n : ℕ). drop n got) c.new-told.ensures.parts.0 ∙ c.requires.got;
+      leads = c.in_ok-told.ensures.leads got;
+      within = λ some. absurd (omega (arith, some, c.in_ok-told.ensures.parts.1));
+      later = ap (λ (n : ℕ). drop n got) c.in_ok-told.ensures.parts.0 ∙ c.requires.got;
       ready = λ explained. (
-        subst (λ (q : QueueState). Ready q c.args.calls.now c.args.notes.now) (sym (c.new-told.ensures.start got))
+        subst (λ (q : QueueState). Ready q c.args.calls.now c.args.notes.now) (sym (c.in_ok-told.ensures.start got))
             (ready_start c.args.calls.now c.args.notes.now c.requires.marked.0 c.requires.plan (serves_start c.args.calls.now explained)),
-        bound_start got c.new-told.result.queue (GoesOn c.args.calls.now c.args.notes.now) c.new-told.ensures.parts.1,
+        bound_start got c.in_ok-told.told.queue (GoesOn c.args.calls.now c.args.notes.now) c.in_ok-told.ensures.parts.1,
       );
     }
 
