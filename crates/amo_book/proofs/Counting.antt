@@ -16,10 +16,11 @@ use Rattle.amo_book.specs.declared.view.View.{View}
 use Rattle.amo_book.specs.declared.view.Share.{Share}
 use Rattle.amo_book.specs.Pass.{automaton_after}
 use Rattle.amo_book.specs.Book.{Apart}
-use Rattle.amo_book.specs.Rule.{share, Has, Knows, state_at}
+use Rattle.amo_book.specs.Rule.{share, Has, Knows, state_at, gate_of}
 use Rattle.amo_book.specs.Plays.{Sat, view, counted}
 use Rattle.amo_book.proofs.Histories.{events_of-own, events_of-other, next_count, reply-row, state_at-is, moved, stayed}
 use Rattle.amo_book.proofs.Seats.{Whole, held_at, same_place, same_state, same_view_at, inside, has_one, each_set, Rule}
+use Rattle.amo_book.proofs.Strides.{gate_is_not_count}
 
 abbrev made_of : List Share → List Event
 made_of [] = []
@@ -75,8 +76,8 @@ module _ (places passes : ℕ) (replay : ℕ → List Event → Automaton) where
       let o = mine.owns p made (subst (λ l. Has l p made) (sym shares) (inl refl)) in
       let wide = r.wide in
       let below = o.0 in
-      let gate_same : (j : ℕ) → get_or words' (j + 1) 0 ≡ get_or s.words (j + 1) 0 =
-      λ j. get_or-set_other s.words 0 (j + 1) c 0 (λ z. omega arith) in
+      let gate_same : (j : ℕ) → get_or words' (gate_of j) 0 ≡ get_or s.words (gate_of j) 0 =
+      λ j. get_or-set_other s.words 0 (gate_of j) c 0 (gate_is_not_count j) in
       let moves : y ≡ replay k log' = ap (λ (a : Automaton). (row a e.act).state) t.3 ∙ at_place.moves log in
       let own : Knows places passes replay log' r.holder r.owner words' id w = record {
         seen = itself log';
@@ -89,7 +90,7 @@ module _ (places passes : ℕ) (replay : ℕ → List Event → Automaton) where
         holds = λ j z f. let is : k ≡ j = same_place k j y z f in let same : y ≡ z = same_state k j y z f in (
           subst (λ i. i < places) is t.0,
           subst (λ i. r.holder i ≡ id) is t.1,
-          (λ g. subst (λ i. slice_index s.words (i + 1) ≢ 0) is t.2 (sym (gate_same j) ∙ g)),
+          (λ g. subst (λ i. slice_index s.words (gate_of i) ≢ 0) is t.2 (sym (gate_same j) ∙ g)),
           sym same ∙ (moves ∙ ap (λ i. replay i log') is),
         );
         named = λ j z f. (p, e ∷ made, inl refl);
@@ -113,8 +114,8 @@ module _ (places passes : ℕ) (replay : ℕ → List Event → Automaton) where
         tall = r.tall;
         count = get_or-set_same s.words 0 c 0 (omega arith) ∙ next_count (get_or s.words 0 0) e log r.count;
         each = each_set (Knows places passes replay log' r.holder r.owner words') s.views id w own others;
-        free = λ j l z. let was : get_or s.words (j + 1) 0 ≡ 0 = sym (gate_same j) ∙ z in
-            let apart' : j ≢ k = (λ g. t.2 (ap (λ q. get_or s.words (q + 1) 0) (sym g) ∙ was)) in
+        free = λ j l z. let was : get_or s.words (gate_of j) 0 ≡ 0 = sym (gate_same j) ∙ z in
+            let apart' : j ≢ k = (λ g. t.2 (ap (λ q. get_or s.words (gate_of q) 0) (sym g) ∙ was)) in
             r.free j l was ∙ ap (λ (z : Automaton). some (some (Some z))) (sym (at_place.stays log j l apart'));
         busy = λ j l z. let b = r.busy j l (λ g. z (gate_same j ∙ g)) in dite (ℕ_discrete (r.holder j) id)
             (λ is. let was : v ≡ b.0 = same_view_at s.views id v b.0 at (subst (λ i. get_elem? s.views i ≡ some b.0) is b.2) in

@@ -1,5 +1,5 @@
 -- The table at its opening and at its end.
-use Rattle.std.proofs.Common.{◌≡◌, ℕ, zero, suc, ◌+◌, ◌<◌, List, [], ◌∷◌, map, length, get_or, Some, refl, sym, ap, ◌∙◌, subst, ⊎_elim, arith}
+use Rattle.std.proofs.Common.{◌≡◌, ℕ, zero, suc, ◌<◌, List, [], ◌∷◌, map, length, get_or, Some, refl, sym, ap, ◌∙◌, subst, ⊎_elim, arith}
 use Rattle.std.proofs.lemmas.List.{length-map}
 use mathlib.Core.Logic.{dite}
 use mathlib.Core.Option.{some, some-injective, some-ne-none}
@@ -9,7 +9,7 @@ use Rattle.atomic_table.specs.Table.{opening, Final, Seen}
 use Rattle.amo_core.specs.declared.automaton.Automaton.{Automaton}
 use Rattle.amo_world.specs.declared.event.Event.{Event}
 use Rattle.amo_book.specs.declared.view.View.{View}
-use Rattle.amo_book.specs.Rule.{Slot, first_view, Knows, Settled, HasAll}
+use Rattle.amo_book.specs.Rule.{Slot, first_view, Knows, Settled, HasAll, gate_of, slot_of}
 use Rattle.amo_book.proofs.Seats.{Whole, not_none, same_view_at, Rule}
 use Rattle.amo_book.proofs.Sharing.{from_nothing, at_end, fresh-has}
 
@@ -23,8 +23,8 @@ module _ (places passes : ℕ) (replay : ℕ → List Event → Automaton) where
   R = Rule places passes replay
 
   -- words of 0, each automaton as nothing leaves it, and one seat with every share
-  pub opens : (words : List ℕ) (slots : List Slot) → length words ≡ places + 1 → ((k : ℕ) → get_or words k 0 ≡ 0) → length slots ≡ places
-      → ((k : ℕ) → k < places → get_elem? slots k ≡ some (Some (replay k [])))
+  pub opens : (words : List ℕ) (slots : List Slot) → length words ≡ gate_of places → ((k : ℕ) → get_or words k 0 ≡ 0) → length slots ≡ slot_of places
+      → ((k : ℕ) → k < places → get_elem? slots (slot_of k) ≡ some (Some (replay k [])))
       → R (opening words slots (first_view passes))
   opens words slots wide zeros tall starts =
       let v : View = first_view passes in
@@ -47,8 +47,8 @@ module _ (places passes : ℕ) (replay : ℕ → List Event → Automaton) where
         each = λ j u a. ⊎_elim (λ h. absurd (some-ne-none u (sym h)))
             (λ (t : (j ≡ 0) × (v ≡ u)). subst (λ (z : ℕ × View). K z.0 z.1) (λ i. (sym t.0 i, t.1 i)) first)
             (at_end [] v u j a);
-        free = λ k l _. map-at slots k (Some (replay k [])) (starts k l);
-        busy = λ k l z. absurd (z (zeros (k + 1)));
+        free = λ k l _. map-at slots (slot_of k) (Some (replay k [])) (starts k l);
+        busy = λ k l z. absurd (z (zeros (gate_of k)));
       }
 
   -- where one seat has every share and holds nothing, nobody holds anything
@@ -65,7 +65,7 @@ module _ (places passes : ℕ) (replay : ℕ → List Event → Automaton) where
         seen = mine.seen;
         owns = λ p m h. (mine.owns p m h).2;
         count = ap (λ l. get_or l 0 0) (sym f.2) ∙ r.count;
-        states = λ k l. let zero_there : get_or s.words (k + 1) 0 ≡ 0 = dite (ℕ_discrete (get_or s.words (k + 1) 0) 0) (λ z. z)
+        states = λ k l. let zero_there : get_or s.words (gate_of k) 0 ≡ 0 = dite (ℕ_discrete (get_or s.words (gate_of k) 0) 0) (λ z. z)
             (λ n. let b = r.busy k l n in
             let theirs = r.each (r.holder k) b.0 b.2 in
             let named = theirs.named k b.1 b.3 in
@@ -75,5 +75,5 @@ module _ (places passes : ℕ) (replay : ℕ → List Event → Automaton) where
             let is : r.holder k ≡ id = sym o.1 ∙ own.1 in
             let was : v ≡ b.0 = same_view_at s.views id v b.0 at (subst (λ i. get_elem? s.views i ≡ some b.0) is b.2) in
             absurd (not_none k b.1 (sym all.0 ∙ (ap (λ (q : View). q.held) was ∙ b.3)))) in
-            f.4 k (Some (replay k r.log)) (r.free k l zero_there);
+            f.4 (slot_of k) (Some (replay k r.log)) (r.free k l zero_there);
       }

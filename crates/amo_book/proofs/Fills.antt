@@ -5,7 +5,9 @@ use mathlib.Core.Option.{some, some-injective, some-ne-none}
 use mathlib.Core.Logic.{dite}
 use native.Mathlib.Decide.{ℕ_discrete}
 use lib.ListN.{get_elem?}
+use Rattle.amo_world.proofs.Lists.{slice_get-end, slice_get-longer}
 use Rattle.amo_book.specs.Book.{Each, Lists}
+use Rattle.amo_book.specs.Rule.{Slot, Spaced, stride, slot_of}
 
 module _ {A : Type 0} where
   get-push-here : (l : List A) (x : A) → slice_get (l ++ x ∷ []) (length l) ≡ Some x
@@ -47,6 +49,19 @@ module _ {A : Type 0} where
   pub lists-each : (P : A → Type 0) (f : ℕ → A) (n : ℕ) (l : List A) → ((k : ℕ) → P (f k)) → Lists f n l → Each P l
   lists-each P f n l all h = each-from P l
       (λ k x e. let lt = slice_get_within l k x e in let long = h.0 in let same = h.1 k (omega arith) in let is : f k ≡ x = cc in subst P is (all k))
+
+pub spaced-none : (f : ℕ → Slot) → Spaced f 0 []
+spaced-none f = (refl, λ k h. absurd (omega arith))
+
+-- one more slot is filled, and what stands between it and the next one follows
+pub spaced-more : (f : ℕ → Slot) (n : ℕ) (l m : List Slot) (x : Slot) → x ≡ f n → Spaced f n l → length m + 1 ≡ length (l ++ x ∷ []) + stride
+    → ((k : ℕ) (y : Slot) → slice_get (l ++ x ∷ []) k ≡ Some y → slice_get m k ≡ Some y) → Spaced f (n + 1) m
+spaced-more f n l m x is h wide kept = let long = h.0 in (
+  omega (arith, wide, length-append l (x ∷ [])),
+  λ k lt. kept (slot_of k) (f k) (dite (ℕ_discrete k n)
+      (λ e. ap (slice_get (l ++ x ∷ [])) (ap slot_of e ∙ sym long) ∙ (slice_get-end l x ∙ ap Some (is ∙ ap f (sym e))))
+      (λ ne. slice_get-longer l (x ∷ []) (slot_of k) (f k) (h.1 k (omega arith)))),
+)
 
 module _ {A B : Type 0} where
   pub is_map : (f : B → A) (d : B) (l : List B) (xs : List A) → length xs ≡ length l

@@ -1,4 +1,5 @@
 pub mod Histories
+pub mod Strides
 pub mod Seats
 pub mod Gates
 pub mod Counting

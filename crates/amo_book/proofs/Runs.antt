@@ -13,20 +13,20 @@ use Rattle.amo_core.specs.Automaton.{row, mode_of, Writes}
 use Rattle.amo_world.specs.declared.event.Event.{Event}
 use Rattle.amo_world.specs.History.{stream_after, IsRight, Extends, events_of}
 use Rattle.amo_book.specs.declared.view.View.{View}
-use Rattle.amo_book.specs.Pass.{PassState, GrownBy, automaton_after, event}
+use Rattle.amo_book.specs.Pass.{GrownBy, automaton_after, event}
 use Rattle.amo_book.specs.Charge.{ChargeState}
 use Rattle.amo_book.specs.Drive.{Driven}
-use Rattle.amo_book.specs.Rule.{Slot, share, Has}
+use Rattle.amo_book.specs.Rule.{Slot, share, Has, slot_of}
 use Rattle.amo_book.specs.Plays.{Sat, IsAtRest, view, taken, Counts, Looks, witness, joined}
 use Rattle.amo_book.specs.Steps.{IsPass, Made, pass_of, holding, released}
 use Rattle.amo_book.proofs.Histories.{emission-row, automaton-here}
 use Rattle.amo_book.proofs.Seats.{held_at}
 
 abbrev emptied : ℕ → List (ℕ × Slot)
-emptied k = (k, None) ∷ []
+emptied k = (slot_of k, None) ∷ []
 
 abbrev filled : ℕ → Automaton → List (ℕ × Slot)
-filled k x = (k, Some x) ∷ []
+filled k x = (slot_of k, Some x) ∷ []
 
 pub rests : (p : ℕ) (m : Sat) → IsPass p m → IsAtRest m
 rests p m h = (h.home, h.held, (p, events_of p m.0.seen, h.own))

@@ -1,5 +1,5 @@
 -- What each seat knows, while one view changes.
-use Rattle.std.proofs.Common.{◌≡◌, ◌≢◌, ℕ, zero, suc, ◌+◌, ◌<◌, List, [], ◌∷◌, length, get_or, set, Option, Some, None, refl, sym, ap, ◌∙◌, subst, ⊎_elim, arith}
+use Rattle.std.proofs.Common.{◌≡◌, ◌≢◌, ℕ, zero, suc, ◌<◌, List, [], ◌∷◌, length, get_or, set, Option, Some, None, refl, sym, ap, ◌∙◌, subst, ⊎_elim, arith}
 use Rattle.std.proofs.lemmas.Option.{some_pair_parts}
 use mathlib.Core.Logic.{dite}
 use mathlib.Core.Option.{some, some-injective, some-ne-none}
@@ -12,7 +12,7 @@ use Rattle.amo_world.specs.declared.event.Event.{Event}
 use Rattle.amo_world.proofs.Extensions.{itself}
 use Rattle.amo_book.specs.declared.view.View.{View}
 use Rattle.amo_book.specs.declared.view.Share.{Share}
-use Rattle.amo_book.specs.Rule.{Slot, share, Has, Knows, Kept}
+use Rattle.amo_book.specs.Rule.{Slot, share, Has, Knows, Kept, gate_of}
 use Rattle.amo_book.specs.Plays.{Sat, view, looked}
 
 abbrev pub Whole : Type 0
@@ -77,8 +77,8 @@ module _ (places passes : ℕ) (replay : ℕ → List Event → Automaton) where
     count = ap (λ l. get_or l 0 0) e ∙ r.count;
     each = subst (λ (l : List ℕ). (j : ℕ) (u : View) → get_elem? (set s.views id w) j ≡ some u → Knows places passes replay r.log r.holder r.owner l j u) (sym e)
         (each_set (Knows places passes replay r.log r.holder r.owner s.words) s.views id w knows (λ j u _ a. r.each j u a));
-    free = λ k lt z. r.free k lt (ap (λ l. get_or l (k + 1) 0) (sym e) ∙ z);
-    busy = λ k lt z. let b = r.busy k lt (λ zero_there. z (ap (λ l. get_or l (k + 1) 0) e ∙ zero_there)) in
+    free = λ k lt z. r.free k lt (ap (λ l. get_or l (gate_of k) 0) (sym e) ∙ z);
+    busy = λ k lt z. let b = r.busy k lt (λ zero_there. z (ap (λ l. get_or l (gate_of k) 0) e ∙ zero_there)) in
         dite (ℕ_discrete (r.holder k) id)
         (λ is. let was : v ≡ b.0 = same_view_at s.views id v b.0 at (subst (λ i. get_elem? s.views i ≡ some b.0) is b.2) in
         (w, b.1, subst (λ i. get_elem? (set s.views id w) i ≡ some w) (sym is) (set_here s.views id w (inside s.views id v at)), same ∙ (ap (λ (z : View). z.held) was ∙ b.3)))

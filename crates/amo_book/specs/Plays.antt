@@ -12,7 +12,7 @@ use Rattle.amo_world.specs.History.{IsRight, Extends, events_of}
 use Rattle.amo_book.specs.declared.view.View.{View}
 use Rattle.amo_book.specs.declared.view.Share.{Share}
 use Rattle.amo_book.specs.Pass.{automaton_after, event}
-use Rattle.amo_book.specs.Rule.{Slot, Has, share}
+use Rattle.amo_book.specs.Rule.{Slot, Has, share, gate_of, slot_of}
 
 -- a seat: its view, and the slots that are out with it
 abbrev pub Sat : Type 0
@@ -35,17 +35,17 @@ Looks m n r = (n ≡ (view n.0.seen m.0.met m.0.shares m.0.held, m.1)) × Extend
 abbrev pub looked : Step Slot → Sat → ℕ → Sat → Type 0
 looked st m r n = Looks m n r
 
--- the seat has taken the slot k, in which x lies
+-- the seat has taken the slot of the place k, in which x lies
 abbrev pub taken : ℕ → Automaton → Sat → Sat
-taken k x m = (view m.0.seen m.0.met m.0.shares (Some (k, x)), (k, Some x) ∷ [])
+taken k x m = (view m.0.seen m.0.met m.0.shares (Some (k, x)), (slot_of k, Some x) ∷ [])
 
--- the slot k is taken, with the automaton of this side of the stream after some history
+-- the slot of the place k is taken, with the automaton of this side of the stream after some history
 abbrev pub Took : End → ℕ → ℕ → Sat → Sat → Type 0
 Took side stream k m n = (x : Automaton) × ((log : List Event) × (x ≡ automaton_after side stream log)) × (n ≡ taken k x m)
 
 -- the compare-exchange of a gate, which was free where it found 0
 abbrev pub tried : End → ℕ → Step Slot → Sat → ℕ → Sat → Type 0
-tried side stream st m r n = (r ≡ 0 → (k : ℕ) → st.word ≡ k + 1 → Took side stream k m n) × (r ≢ 0 → n ≡ m)
+tried side stream st m r n = (r ≡ 0 → (k : ℕ) → st.word ≡ gate_of k → Took side stream k m n) × (r ≢ 0 → n ≡ m)
 
 -- the store into a gate: nothing is held any more
 abbrev pub freed : Step Slot → Sat → ℕ → Sat → Type 0

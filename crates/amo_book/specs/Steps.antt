@@ -8,7 +8,7 @@ use Rattle.amo_world.specs.declared.event.Event.{Event}
 use Rattle.amo_world.specs.History.{IsRight, Extends, events_of}
 use Rattle.amo_book.specs.declared.view.View.{View}
 use Rattle.amo_book.specs.Pass.{PassState, automaton_after}
-use Rattle.amo_book.specs.Rule.{Slot, share}
+use Rattle.amo_book.specs.Rule.{Slot, share, slot_of}
 use Rattle.amo_book.specs.Plays.{Sat, view}
 
 -- it is the same seat of the same table
@@ -28,7 +28,7 @@ pass_of id p m = record { book = id; number = p; seen = m.0.seen }
 
 -- the seat holds the side at the place k, whose state x was moved out of its slot
 abbrev pub holding : ℕ → Automaton → Sat → Sat
-holding k x m = (view m.0.seen m.0.met m.0.shares (Some (k, x)), (k, None) ∷ [])
+holding k x m = (view m.0.seen m.0.met m.0.shares (Some (k, x)), (slot_of k, None) ∷ [])
 
 -- the seat holds nothing any more
 abbrev pub released : View → Sat

@@ -1,13 +1,12 @@
 //! The table of a book, and the steps of its calls.
-//! The atomic word 0 is the count. The atomic word `place + 1` is the gate of the side at that place, and the slot `place`
-//! holds its automaton.
+//! The atomic word 0 is the count. Each side has an atomic word that is its gate, and a slot that holds its automaton.
 ghost use Rattle.std.specs.Prelude.{◌≡◌, ◌≢◌, ℕ, List, ◌+◌, ◌%◌, ◌^◌, ◌<◌, true, false, [], ◌∷◌, length, Some, None, IfSome, IfNone, slice_get};
 ghost use Rattle.amo_core.specs.declared.automaton.Automaton.{Automaton};
 ghost use Rattle.amo_core.specs.Automaton.{row, mode_of};
 ghost use Rattle.amo_object.specs.declared.step.End.TheVariants as end_of;
 ghost use Rattle.amo_world.specs.declared.event.Event.{Event};
 ghost use Rattle.amo_book.specs.Pass.{event};
-ghost use Rattle.amo_book.specs.Rule.{share};
+ghost use Rattle.amo_book.specs.Rule.{share, gate_of, slot_of};
 ghost use Rattle.amo_book.specs.Plays.{Sat, IsAtRest, Took, Looks, Counts, view, witness, joined};
 ghost use Rattle.amo_book.specs.Steps.{IsSame, IsPass, IsStateOf, Made, holding, released};
 ghost use Rattle.amo_book.specs.Book.{Apart};
@@ -16,6 +15,7 @@ ghost use Rattle.amo_book.specs.Site.{IsSite};
 use crate::plays::{Count, Counted, Free, Gather, Law, Look, Tried, Try, Witness};
 use crate::site::Site;
 use crate::slot::Housed;
+use crate::stride::{self, COUNT};
 use crate::view::{Setup, View};
 use amo_core::{Act, Mode, Reply};
 use amo_object::End;
@@ -36,7 +36,8 @@ pub struct Board {
     pub table: Table<Option<Housed>, View, Setup, Law, Global>,
     pub setup: Setup,
     pub ghost keyed: { table.shared.key ≡ setup },
-    pub ghost sized: { (table.shared.table_id.words ≡ length setup.sides.items + 1) × (table.shared.table_id.slots ≡ length setup.sides.items) },
+    pub ghost sized: { (table.shared.table_id.words ≡ gate_of (length setup.sides.items)) × (table.shared.table_id.slots ≡ slot_of (length setup.sides.items)) },
+    pub ghost few: { length setup.sides.items < 2 ^ 60 },
     pub ghost apart: { Apart setup.sides.items },
 }
 
@@ -48,7 +49,7 @@ impl Board {
         ensures same { IsSame seat.old seat.new }
         ensures looks { Looks seat.old.me seat.new.me result }
     {
-        self.table.shared.load::<Look>(seat, 0)
+        self.table.shared.load::<Look>(seat, COUNT)
     }
 
     /// Tries the gate of a side once.
@@ -63,18 +64,22 @@ impl Board {
     {
         self.table
             .shared
-            .compare_exchange::<Try<E>>(seat, site.place + 1, 0, 1)
+            .compare_exchange::<Try<E>>(seat, stride::gate_of(site.place), 0, 1)
             == 0
     }
 
     /// Moves the automaton out of its slot.
     fn take_state(&self, seat: &mut Chair, place: usize) -> Housed
         requires own { seat.old.table_id ≡ self.now.table.shared.table_id }
-        requires held { (x : Automaton) × (seat.old.me.1 ≡ (place, Some x) ∷ []) }
+        requires place { place < length self.now.setup.sides.items }
+        requires held { (x : Automaton) × (seat.old.me.1 ≡ (slot_of place, Some x) ∷ []) }
         ensures same { IsSame seat.old seat.new }
-        ensures moved { (seat.old.me.1 ≡ (place, Some result) ∷ []) × (seat.new.me ≡ (seat.old.me.0, (place, None) ∷ [])) }
+        ensures moved { (seat.old.me.1 ≡ (slot_of place, Some result) ∷ []) × (seat.new.me ≡ (seat.old.me.0, (slot_of place, None) ∷ [])) }
     {
-        self.table.shared.exchange(seat, place, None).unwrap()
+        self.table
+            .shared
+            .exchange(seat, stride::slot_of(place), None)
+            .unwrap()
     }
 
     /// Adds the event to the history, and 1 to the count.
@@ -93,28 +98,35 @@ impl Board {
         ensures same { IsSame seat.old seat.new }
         ensures counts { Counts E.event seat.old.me seat.new.me result }
     {
-        self.table.shared.fetch_add::<Count<E>>(seat, 0, 1)
+        self.table.shared.fetch_add::<Count<E>>(seat, COUNT, 1)
     }
 
     /// Moves the automaton back into its slot.
     fn give_state(&self, seat: &mut Chair, place: usize, state: Housed)
         requires own { seat.old.table_id ≡ self.now.table.shared.table_id }
-        requires held { seat.old.me.1 ≡ (place, None) ∷ [] }
+        requires place { place < length self.now.setup.sides.items }
+        requires held { seat.old.me.1 ≡ (slot_of place, None) ∷ [] }
         ensures same { IsSame seat.old seat.new }
-        ensures moved { seat.new.me ≡ (seat.old.me.0, (place, Some state) ∷ []) }
+        ensures moved { seat.new.me ≡ (seat.old.me.0, (slot_of place, Some state) ∷ []) }
     {
-        drop(self.table.shared.exchange(seat, place, Some(state)));
+        drop(
+            self.table
+                .shared
+                .exchange(seat, stride::slot_of(place), Some(state)),
+        );
     }
 
     /// Opens the gate.
     fn free_gate(&self, seat: &mut Chair, place: usize)
         requires own { seat.old.table_id ≡ self.now.table.shared.table_id }
         requires place { place < length self.now.setup.sides.items }
-        requires held { (x : Automaton) × (seat.old.me.1 ≡ (place, Some x) ∷ []) × (seat.old.me.0.held ≡ Some (place, x)) }
+        requires held { (x : Automaton) × (seat.old.me.1 ≡ (slot_of place, Some x) ∷ []) × (seat.old.me.0.held ≡ Some (place, x)) }
         ensures same { IsSame seat.old seat.new }
         ensures freed { seat.new.me ≡ (view seat.old.me.0.seen seat.old.me.0.met seat.old.me.0.shares None, []) }
     {
-        self.table.shared.store::<Free>(seat, place + 1, 0);
+        self.table
+            .shared
+            .store::<Free>(seat, stride::gate_of(place), 0);
     }
 }
 
@@ -158,7 +170,7 @@ impl Board {
     pub fn put_back(&self, seat: &mut Chair, place: usize, state: Housed)
         requires own { seat.old.table_id ≡ self.now.table.shared.table_id }
         requires place { place < length self.now.setup.sides.items }
-        requires held { (seat.old.me.1 ≡ (place, None) ∷ []) × (seat.old.me.0.held ≡ Some (place, state)) }
+        requires held { (seat.old.me.1 ≡ (slot_of place, None) ∷ []) × (seat.old.me.0.held ≡ Some (place, state)) }
         ensures same { IsSame seat.old seat.new }
         ensures released { seat.new.me ≡ released seat.old.me.0 }
     {

@@ -39,6 +39,7 @@ mod pass;
 mod plays;
 mod site;
 mod slot;
+mod stride;
 #[cfg(test)]
 mod tests;
 mod view;

@@ -1,5 +1,6 @@
 //! How the seats come back, and the table ends.
-ghost use Rattle.std.specs.Prelude.{◌≡◌, ◌<◌, ◌≤◌, [], length, None, vec_capacity};
+ghost use Rattle.std.specs.Prelude.{◌≡◌, ℕ, ◌⊎◌, ◌<◌, ◌≤◌, [], true, false, length, slice_index_or, None, vec_capacity};
+ghost use Rattle.std.specs.Slots.{slots_items, slots_filled, slots_len};
 ghost use Rattle.amo_book.specs.Rule.{HasAll};
 ghost use Rattle.amo_book.specs.Book.{Each};
 ghost use Rattle.amo_book.specs.Closed.{IsOf};
@@ -8,6 +9,22 @@ ghost use Rattle.amo_book.specs.Gathering.{HasTaken, Ends};
 use super::{Board, Chair};
 use crate::pass::Pass;
 use crate::slot::Housed;
+use crate::stride::{COUNT, slot_of};
+use atomic_table::Closed;
+use std::alloc::Global;
+
+/// Lets go what lies in these slots.
+fn clear(closed: &mut Closed<Option<Housed>, Global>, from: usize, to: usize)
+    requires within { (from ≤ to) × (to ≤ slots_len closed.old.slots) }
+    requires full { (k : ℕ) → from ≤ k → k < to → slice_index_or (slots_filled closed.old.slots) k false ≡ true }
+    ensures same { (slots_items closed.new.slots ≡ slots_items closed.old.slots) × (slots_len closed.new.slots ≡ slots_len closed.old.slots) }
+    ensures cleared { (k : ℕ) → from ≤ k → k < to → slice_index_or (slots_filled closed.new.slots) k false ≡ false }
+    ensures others { (k : ℕ) → (k < from) ⊎ (to ≤ k) → slice_index_or (slots_filled closed.new.slots) k false ≡ slice_index_or (slots_filled closed.old.slots) k false }
+{
+    for index in from..to {
+        drop(closed.take(index));
+    }
+}
 
 impl Board {
     /// One seat with the shares of all these passes, which has seen all that they had seen.
@@ -42,11 +59,12 @@ impl Board {
         let Board { table, setup } = self;
         let mut lasts = room;
         let mut closed = table.close_with(root);
-        let count = closed.word(0);
+        let count = closed.word(COUNT);
         for place in 0..setup.sides.len() {
-            let Some(state) = closed.take(place) else {
+            let Some(state) = closed.take(slot_of(place)) else {
                 unreachable!()
             };
+            clear(&mut closed, slot_of(place) + 1, slot_of(place + 1));
             lasts.push_reserved(state);
         }
         closed.free();

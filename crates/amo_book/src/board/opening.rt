@@ -1,7 +1,7 @@
 //! How the table is made, and dealt out.
-ghost use Rattle.std.specs.Prelude.{◌≡◌, ◌+◌, ◌≤◌, [], ◌∷◌, IfOk, None, length, vec_capacity};
+ghost use Rattle.std.specs.Prelude.{◌≡◌, ◌+◌, ◌^◌, ◌<◌, ◌≤◌, [], ◌∷◌, ℕ, IfOk, None, Some, length, slice_get, vec_capacity};
 ghost use Rattle.amo_book.specs.Pass.{automaton_after};
-ghost use Rattle.amo_book.specs.Rule.{fresh, first_view, first_slot, share};
+ghost use Rattle.amo_book.specs.Rule.{Slot, fresh, first_view, first_slot, share, stride, Spaced};
 ghost use Rattle.amo_book.specs.Plays.{view};
 ghost use Rattle.amo_book.specs.Steps.{IsSame};
 ghost use Rattle.amo_book.specs.Book.{Apart, AreLawful, Lists, AreFirstCharges, first_pass};
@@ -11,6 +11,7 @@ use crate::index::site_at;
 use crate::plays::Deal;
 use crate::site::Site;
 use crate::slot::Housed;
+use crate::stride::{STRIDE, gate_of, slot_of};
 use crate::view::Setup;
 use crate::{Charge, Pass};
 use amo_core::{Automaton, Mode, Receiver, Sender};
@@ -28,15 +29,29 @@ fn initial(site: Site) -> Automaton
     }
 }
 
-/// What the slots hold at first: each side's automaton.
+/// Leaves the slots up to the next one that is used empty.
+fn leave_room(slots: &mut Vec<Option<Housed>>)
+    requires { length slots.old.items + stride ≤ vec_capacity slots.old + 1 }
+    ensures long { length slots.new.items + 1 ≡ length slots.old.items + stride }
+    ensures kept { (k : ℕ) (slot : Slot) → slice_get slots.old.items k ≡ Some slot → slice_get slots.new.items k ≡ Some slot }
+    ensures room { vec_capacity slots.new ≡ vec_capacity slots.old }
+{
+    for _added in 1..STRIDE {
+        slots.push_reserved(None);
+    }
+}
+
+/// What the slots hold at first: each side's automaton, and nothing between.
 fn slots(alloc: Global, sides: &[(End, u32)]) -> Result<Vec<Option<Housed>>, AllocError>
-    ensures { IfOk result (λ slots. Lists (first_slot sides.now) (length sides.now) slots.items) }
+    requires { length sides.now < 2 ^ 60 }
+    ensures { IfOk result (λ slots. Spaced (first_slot sides.now) (length sides.now) slots.items) }
 {
     let n = sides.len();
-    let mut slots = Vec::with_capacity(alloc, n)?;
+    let mut slots = Vec::with_capacity(alloc, slot_of(n))?;
     for place in 0..n {
         let housed = Housed::new(alloc, initial(site_at(sides, place)))?;
         slots.push_reserved(Some(housed));
+        leave_room(&mut slots);
     }
     Ok(slots)
 }
@@ -48,7 +63,7 @@ impl Board {
         ensures { IfOk result (λ t. (t.0.setup ≡ setup) × (t.1.table_id ≡ t.0.table.shared.table_id) × (t.1.me ≡ (first_view setup.passes, []))) }
     {
         let slots = slots(alloc, setup.sides.as_slice())?;
-        let words = vec![in alloc; 0u64; setup.sides.len() + 1]?;
+        let words = vec![in alloc; 0u64; gate_of(setup.sides.len())]?;
         match Table::new(alloc, words.as_slice(), slots, &setup) {
             Ok((table, seat)) => Ok((Board { table, setup }, seat)),
             Err(Refused { slots: _ }) => Err(AllocError),

@@ -1,5 +1,6 @@
-use Rattle.std.proofs.Common.{◌≡◌, ℕ, Bool, false, List, [], ◌∷◌, Some, None, length, get_or, set, slice_get, sym, ap, ◌∙◌, subst, arith, ⊎_elim, get_or-set_same, get_or-set_other, length-append}
+use Rattle.std.proofs.Common.{◌≡◌, ℕ, Bool, false, List, [], ◌∷◌, Some, None, length, get_or, set, slice_get, sym, ap, ◌∙◌, subst, arith, inl, inr, ◌+◌, ⊎_elim, get_or-set_same, get_or-set_other, length-append}
 use Rattle.std.proofs.lemmas.Option.{slice_get_within}
+use Rattle.std.proofs.lemmas.Bool.{cases_lt}
 use mathlib.Core.Option.{some, some-injective}
 use mathlib.Core.Logic.{dite}
 use native.Mathlib.Decide.{ℕ_discrete}
@@ -12,7 +13,7 @@ use Rattle.amo_core.specs.declared.automaton.Automaton.{Automaton}
 use Rattle.amo_book.specs.Pass.{automaton_after}
 use Rattle.amo_book.specs.declared.view.View.{View}
 use Rattle.amo_book.specs.declared.view.Setup.{Setup}
-use Rattle.amo_book.specs.Rule.{Slot, Kept, Settled, HasAll, state_at}
+use Rattle.amo_book.specs.Rule.{Slot, Kept, Settled, HasAll, state_at, slot_of}
 use Rattle.amo_book.proofs.Ends.{settles}
 use Rattle.amo_book.proofs.Fills.{elem_index, get-push, is_map}
 use Rattle.amo_book.proofs.board.Board.end.Goals as goal
@@ -36,23 +37,27 @@ same_state x y e = cc
 
 pub unreachable-requires : goal.unreachable-requires
 unreachable-requires c = let s = settled _ _ c.args.self.keyed _ _ _ _ c.requires.own.1 c.close_with-closed.ensures.values.2 in let lt = c.loop-place-test.true in
-    let there = s.states c.loop-place.place (omega arith) in let here = sym (ap (λ l. get_elem? l c.loop-place.place) c.loop-place.invariant.items) ∙ c.take.ensures.value in
+    let there = s.states c.loop-place.place (omega arith) in let here = sym (ap (λ l. get_elem? l (slot_of c.loop-place.place)) c.loop-place.invariant.items) ∙ (ap (get_elem? (slots_items c.loop-place.closed.slots)) (sym c.slot_of.ensures) ∙ c.take.ensures.value) in
     differ _ (sym c.in_default.is ∙ some-injective _ _ (sym here ∙ there))
 
 pub loop-place-preserved : goal.loop-place-preserved
-loop-place-preserved c = let i = c.loop-place.invariant in let o = c.take.ensures.others in let k : ℕ = c.loop-place.place in let fs : List Bool = slots_filled c.loop-place.closed.slots in
-    let lt = c.loop-place-test.true in let counts = slots_counts c.loop-place.closed.slots in let wide = i.wide in let same = o.2 in let long = i.long in let cap = c.push_reserved.ensures.capacity in let room = i.room in
+loop-place-preserved c = let i = c.loop-place.invariant in let o = c.take.ensures.others in let k : ℕ = c.loop-place.place in let at : ℕ = c.slot_of.result in
+    let here : at ≡ slot_of k = c.slot_of.ensures in let next : c.slot_of-in-loop-place.result ≡ slot_of k = c.slot_of-in-loop-place.ensures in let after : c.slot_of-in-loop-place-2.result ≡ slot_of (k + 1) = c.slot_of-in-loop-place-2.ensures in
+    let fs : List Bool = slots_filled c.loop-place.closed.slots in let e = c.clear.ensures in
+    let counts = slots_counts c.loop-place.closed.slots in let long = i.long in let cap = c.push_reserved.ensures.capacity in let room = i.room in
+    let lt = c.loop-place-test.true in let wide = i.wide in
     let pushed = c.push_reserved.ensures.items in record {
-      items = o.0 ∙ i.items;
-      wide = o.2 ∙ i.wide;
-      full = λ j low high. ap (λ l. get_or l j false) o.1 ∙ (get_or-set_other fs k j false false (λ e. omega arith) ∙ i.full j (omega arith) (omega arith));
-      empty = λ j low. ap (λ l. get_or l j false) o.1 ∙ dite (ℕ_discrete j k)
-          (λ e. ap (λ n. get_or (set fs k false) n false) e ∙ get_or-set_same fs k false false (omega arith))
-          (λ ne. get_or-set_other fs k j false false ne ∙ i.empty j (omega arith));
+      items = e.same.0 ∙ (o.0 ∙ i.items);
+      wide = e.same.1 ∙ (o.2 ∙ i.wide);
+      full = λ j low high. e.others j (inr (omega arith)) ∙ (ap (λ l. get_or l j false) o.1 ∙ (get_or-set_other fs at j false false (λ e. omega arith) ∙ i.full j (omega arith) (omega arith)));
+      empty = λ j low. dite (ℕ_discrete j at)
+          (λ is. e.others j (inl (omega arith)) ∙ (ap (λ l. get_or l j false) o.1 ∙ (ap (λ n. get_or (set fs at false) n false) is ∙ get_or-set_same fs at false false (omega arith))))
+          (λ ne. ⊎_elim (λ before. e.others j (inl (omega arith)) ∙ (ap (λ l. get_or l j false) o.1 ∙ (get_or-set_other fs at j false false ne ∙ i.empty j before)))
+          (λ behind. e.cleared j (omega arith) (omega arith)) (cases_lt j (slot_of k)));
       long = omega (arith, ap length pushed, length-append c.loop-place.lasts.items (c.in-Some.state ∷ []));
       taken = λ j x e. ⊎_elim (λ was. i.taken j x was)
-          (λ (t : (j ≡ length c.loop-place.lasts.items) × (c.in-Some.state ≡ x)). ap (get_elem? (slots_items c.close_with-closed.result.slots)) (t.0 ∙ i.long)
-          ∙ (sym (ap (λ l. get_elem? l k) i.items) ∙ (c.take.ensures.value ∙ (ap some c.in-Some.is ∙ ap (λ (z : Automaton). some (slot_some z)) t.1))))
+          (λ (t : (j ≡ length c.loop-place.lasts.items) × (c.in-Some.state ≡ x)). ap (λ n. get_elem? (slots_items c.close_with-closed.result.slots) (slot_of n)) (t.0 ∙ i.long)
+          ∙ (ap (get_elem? (slots_items c.close_with-closed.result.slots)) (sym here) ∙ (sym (ap (λ l. get_elem? l at) i.items) ∙ (c.take.ensures.value ∙ (ap some c.in-Some.is ∙ ap (λ (z : Automaton). some (slot_some z)) t.1)))))
           (get-push c.loop-place.lasts.items c.in-Some.state x j (sym (ap (λ l. slice_get l j) pushed) ∙ e));
       room = omega arith;
     }

@@ -10,6 +10,6 @@ compare_exchange-requires g c = let key = c.args.self.now.keyed in let size = c.
     let lt = slice_get_within _ _ _ c.requires.place in let e = c.requires.side in (
       c.requires.own,
       omega arith,
-      rw key (tries _ _ _ _ _ c.args.site.place _ _ _ lt c.requires.rests
+      rw (key, c.gate_of.ensures) (tries _ _ _ _ _ c.args.site.place _ _ _ lt c.requires.rests
           (λ log. state_at-is c.args.self.now.setup.sides.items c.args.site.place _ _ log c.requires.place ∙ (λ i. automaton_after (sym e.0 i) (sym e.1 i) log))),
     )
