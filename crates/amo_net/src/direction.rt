@@ -4,6 +4,7 @@ ghost use Rattle.amo_net.specs.Lossy.{copies, queued_copies, sent};
 
 use crate::MAX_DATAGRAM;
 use std::alloc::{AllocError, Global};
+use std::collections::VecDeque;
 use std::marker::Model;
 
 /// The most datagrams that a direction of a channel holds.
@@ -27,14 +28,23 @@ impl Model for Datagram {
 }
 
 impl Datagram {
-    /// A datagram of these bytes, or of as many at their front as a buffer holds.
+    /// A datagram without bytes, which takes no memory yet.
+    fn empty(alloc: Global) -> Datagram {
+        Datagram {
+            bytes: Vec::new(alloc),
+        }
+    }
+
+    /// A datagram of these bytes, or of as many at their front as a buffer holds, in the room of this one.
     #[tactic(auto, using(std::proofs::lemmas::List::take_min))]
-    fn copy(alloc: Global, bytes: &[u8]) -> Result<Datagram, AllocError>
+    fn copy(self, bytes: &[u8]) -> Result<Datagram, AllocError>
         ensures { IfOk result (λ d. d ≡ take MAX_DATAGRAM bytes.now) }
     {
         let length = MAX_DATAGRAM.min(bytes.len());
-        let bytes = Vec::from_slice(alloc, &bytes[..length])?;
-        Ok(Datagram { bytes })
+        let mut room = self.bytes;
+        room.clear();
+        room.extend_from_slice(&bytes[..length])?;
+        Ok(Datagram { bytes: room })
     }
 
     /// Puts it at the front of the buffer, and answers its length.
@@ -52,7 +62,9 @@ impl Datagram {
 #[derive(Drop)]
 pub(crate) struct Direction {
     alloc: Global,
-    datagrams: Vec<Datagram>,
+    datagrams: VecDeque<Datagram>,
+    /// What was received. Its room is used again, so that not each datagram takes memory.
+    spare: Vec<Datagram>,
 }
 
 impl Model for Direction {
@@ -72,7 +84,8 @@ impl Direction {
     {
         Direction {
             alloc,
-            datagrams: Vec::new(alloc),
+            datagrams: VecDeque::new(alloc),
+            spare: Vec::new(alloc),
         }
     }
 
@@ -98,19 +111,42 @@ impl Direction {
         match copies(word).min(self.room()) {
             0 => Ok(()),
             1 => {
-                let only = Datagram::copy(self.alloc, bytes)?;
+                let only = self.copy(bytes)?;
                 self.datagrams.reserve(1)?;
-                self.datagrams.push_reserved(only);
+                self.datagrams.push_back_reserved(only);
                 Ok(())
             }
             _ => {
-                let first = Datagram::copy(self.alloc, bytes)?;
-                let second = Datagram::copy(self.alloc, bytes)?;
+                let first = self.copy(bytes)?;
+                let second = self.copy(bytes)?;
                 self.datagrams.reserve(2)?;
-                self.datagrams.push_reserved(first);
-                self.datagrams.push_reserved(second);
+                self.datagrams.push_back_reserved(first);
+                self.datagrams.push_back_reserved(second);
                 Ok(())
             }
+        }
+    }
+
+    /// A copy of these bytes, in spare room if there is some.
+    fn copy(&mut self, bytes: &[u8]) -> Result<Datagram, AllocError>
+        ensures copy { IfOk result (λ d. d ≡ take MAX_DATAGRAM bytes.now) }
+        ensures same { self.new ≡ self.old }
+    {
+        match self.spare.pop() {
+            Some(spare) => spare.copy(bytes),
+            None => {
+                self.spare.reserve(MAX_QUEUED)?;
+                Datagram::empty(self.alloc).copy(bytes)
+            }
+        }
+    }
+
+    /// Keeps the room of a datagram that was received, where that takes no memory.
+    pub(crate) fn keep_room(&mut self, datagram: Datagram)
+        ensures { self.new ≡ self.old }
+    {
+        if self.spare.len() < self.spare.capacity() {
+            self.spare.push_reserved(datagram);
         }
     }
 
@@ -121,7 +157,10 @@ impl Direction {
         ensures rest { self.new ≡ remove self.old (word % length self.old) }
     {
         let place = (word % self.datagrams.len() as u64) as usize;
-        self.datagrams.remove(place)
+        match self.datagrams.remove(place) {
+            Some(datagram) => datagram,
+            None => unreachable!(),
+        }
     }
 }
 

@@ -79,7 +79,20 @@ impl<W: Words> Lossy<W> {
             (queued (other at) self.old) (queued (other at) self.new) buffer.old buffer.new n) }
         ensures other { queued at self.new ≡ queued at self.old }
     {
-        Some(self.pick(at)?.fill(buffer))
+        let datagram = self.pick(at)?;
+        let length = datagram.fill(buffer);
+        self.keep_room(at, datagram);
+        Some(length)
+    }
+
+    /// Keeps the room of a datagram that was received at this end.
+    fn keep_room(&mut self, at: End, datagram: Datagram)
+        ensures { self.new ≡ self.old }
+    {
+        match at {
+            End::Sender => self.from_receiver.keep_room(datagram),
+            End::Receiver => self.from_sender.keep_room(datagram),
+        }
     }
 
     /// Takes out the datagram that the next word names.

@@ -9,6 +9,8 @@ use std::sync::{Mutex, Wait};
 
 /// One end of a locked channel. It holds the permission to wait for the lock, and its device never fails.
 ///
+/// A send waits for the lock. A receive does not: while the other end is at the channel, nothing has come.
+///
 /// Contracts see which end it is. What it does to the channel [`Lossy`] says, of whatever lies there once it has the lock.
 #[derive(Drop)]
 pub struct LossyEnd<'a, W, R: Wait> {
@@ -42,6 +44,9 @@ impl<'a, W: Words, R: Wait> Link for LossyEnd<'a, W, R> {
     }
 
     fn receive(&mut self, buffer: &mut [u8; MAX_DATAGRAM]) -> Result<Option<usize>, LinkFault> {
-        Ok(self.channel.lock(self.rt).receive(self.end, buffer))
+        match self.channel.try_lock() {
+            Some(mut channel) => Ok(channel.receive(self.end, buffer)),
+            None => Ok(None),
+        }
     }
 }

@@ -4,6 +4,7 @@ ghost use Rattle.amo_host.specs.Station.{IsStation};
 ghost use Rattle.amo_run.specs.Told.{listed};
 ghost use Rattle.amo_run.specs.Engine.{Advances, HasWord, Recorded, IsSmall, Works, act_told, told_of, made_in};
 
+use crate::Progress;
 use crate::plan::{Fate, Plan};
 use crate::source::Source;
 use amo_book::{Book, Pass};
@@ -14,7 +15,6 @@ use amo_word::{ChaChaWords, Words};
 use amo_world::{Act, Event, NoMemory, Reply};
 use std::alloc::Global;
 use std::sync::Wait;
-use std::sync::atomic::{AtomicU32, Ordering};
 use std::thread;
 
 /// What a pump's thread did so far: the events that it made, each with its position, how often its link failed, and how
@@ -24,12 +24,19 @@ pub struct Tally {
     pub made: Vec<(u64, Event)>,
     pub link_faults: u64,
     pub busy: u64,
+    /// How many events it has not told whoever looks on.
+    pub untold: u64,
+    /// How many of these are crashes.
+    pub untold_crashes: u64,
 }
+
+/// So many events a pump tells at once, as telling each would take its time.
+const TOLD_AT_ONCE: u64 = 64;
 
 /// A pump at work.
 #[derive(Drop)]
-pub struct Engine<L> {
-    pub pump: Pump<ChaChaWords>,
+pub struct Engine<L, W> {
+    pub pump: Pump<W>,
     pub link: L,
     pub plan: Plan,
     pub source: Source,
@@ -143,8 +150,8 @@ fn turn_with<W: Words + Drop>(
 
 /// A crash or a recovery of the side of a stream.
 #[tactic(auto, using(crate::proofs::Turning::same_advances))]
-fn meet(
-    pump: &mut Pump<ChaChaWords>,
+fn meet<W: Words + Drop>(
+    pump: &mut Pump<W>,
     book: &Book,
     pass: &mut Pass,
     now: u64,
@@ -187,6 +194,7 @@ impl Tally {
         match turned {
             Ok(Turn { event, length }) => {
                 if let Some(event) = event {
+                    self.count_event(&event.1);
                     self.made.push_reserved(event);
                 }
                 Ok(length)
@@ -200,6 +208,27 @@ impl Tally {
         }
     }
 
+    /// Counts an event that has happened.
+    fn count_event(&mut self, event: &Event)
+        ensures { self.new.made ≡ self.old.made }
+    {
+        self.untold = self.untold.saturating_add(1);
+        if event.act == Act::Crash {
+            self.untold_crashes = self.untold_crashes.saturating_add(1);
+        }
+    }
+
+    /// Tells whoever looks on what was not told yet, if that is so many events at least.
+    fn tell(&mut self, progress: &Progress, at_least: u64)
+        ensures { self.new.made ≡ self.old.made }
+    {
+        if self.untold >= at_least {
+            progress.add(self.untold, self.untold_crashes);
+            self.untold = 0;
+            self.untold_crashes = 0;
+        }
+    }
+
     /// Counts a failure of the link, if there was one.
     fn count(&mut self, has_failed: bool)
         ensures { self.new.made ≡ self.old.made }
@@ -208,7 +237,7 @@ impl Tally {
     }
 }
 
-impl<L: Link> Engine<L> {
+impl<L: Link, W: Words + Drop> Engine<L, W> {
     /// The length of the datagram that has come, if one has. A failed link brings none, and is counted.
     fn hear(&mut self, buffer: &mut [u8; MAX_DATAGRAM], tally: &mut Tally) -> Option<usize>
         ensures same { (self.new.pump ≡ self.old.pump) × (tally.new.made ≡ tally.old.made) }
@@ -239,7 +268,7 @@ impl<L: Link> Engine<L> {
 
     /// One turn, with the datagram that has come, if one has; what it emits is sent.
     #[tactic(auto, using(crate::proofs::Turning::recorded_turn, crate::proofs::Turning::recorded_none))]
-    fn turn(
+    pub fn turn(
         &mut self,
         alloc: Global,
         book: &Book,
@@ -279,7 +308,7 @@ impl<L: Link> Engine<L> {
 
     /// Tries a crash or a recovery of the side of a stream once. Whether it happened.
     #[tactic(auto, using(crate::proofs::Turning::recorded_turn, crate::proofs::Turning::recorded_none))]
-    fn attempt(
+    pub fn attempt(
         &mut self,
         book: &Book,
         pass: &mut Pass,
@@ -337,7 +366,9 @@ impl<L: Link> Engine<L> {
         }
         Ok(())
     }
+}
 
+impl<L: Link> Engine<L, ChaChaWords> {
     /// What the plan has for this turn. A host that recovers has new words.
     #[tactic(auto, using(crate::proofs::Turning::recorded_more, crate::proofs::Turning::recorded_none))]
     fn follow_plan<R: Wait>(
@@ -383,20 +414,22 @@ impl<L: Link> Engine<L> {
         book: &Book,
         pass: &mut Pass,
         streams: &[u32],
-        at_work: &AtomicU32,
+        progress: &Progress,
         tally: &mut Tally,
     ) -> Result<(), NoMemory>
         requires { Works book.now pass.old self.old.pump }
         ensures { Recorded book.now pass.old pass.new self.old.pump self.new.pump tally.old.made.items tally.new.made.items }
     {
         'turns: for _ in rt.forever() {
-            if self.plan.is_over() && at_work.load(Ordering::SeqCst) == 0 {
+            if self.plan.is_over() && progress.has_no_clients() {
                 break;
             }
             self.turn(alloc, book, pass, tally)?;
             self.turns = self.turns.saturating_add(1);
             self.follow_plan(rt, book, pass, streams, tally)?;
+            tally.tell(progress, TOLD_AT_ONCE);
         }
+        tally.tell(progress, 0);
         Ok(())
     }
 }

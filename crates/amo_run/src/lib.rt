@@ -2,6 +2,7 @@
 //!
 //! - [`client`] is the body of a client's thread. It makes the calls of a [`Script`], and answers the events that they made.
 //! - [`run`] starts the pumps of two hosts and their clients, joins them all, and answers the whole history of what they did.
+//! - [`run_watched`] does the same, and counts in a [`Progress`] meanwhile, for whoever looks on.
 #![tactic(auto)]
 
 mod calls;
@@ -13,6 +14,7 @@ mod host;
 mod opening;
 mod part;
 mod plan;
+mod progress;
 mod ran;
 mod report;
 mod script;
@@ -30,7 +32,8 @@ mod workload;
 pub use amo_world::NoMemory;
 pub use calls::client;
 pub use fault::RunFault;
+pub use progress::Progress;
 pub use ran::Ran;
 pub use script::{ClientCall, ClientReply, Script};
 pub use settings::{LinkKind, RunSettings};
-pub use whole_run::run;
+pub use whole_run::{run, run_watched};

@@ -1,5 +1,8 @@
 //! Whole runs, on threads.
-ghost use Rattle.std.specs.Prelude.{◌≡◌, ◌≤◌, length};
+ghost use Rattle.std.specs.Prelude.{◌≡◌, ◌≤◌, length, All, IfOk};
+ghost use Rattle.amo_audit.specs.Journal.{CanSpell};
+ghost use Rattle.amo_run.specs.Ran.{IsRanOf};
+ghost use Rattle.amo_run.specs.Settings.{AreWithin};
 
 use super::*;
 use crate::crew::Wires;
@@ -12,12 +15,16 @@ use amo_object::End;
 use amo_packet::Message;
 use amo_world::{Act, Event, Reply, World};
 use std::alloc::Global;
+use std::net::Net;
 use std::sync::atomic::{AtomicBool, Ordering};
 use std::sync::{Mutex, Wait};
 use std::test::*;
+use std::thread;
 use std::thread::Threads;
+use std::time::Duration;
 
 mod overlap;
+mod rounds;
 
 /// A run of two streams in memory.
 const SMALL: RunSettings = RunSettings {
@@ -65,7 +72,7 @@ fn run_small<S: Script + Send + Drop, R: Threads + Wait + Sync>(
         senders: Vec::from_array(alloc, [LossyEnd::new(rt, &channel, End::Sender)])?,
         receivers: Vec::from_array(alloc, [LossyEnd::new(rt, &channel, End::Receiver)])?,
     };
-    Ok(run_scripts(rt, alloc, &SMALL, wires, scripts)?)
+    Ok(run_scripts(rt, alloc, &SMALL, wires, scripts, &Progress::new())?)
 }
 
 /// Whether a world accepts all of these events.
@@ -145,5 +152,63 @@ fn faults_have_numbers_and_texts(rt: HostRuntime) -> Result<(), Fail> {
         assert_eq!(rt; fault.code(), code);
         assert_eq!(rt; fault.to_string(rt.alloc())?.as_str(), text);
     }
+    Ok(())
+}
+
+/// What whoever looks on sees at last: all events, the messages that were got, and the crashes.
+fn watch<R: Threads + Wait + Net + Sync>(rt: &R, alloc: Global) -> Result<bool, Fail> {
+    let progress = Progress::new();
+    let ran = run_shown(rt, alloc, &SMALL, &progress)?;
+    let mut got = 0u64;
+    for event in &ran.events {
+        if matches!(event.reply, Reply::Got(_)) {
+            got = got.saturating_add(1);
+        }
+    }
+    Ok(
+        progress.is_over()
+            && progress.events() == ran.events.len() as u64
+            && progress.got() == got
+            && progress.crashes() == crashes(ran.events.as_slice()) as u64,
+    )
+}
+
+/// Looks on until the run is over.
+fn look_on<R: Wait>(rt: &R, progress: &Progress) {
+    for _ in rt.forever() {
+        if progress.wait_for_end(rt, Duration::from_millis(10)) {
+            break;
+        }
+    }
+}
+
+/// A run, and a thread that looks on. The run is the same without it.
+fn run_shown<R: Threads + Wait + Net + Sync>(
+    rt: &R,
+    alloc: Global,
+    settings: &RunSettings,
+    progress: &Progress,
+) -> Result<Ran, RunFault>
+    requires within { AreWithin settings.now }
+    ensures whole { IfOk result (IsRanOf settings.now) }
+    ensures spelt { IfOk result (λ r. All CanSpell r.events.items × All CanSpell r.receivers.items) }
+{
+    thread::scope(
+        thread::scope_env(),
+        rt,
+        |scope| -> Result<Ran, RunFault>
+            requires within { AreWithin settings.now }
+            ensures whole { IfOk result (IsRanOf settings.entry.now) }
+            ensures spelt { IfOk result (λ r. All CanSpell r.events.items × All CanSpell r.receivers.items) }
+        {
+            let _ = scope.spawn(move || look_on(rt, progress));
+            run_watched(rt, alloc, settings, progress)
+        },
+    )
+}
+
+#[test]
+fn progress_is_seen(rt: HostRuntime) -> Result<(), Fail> {
+    assert!(rt; watch(&rt, rt.alloc())?);
     Ok(())
 }

@@ -10,12 +10,11 @@ use crate::work::{
     ClientPromise, ClientThread, Done, PumpJob, PumpPromise, PumpThread, Pumped, follow_script,
     follow_task,
 };
-use crate::{RunFault, Script};
+use crate::{Progress, RunFault, Script};
 use amo_book::{Book, Pass};
 use std::alloc::Global;
 use std::snapshot::Snapshot;
 use std::sync::Wait;
-use std::sync::atomic::{AtomicU32, Ordering};
 use std::thread;
 use std::thread::Threads;
 
@@ -174,19 +173,14 @@ fn come_home(book: &Book, home: &mut Home, pumped: Pumped)
     home.count(is_cut_off, link_faults, busy);
 }
 
-/// The clients of a book are done. Once those of all books are, the pumps may end.
-fn end_of_clients(at_work: &AtomicU32) {
-    at_work.fetch_sub(1, Ordering::SeqCst);
-}
-
 /// Memory or a thread was refused, and no pump waits for the clients of this book.
-fn refused(at_work: &AtomicU32) -> RunFault {
-    end_of_clients(at_work);
+fn refused(progress: &Progress) -> RunFault {
+    progress.end_of_clients();
     RunFault::NoMemory
 }
 
 /// Runs each pump and each script of a book on a thread of its own. The pumps go on until all clients are done: those of this book,
-/// and those of another one, if that is at work. `at_work` counts the books whose clients are not done yet.
+/// and those of another one, if that is at work.
 ///
 /// Where a thread is refused, the clients of this book count as done, and the scope joins each thread that started.
 pub fn at_once<S: Script + Send + Drop, C: Wire + Send + Drop, R: Threads + Wait + Sync>(
@@ -196,7 +190,7 @@ pub fn at_once<S: Script + Send + Drop, C: Wire + Send + Drop, R: Threads + Wait
     passes: Vec<Pass>,
     jobs: Vec<PumpJob<C>>,
     scripts: Vec<S>,
-    at_work: &AtomicU32,
+    progress: &Progress,
 ) -> Result<Home, RunFault>
     requires passes { EachAt (IsNew book.now) 0 passes.items × (length passes.items ≡ book.now.passes) }
     requires enough { length jobs.items + length scripts.items ≤ length passes.items }
@@ -204,10 +198,10 @@ pub fn at_once<S: Script + Send + Drop, C: Wire + Send + Drop, R: Threads + Wait
     ensures { IfOk result (λ h. IsBack book.now (dealt (map (λ j. j.task.pump) jobs.items)) h) }
 {
     let Ok(pump_room) = Vec::with_capacity(alloc, jobs.len()) else {
-        return Err(refused(at_work));
+        return Err(refused(progress));
     };
     let Ok(client_room) = Vec::with_capacity(alloc, scripts.len()) else {
-        return Err(refused(at_work));
+        return Err(refused(progress));
     };
     in_rooms(
         rt,
@@ -218,7 +212,7 @@ pub fn at_once<S: Script + Send + Drop, C: Wire + Send + Drop, R: Threads + Wait
         scripts,
         pump_room,
         client_room,
-        at_work,
+        progress,
     )
 }
 
@@ -232,7 +226,7 @@ fn in_rooms<S: Script + Send + Drop, C: Wire + Send + Drop, R: Threads + Wait + 
     scripts: Vec<S>,
     pump_room: Vec<PumpThread>,
     client_room: Vec<ClientThread>,
-    at_work: &AtomicU32,
+    progress: &Progress,
 ) -> Result<Home, RunFault>
     requires passes { EachAt (IsNew book.now) 0 passes.items × (length passes.items ≡ book.now.passes) }
     requires enough { length jobs.items + length scripts.items ≤ length passes.items }
@@ -268,10 +262,10 @@ fn in_rooms<S: Script + Send + Drop, C: Wire + Send + Drop, R: Threads + Wait + 
                     move || -> Pumped
                         requires { Works book.now pass job.task.pump }
                         ensures { Returned book.entry.now pass job.task.pump.charges result }
-                    { follow_task(rt, alloc, book, pass, job, at_work) },
+                    { follow_task(rt, alloc, book, pass, job, progress) },
                 );
                 let Ok(thread) = thread else {
-                    return Err(refused(at_work));
+                    return Err(refused(progress));
                 };
                 started_pump(&mut pumps, PumpThread { thread }, book, passes.len());
             }
@@ -289,16 +283,16 @@ fn in_rooms<S: Script + Send + Drop, C: Wire + Send + Drop, R: Threads + Wait + 
                     move || -> Done
                         requires { pass.book ≡ book.now.id }
                         ensures { Did book.entry.now pass result }
-                    { follow_script(rt, alloc, book, pass, script) },
+                    { follow_script(rt, alloc, book, pass, script, progress) },
                 );
                 let Ok(thread) = thread else {
-                    return Err(refused(at_work));
+                    return Err(refused(progress));
                 };
                 started_client(&mut clients, ClientThread { thread }, book, passes.len());
             }
             let home = home_of(alloc, book, passes);
             let home = join_clients(rt, book, clients, home);
-            end_of_clients(at_work);
+            progress.end_of_clients();
             Ok(join_pumps(rt, book, pumps, home))
         },
     )

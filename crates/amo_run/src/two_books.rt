@@ -11,12 +11,11 @@ use crate::report::{Chronicle, settle};
 use crate::threads::at_once;
 use crate::wire::Wire;
 use crate::work::PumpJob;
-use crate::{RunFault, Script};
+use crate::{Progress, RunFault, Script};
 use amo_book::{Book, Pass};
 use std::alloc::Global;
 use std::snapshot::Snapshot;
 use std::sync::Wait;
-use std::sync::atomic::AtomicU32;
 use std::thread;
 use std::thread::{Promise, Threads};
 
@@ -40,6 +39,7 @@ pub fn both_at_once<S: Script + Send + Drop, C: Wire + Send + Drop, R: Threads +
     alloc: Global,
     one: Crew<S, C>,
     other: Crew<S, C>,
+    progress: &Progress,
 ) -> Result<(Chronicle, Chronicle), RunFault>
     requires one { IsReady one }
     requires other { IsReady other }
@@ -59,7 +59,7 @@ pub fn both_at_once<S: Script + Send + Drop, C: Wire + Send + Drop, R: Threads +
         jobs: other_jobs,
         scripts: other_scripts,
     } = other;
-    let at_work = AtomicU32::new(2);
+    progress.begin(2);
     let (home, other_home) = both_homes(
         rt,
         alloc,
@@ -71,7 +71,7 @@ pub fn both_at_once<S: Script + Send + Drop, C: Wire + Send + Drop, R: Threads +
         other_passes,
         other_jobs,
         other_scripts,
-        &at_work,
+        progress,
     )?;
     Ok((
         settle(alloc, book, home)?,
@@ -91,7 +91,7 @@ fn both_homes<S: Script + Send + Drop, C: Wire + Send + Drop, R: Threads + Wait 
     other_passes: Vec<Pass>,
     other_jobs: Vec<PumpJob<C>>,
     other_scripts: Vec<S>,
-    at_work: &AtomicU32,
+    progress: &Progress,
 ) -> Result<(Home, Home), RunFault>
     requires passes { EachAt (IsNew here.now) 0 passes.items × (length passes.items ≡ here.now.passes) }
     requires enough { length jobs.items + length scripts.items ≤ length passes.items }
@@ -134,14 +134,14 @@ fn both_homes<S: Script + Send + Drop, C: Wire + Send + Drop, R: Threads + Wait 
                         other_passes,
                         other_jobs,
                         other_scripts,
-                        at_work,
+                        progress,
                     )
                 },
             );
             let Ok(thread) = thread else {
                 return Err(RunFault::NoMemory);
             };
-            let home = at_once(rt, alloc, here, passes, jobs, scripts, at_work);
+            let home = at_once(rt, alloc, here, passes, jobs, scripts, progress);
             let other_home = thread.join(rt);
             Ok((home?, other_home?))
         },

@@ -16,13 +16,12 @@ use crate::threads::at_once;
 use crate::two_books::both_at_once;
 use crate::wire::{Socket, Wire};
 use crate::workload::workloads;
-use crate::{LinkKind, Ran, RunFault, RunSettings, Script};
+use crate::{LinkKind, Progress, Ran, RunFault, RunSettings, Script};
 use amo_net::{LinkFault, Lossy, LossyEnd, UdpPort};
 use amo_object::End;
 use amo_word::ChaChaWords;
 use std::alloc::{AllocError, Global};
 use std::net::{Ipv4Addr, Net, SocketAddr};
-use std::sync::atomic::AtomicU32;
 use std::sync::{Mutex, Wait};
 use std::thread::Threads;
 
@@ -40,9 +39,42 @@ pub fn run<R: Threads + Wait + Net + Sync>(
     ensures whole { IfOk result (IsRanOf settings.now) }
     ensures spelt { IfOk result (λ r. All CanSpell r.events.items × All CanSpell r.receivers.items) }
 {
+    run_watched(rt, alloc, settings, &Progress::new())
+}
+
+/// The same, with its progress for whoever looks on. That is over on every way out.
+pub fn run_watched<R: Threads + Wait + Net + Sync>(
+    rt: &R,
+    alloc: Global,
+    settings: &RunSettings,
+    progress: &Progress,
+) -> Result<Ran, RunFault>
+    requires within { AreWithin settings.now }
+    ensures whole { IfOk result (IsRanOf settings.now) }
+    ensures spelt { IfOk result (λ r. All CanSpell r.events.items × All CanSpell r.receivers.items) }
+{
+    let ran = run_linked(rt, alloc, settings, progress);
+    progress.end();
+    ran
+}
+
+/// A run over the links that are asked for.
+fn run_linked<R: Threads + Wait + Net + Sync>(
+    rt: &R,
+    alloc: Global,
+    settings: &RunSettings,
+    progress: &Progress,
+) -> Result<Ran, RunFault>
+    requires within { AreWithin settings.now }
+    ensures whole { IfOk result (IsRanOf settings.now) }
+    ensures spelt { IfOk result (λ r. All CanSpell r.events.items × All CanSpell r.receivers.items) }
+{
     match settings.link {
-        LinkKind::Memory => run_in_memory(rt, alloc, settings),
-        LinkKind::Udp => run_over(rt, alloc, settings, sockets(rt, alloc, pumps_of(settings))?),
+        LinkKind::Memory => run_in_memory(rt, alloc, settings, progress),
+        LinkKind::Udp => {
+            let sockets = sockets(rt, alloc, pumps_of(settings))?;
+            run_over(rt, alloc, settings, sockets, progress)
+        }
     }
 }
 
@@ -51,6 +83,7 @@ fn run_in_memory<R: Threads + Wait + Sync>(
     rt: &R,
     alloc: Global,
     settings: &RunSettings,
+    progress: &Progress,
 ) -> Result<Ran, RunFault>
     requires within { AreWithin settings.now }
     ensures whole { IfOk result (IsRanOf settings.now) }
@@ -62,7 +95,7 @@ fn run_in_memory<R: Threads + Wait + Sync>(
     let Ok(wires) = ends(rt, alloc, channels.as_slice()) else {
         return Err(RunFault::NoMemory);
     };
-    run_over(rt, alloc, settings, wires)
+    run_over(rt, alloc, settings, wires, progress)
 }
 
 /// A channel for each pair of pumps. That of the first stands last.
@@ -151,6 +184,7 @@ fn run_over<C: Wire + Send + Drop, R: Threads + Wait + Sync>(
     alloc: Global,
     settings: &RunSettings,
     wires: Wires<C>,
+    progress: &Progress,
 ) -> Result<Ran, RunFault>
     requires within { AreWithin settings.now }
     requires senders { pumps_of settings.now ≤ length wires.senders.items }
@@ -159,12 +193,12 @@ fn run_over<C: Wire + Send + Drop, R: Threads + Wait + Sync>(
     ensures spelt { IfOk result (λ r. All CanSpell r.events.items × All CanSpell r.receivers.items) }
 {
     if settings.split {
-        return run_apart(rt, alloc, settings, wires);
+        return run_apart(rt, alloc, settings, wires, progress);
     }
     let Ok(scripts) = workloads(alloc, Part::Both, settings) else {
         return Err(RunFault::NoMemory);
     };
-    let chronicle = run_scripts(rt, alloc, settings, wires, scripts)?;
+    let chronicle = run_scripts(rt, alloc, settings, wires, scripts, progress)?;
     Ok(Ran::of_one(alloc, chronicle))
 }
 
@@ -175,6 +209,7 @@ pub fn run_scripts<S: Script + Send + Drop, C: Wire + Send + Drop, R: Threads + 
     settings: &RunSettings,
     wires: Wires<C>,
     scripts: Vec<S>,
+    progress: &Progress,
 ) -> Result<Chronicle, RunFault>
     requires within { AreWithin settings.now }
     requires senders { pumps_of settings.now ≤ length wires.senders.items }
@@ -189,7 +224,8 @@ pub fn run_scripts<S: Script + Send + Drop, C: Wire + Send + Drop, R: Threads + 
         jobs,
         scripts,
     } = muster(alloc, settings, Part::Both, wires, scripts)?;
-    let home = at_once(rt, alloc, &book, passes, jobs, scripts, &AtomicU32::new(1))?;
+    progress.begin(1);
+    let home = at_once(rt, alloc, &book, passes, jobs, scripts, progress)?;
     settle(alloc, book, home)
 }
 
@@ -199,6 +235,7 @@ fn run_apart<C: Wire + Send + Drop, R: Threads + Wait + Sync>(
     alloc: Global,
     settings: &RunSettings,
     wires: Wires<C>,
+    progress: &Progress,
 ) -> Result<Ran, RunFault>
     requires within { AreWithin settings.now }
     requires senders { pumps_of settings.now ≤ length wires.senders.items }
@@ -223,6 +260,6 @@ fn run_apart<C: Wire + Send + Drop, R: Threads + Wait + Sync>(
     };
     let one = muster(alloc, settings, Part::Senders, senders, putting)?;
     let other = muster(alloc, settings, Part::Receivers, receivers, getting)?;
-    let (one, other) = both_at_once(rt, alloc, one, other)?;
+    let (one, other) = both_at_once(rt, alloc, one, other, progress)?;
     Ok(Ran::of_two(one, other))
 }

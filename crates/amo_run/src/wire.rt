@@ -3,6 +3,7 @@ ghost use Rattle.std.specs.Prelude.{◌≡◌, ◌<◌};
 ghost use Rattle.amo_run.specs.Crew.{Returned};
 ghost use Rattle.amo_run.specs.Engine.{Works};
 
+use crate::Progress;
 use crate::work::{Pumped, Task, cut_off, drive};
 use amo_book::{Book, Pass};
 use amo_net::{Lossy, LossyEnd, UdpPort};
@@ -11,7 +12,6 @@ use std::alloc::Global;
 use std::marker::Brand;
 use std::net::SocketAddr;
 use std::sync::Wait;
-use std::sync::atomic::AtomicU32;
 use std::sync::ledger::{Blank, Ledger};
 
 /// What becomes a link on the thread of the pump that uses it.
@@ -27,7 +27,7 @@ pub trait Wire {
         book: &Book,
         pass: Pass,
         task: Task,
-        at_work: &AtomicU32,
+        progress: &Progress,
     ) -> Pumped
         requires { Works book.now pass task.pump }
         ensures { Returned book.now pass task.pump.charges result };
@@ -41,9 +41,9 @@ impl<'a, W: Wait> Wire for LossyEnd<'a, ChaChaWords, W> {
         book: &Book,
         pass: Pass,
         task: Task,
-        at_work: &AtomicU32,
+        progress: &Progress,
     ) -> Pumped {
-        drive(rt, alloc, book, pass, task, self, at_work)
+        drive(rt, alloc, book, pass, task, self, progress)
     }
 }
 
@@ -62,9 +62,9 @@ impl Wire for Socket {
         book: &Book,
         pass: Pass,
         task: Task,
-        at_work: &AtomicU32,
+        progress: &Progress,
     ) -> Pumped {
-        drive_socket::<R, Brand>(rt, alloc, book, pass, task, self, at_work, Blank::new(1))
+        drive_socket::<R, Brand>(rt, alloc, book, pass, task, self, progress, Blank::new(1))
     }
 }
 
@@ -76,7 +76,7 @@ fn drive_socket<R: Wait, L: Ledger>(
     pass: Pass,
     task: Task,
     socket: Socket,
-    at_work: &AtomicU32,
+    progress: &Progress,
     blank: Blank,
 ) -> Pumped
     requires name { blank.name ≡ L.name }
@@ -87,7 +87,7 @@ fn drive_socket<R: Wait, L: Ledger>(
 {
     let Socket { port, peer } = socket;
     match port.connect::<L>(peer, blank) {
-        Ok(link) => drive(rt, alloc, book, pass, task, link, at_work),
+        Ok(link) => drive(rt, alloc, book, pass, task, link, progress),
         Err(fault) => cut_off(alloc, book, pass, task, fault),
     }
 }

@@ -5,9 +5,10 @@ ghost use Rattle.amo_run.specs.Engine.{Works};
 
 use crate::engine::{Engine, Tally};
 use crate::plan::Plan;
+use crate::progress::Counted;
 use crate::source::Source;
 use crate::wire::Wire;
-use crate::{Script, client};
+use crate::{Progress, Script, client};
 use amo_book::{Book, Charge, Pass};
 use amo_host::Pump;
 use amo_net::{Link, LinkFault};
@@ -16,7 +17,6 @@ use amo_world::{Event, NoMemory};
 use std::alloc::Global;
 use std::snapshot::Snapshot;
 use std::sync::Wait;
-use std::sync::atomic::AtomicU32;
 use std::thread::{Promise, PromisedHandle};
 
 /// What a client's thread gives back.
@@ -101,11 +101,12 @@ pub fn follow_script<S: Script + Drop, R: Wait>(
     book: &Book,
     pass: Pass,
     script: S,
+    progress: &Progress,
 ) -> Done
     requires { pass.book ≡ book.now.id }
     ensures { Did book.now pass result }
 {
-    let (mut pass, mut script) = (pass, script);
+    let (mut pass, mut script) = (pass, Counted { script, progress });
     let made = client(rt, alloc, book, &mut pass, &mut script);
     Done { pass, made }
 }
@@ -117,13 +118,13 @@ pub fn follow_task<C: Wire + Drop, R: Wait>(
     book: &Book,
     pass: Pass,
     job: PumpJob<C>,
-    at_work: &AtomicU32,
+    progress: &Progress,
 ) -> Pumped
     requires { Works book.now pass job.task.pump }
     ensures { Returned book.now pass job.task.pump.charges result }
 {
     let PumpJob { task, wire } = job;
-    wire.drive(rt, alloc, book, pass, task, at_work)
+    wire.drive(rt, alloc, book, pass, task, progress)
 }
 
 /// Drives a pump over its link.
@@ -135,7 +136,7 @@ pub fn drive<L: Link + Drop, R: Wait>(
     pass: Pass,
     task: Task,
     link: L,
-    at_work: &AtomicU32,
+    progress: &Progress,
 ) -> Pumped
     requires { Works book.now pass task.pump }
     ensures { Returned book.now pass task.pump.charges result }
@@ -159,6 +160,8 @@ pub fn drive<L: Link + Drop, R: Wait>(
         made: Vec::new(alloc),
         link_faults: 0,
         busy: 0,
+        untold: 0,
+        untold_crashes: 0,
     };
     let worked = engine.work(
         rt,
@@ -166,13 +169,14 @@ pub fn drive<L: Link + Drop, R: Wait>(
         book,
         &mut pass,
         streams.as_slice(),
-        at_work,
+        progress,
         &mut tally,
     );
     let Tally {
         made,
         link_faults,
         busy,
+        ..
     } = tally;
     let Engine { pump, .. } = engine;
     Pumped {

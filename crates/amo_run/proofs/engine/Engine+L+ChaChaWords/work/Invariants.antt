@@ -1,5 +1,5 @@
 use Rattle.amo_run.specs.Engine.{Recorded}
-use Rattle.amo_run.proofs.engine.Engine.work.Given as goal
+use Rattle.amo_run.proofs.engine.Engine+L+ChaChaWords.work.Given as goal
 
 -- so far the record has grown by the events that the pass and the pump made
 abbrev pub invariant-turns : goal.invariant-turns
