@@ -6,16 +6,19 @@ ghost use Rattle.amo_run.specs.Settings.{AreWithin};
 
 use super::*;
 use crate::crew::Wires;
+use crate::part::Part;
 use crate::report::Chronicle;
 use crate::source::channel_words;
 use crate::whole_run::run_scripts;
+use crate::wire::Socket;
+use crate::workload::workloads;
 use amo_audit::merge;
-use amo_net::{Lossy, LossyEnd};
+use amo_net::{LinkFault, Lossy, LossyEnd, UdpPort};
 use amo_object::End;
 use amo_packet::Message;
 use amo_world::{Act, Event, Reply, World};
 use std::alloc::Global;
-use std::net::Net;
+use std::net::{Ipv4Addr, Net, SocketAddr};
 use std::sync::atomic::{AtomicBool, Ordering};
 use std::sync::{Mutex, Wait};
 use std::test::*;
@@ -73,6 +76,30 @@ fn run_small<S: Script + Send + Drop, R: Threads + Wait + Sync>(
         receivers: Vec::from_array(alloc, [LossyEnd::new(rt, &channel, End::Receiver)])?,
     };
     Ok(run_scripts(rt, alloc, &SMALL, wires, scripts, &Progress::new())?)
+}
+
+/// A socket whose peer is to be everybody, as the system refuses where nobody asked for it.
+fn unconnected<R: Net>(rt: &R) -> Result<Socket, LinkFault> {
+    Ok(Socket {
+        port: UdpPort::open(rt, SocketAddr::from((Ipv4Addr::LOCALHOST, 0)))?,
+        peer: SocketAddr::from((Ipv4Addr::BROADCAST, 9)),
+    })
+}
+
+/// What becomes of a run whose sockets do not connect.
+fn run_cut_off<R: Threads + Wait + Net + Sync>(
+    rt: &R,
+    alloc: Global,
+) -> Result<Option<RunFault>, Fail> {
+    let wires = Wires {
+        senders: Vec::from_array(alloc, [unconnected(rt)?])?,
+        receivers: Vec::from_array(alloc, [unconnected(rt)?])?,
+    };
+    let scripts = workloads(alloc, Part::Both, &SMALL)?;
+    match run_scripts(rt, alloc, &SMALL, wires, scripts, &Progress::new()) {
+        Ok(_) => Ok(None),
+        Err(fault) => Ok(Some(fault)),
+    }
 }
 
 /// Whether a world accepts all of these events.
@@ -139,6 +166,13 @@ fn runs_on_two_books(rt: HostRuntime) -> Result<(), Fail> {
     assert!(rt; are_of(End::Receiver, ran.receivers.as_slice()));
     let merged = merge(rt.alloc(), ran.events.as_slice(), ran.receivers.as_slice());
     assert!(rt; is_accepted(rt.alloc(), merged.ok().ok_or("an order")?)?);
+    Ok(())
+}
+
+/// Where a socket does not connect its pump makes no turn. The clients go on, all threads end, and the run tells it.
+#[test]
+fn a_cut_off_run_ends(rt: HostRuntime) -> Result<(), Fail> {
+    assert_eq!(rt; run_cut_off(&rt, rt.alloc())?, Some(RunFault::Device));
     Ok(())
 }
 

@@ -100,11 +100,23 @@ impl<L: Link + Drop> Side<L> {
     }
 
     /// From now on the words are these.
-    fn renew(&mut self, words: FixedWords)
-        ensures pass { self.new.pass ≡ self.old.pass }
-        ensures charges { self.new.engine.pump.charges ≡ self.old.engine.pump.charges }
+    fn renew(&mut self, book: &Book, words: FixedWords)
+        requires { Works book.now self.old.pass self.old.engine.pump }
+        ensures { Works book.now self.new.pass self.new.engine.pump }
     {
+        let _ = book;
         self.engine.pump.renew(words);
+    }
+
+    /// Goes down, and comes up at once with these words. Whether both happened.
+    fn crash(&mut self, book: &Book, words: FixedWords) -> Result<bool, NoMemory>
+        requires { Works book.now self.old.pass self.old.engine.pump }
+        ensures { Works book.now self.new.pass self.new.engine.pump }
+    {
+        let is_down = self.suffer(book, Fate::Crash)?;
+        self.renew(book, words);
+        let is_up = self.suffer(book, Fate::Recover)?;
+        Ok(is_down && is_up)
     }
 
     /// How many calls of its link it made, if none of them failed.
@@ -170,27 +182,19 @@ impl<L: Link + Drop> Duo<L> {
         }
     }
 
-    /// Whether this happened to the host of a side.
-    fn suffer(&mut self, side: End, fate: Fate) -> Result<bool, NoMemory> {
-        match side {
-            End::Sender => self.sender.suffer(&self.book, fate),
-            End::Receiver => self.receiver.suffer(&self.book, fate),
-        }
-    }
-
     /// The side of a host goes down, and comes up at once with new words.
     fn crash(&mut self, side: End) -> Result<(), Fail> {
-        let words = match side {
-            End::Sender => words_from(self.alloc, 2001)?,
-            End::Receiver => words_from(self.alloc, 3001)?,
+        let happened = match side {
+            End::Sender => {
+                let words = words_from(self.alloc, 2001)?;
+                self.sender.crash(&self.book, words)?
+            }
+            End::Receiver => {
+                let words = words_from(self.alloc, 3001)?;
+                self.receiver.crash(&self.book, words)?
+            }
         };
-        let is_down = self.suffer(side, Fate::Crash)?;
-        match side {
-            End::Sender => self.sender.renew(words),
-            End::Receiver => self.receiver.renew(words),
-        }
-        let is_up = self.suffer(side, Fate::Recover)?;
-        match is_down && is_up {
+        match happened {
             true => Ok(()),
             false => Err("a crash and a recovery".into()),
         }
