@@ -1,10 +1,11 @@
-//! A host on a thread of its own.
+//! A host on a thread of its own, and one that a client of another thread keeps busy.
 ghost use Rattle.std.specs.Prelude.{◌≡◌};
 ghost use Rattle.amo_book.specs.Book.{Each};
 ghost use Rattle.amo_book.specs.Charge.{IsChargeOf};
 
 use super::*;
 use std::marker::{Brand, Model, PhantomData};
+use std::sync::atomic::{AtomicBool, Ordering};
 use std::thread::{Threads, join};
 
 /// Which book it is, and its sides. Each test picks it.
@@ -125,5 +126,111 @@ fn a_pump_crosses_threads(rt: HostRuntime) -> Result<(), Fail> {
     assert_eq!(rt; there, Ok(start));
     let resend = Turned::Did(End::Sender, 1, Kind::Resend, emitted(2));
     assert_eq!(rt; home, Ok(resend));
+    Ok(())
+}
+
+/// How often a host, and the client beside it, try at most.
+const TRIES: u64 = 100_000_000;
+
+/// A client of the book.
+#[derive(Drop)]
+struct Client<J: Naming> {
+    pass: Pass,
+    of: PhantomData<J>,
+}
+
+impl<J: Naming> Model for Client<J> {
+    ghost use Rattle.std.specs.Prelude.{◌≡◌};
+    ghost use Rattle.amo_book.specs.Pass.{PassState};
+
+    ghost Value = { PassState };
+
+    ghost view = { λ c. c.pass };
+
+    ghost invariant = { λ c. c.pass.book ≡ J.id };
+}
+
+impl<J: Naming> Client<J> {
+    /// Asks for the ack of stream 1. It holds the gate of that sender meanwhile.
+    fn ask(&mut self, shared: &Shared<J>) {
+        let _ = shared.book.get_ack(&mut self.pass, 1);
+    }
+
+    /// Asks until it is over.
+    fn ask_on(mut self, shared: &Shared<J>, is_over: &AtomicBool) {
+        for _ in 0..TRIES {
+            if is_over.load(Ordering::SeqCst) {
+                return;
+            }
+            self.ask(shared);
+        }
+    }
+}
+
+impl<J: Naming> Host<J> {
+    /// Makes turns until one fails, and tells why. At the last moment of all a stream whose handshake is open is always due.
+    fn turn_on(mut self, shared: &Shared<J>, is_over: &AtomicBool) -> (Host<J>, Option<PumpFault>) {
+        let mut fault = None;
+        for _ in 0..TRIES {
+            if let Err(told) = self.turn(shared, u64::MAX) {
+                fault = Some(told);
+                break;
+            }
+        }
+        is_over.store(true, Ordering::SeqCst);
+        (self, fault)
+    }
+}
+
+/// A host's first turn, then its turns while a client on another thread asks at the same sender, until one of them fails, and the turn after that.
+fn meet_at_a_gate<J: Naming + Send + Sync, R: Threads + Sync>(
+    rt: &R,
+    book: Book,
+    passes: (Pass, Pass),
+    pump: Pump<FixedWords>,
+) -> (Option<PumpFault>, [Result<Turned, PumpFault>; 2])
+    requires book { (book.id ≡ J.id) × (book.sides ≡ J.sides) }
+    requires host { (passes.0.book ≡ J.id) × Each (IsChargeOf J.id J.sides) pump.charges }
+    requires client { passes.1.book ≡ J.id }
+{
+    let (pass, client) = passes;
+    let shared: Shared<J> = Shared {
+        book,
+        of: PhantomData,
+    };
+    let mut host = Host {
+        pump,
+        pass,
+        of: PhantomData,
+    };
+    let client: Client<J> = Client {
+        pass: client,
+        of: PhantomData,
+    };
+    let first = host.turn(&shared, 0);
+    let is_over = AtomicBool::new(false);
+    let ((mut host, fault), ()) = join(
+        rt,
+        || host.turn_on(&shared, &is_over),
+        || client.ask_on(&shared, &is_over),
+    );
+    (fault, [first, host.turn(&shared, u64::MAX)])
+}
+
+/// A turn that meets a held gate is busy, and the next one goes on. Nothing but another call holds a gate, and none can be stopped while it does:
+/// so host and client go on until they meet. That takes microseconds, or some changes of hands where they share a processor.
+#[test]
+fn a_turn_is_busy(rt: HostRuntime) -> Result<(), Fail> {
+    let alloc = rt.alloc();
+    let (book, mut passes, charges) = open(alloc, &[(End::Sender, 1)], 2)?;
+    let mut client = last(&mut passes, &book).ok_or("a client's pass")?;
+    let pass = last(&mut passes, &book).ok_or("a pass")?;
+    put(alloc, &book, &mut client, 1, &[])?;
+    let pump = pump(charges, 1, vec![in alloc; 7]?, alloc, &book)?;
+    let (fault, [first, next]) = meet_at_a_gate::<Brand, _>(&rt, book, (pass, client), pump);
+    let start = Turned::Did(End::Sender, 1, Kind::Start(7), emitted(1));
+    assert_eq!(rt; first, Ok(start));
+    assert_eq!(rt; fault, Some(PumpFault::Busy));
+    assert!(rt; matches!(next, Ok(Turned::Did(End::Sender, 1, Kind::Resend, _))));
     Ok(())
 }
