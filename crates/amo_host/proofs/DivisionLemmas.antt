@@ -1,5 +1,5 @@
 -- Several pumps: their windows, and what they are made of.
-use Rattle.std.proofs.Common.{◌≡◌, ◌≢◌, ℕ, zero, suc, ◌+◌, ◌*◌, ◌/◌, ◌%◌, ◌<◌, ◌≤◌, min, List, [], ◌∷◌, ◌++◌, length, get_or, set, map, slice_get, vec_capacity, sum_by, ◌⊎◌, Some, None, refl, sym, ap, subst, ◌∙◌, inl, inr, cond, ltb, arith}
+use Rattle.std.proofs.Common.{◌≡◌, ℕ, zero, suc, ◌+◌, ◌*◌, ◌/◌, ◌%◌, ◌<◌, ◌≤◌, min, List, [], ◌∷◌, ◌++◌, length, get_or, set, map, slice_get, vec_capacity, sum_by, ◌⊎◌, Some, refl, sym, ap, subst, ◌∙◌, inl, inr, cond, ltb, arith}
 use Rattle.std.specs.Global.{Vec}
 use Rattle.std.specs.List.{zip}
 use Rattle.std.proofs.Math.Nat.{mul-le-mul_left, mul-le-mul_right}
@@ -171,6 +171,7 @@ module _ {W : Type 0} (charges : List ChargeState) (window n : ℕ) (words : Lis
   divides lawful =
       let even : CanBeDivided charges window n n = subst (CanBeDivided charges window n) lawful.a_word_each lawful in
       record {
+        lawful = lawful;
         count = length-joined hosts parts words n has.count are.count lawful.a_word_each;
         part = λ p s at. dealt_to p s at;
         word = λ p s at. (joined_at hosts parts words p s at).2;

@@ -29,9 +29,10 @@ pub record CanBeDivided (charges : List ChargeState) (window pumps words : ℕ) 
   pub a_handshake_each : pumps ≤ window
   pub driven : CanBeDriven charges window
 
--- As many pumps as asked, each a new one: pump p has the charges in the places p, p + pumps, .., its share of the window, and the
--- words in place p.
+-- The charges can be divided so, and there are as many pumps as asked, each a new one: pump p has the charges in the places p,
+-- p + pumps, .., its share of the window, and the words in place p.
 pub record Divides {W : Type 0} (charges : List ChargeState) (window pumps : ℕ) (words : List W) (stations : List (Station W)) : Type 0 where
+  pub lawful : CanBeDivided charges window pumps (length words)
   pub count : length stations ≡ pumps
   pub part : (p : ℕ) (s : Station W) → slice_get stations p ≡ Some s → IsPart pumps p charges s.charges
   pub word : (p : ℕ) (s : Station W) → slice_get stations p ≡ Some s → slice_get words p ≡ Some s.words
