@@ -11,6 +11,9 @@ use Rattle.amo_core.specs.declared.act.Act.{Act}
 use Rattle.amo_core.specs.declared.act.Act.TheVariants as act
 use Rattle.amo_core.specs.declared.reply.Reply.{Reply}
 use Rattle.amo_core.specs.declared.reply.Reply.TheVariants as reply
+use Rattle.amo_text.specs.Act.{act_field}
+use Rattle.amo_text.specs.declared.act.ActName.{ActName}
+use Rattle.amo_text.specs.declared.act.ActName.TheVariants as name
 use Rattle.amo_text.specs.Hexadecimal.{hex}
 use Rattle.amo_text.specs.Line.{Lacks, IsField, text_of}
 use Rattle.amo_text.specs.Side.{letter_of}
@@ -81,24 +84,22 @@ no_delivery text none (act.Deliver p word) rest fits e =
     none p word rest fits.0 fits.1 (here ∙ append_assoc (hex (spelling p)) (32 ∷ decimal word) (32 ∷ rest))
 no_delivery text none a rest fits e = other_kind a (codes "deliver") text rest (letters (codes "deliver") refl) refl e
 
--- a text with another first field has no act in front
-pub other_act : (text command more : List ℕ) → text ≡ command ++ 32 ∷ more → Lacks 32 command
-    → command ≢ codes "put" → command ≢ codes "get" → command ≢ codes "ack" → command ≢ codes "start" → command ≢ codes "resend" → command ≢ codes "deliver" → command ≢ codes "crash" → command ≢ codes "recover"
-    → (a : Act) (rest : List ℕ) → text ≢ act_and a rest
-other_act text command more cut lacks put get ack start resend deliver crash recover a rest e = by a e
+-- a text whose first field names no act has no act in front
+pub other_act : (text field more : List ℕ) → text ≡ field ++ 32 ∷ more → Lacks 32 field → ((n : ActName) → field ≢ act_field n) → (a : Act) (rest : List ℕ) → text ≢ act_and a rest
+other_act text field more cut lacks other a rest e = by a e
   where
-    differs : (word after : List ℕ) → IsField word → command ≢ word → text ≢ word ++ 32 ∷ after
-    differs word after known other same = other (one_field text command more word after cut lacks known same).0
+    differs : (n : ActName) (after : List ℕ) → IsField (act_field n) → text ≢ act_field n ++ 32 ∷ after
+    differs n after known same = other n (one_field text field more (act_field n) after cut lacks known same).0
 
     by : (a : Act) → text ≢ act_and a rest
-    by (act.Put m) e = differs (codes "put") (hex m ++ 32 ∷ rest) (letters (codes "put") refl) put e
-    by act.Get e = differs (codes "get") rest (letters (codes "get") refl) get e
-    by act.Ack e = differs (codes "ack") rest (letters (codes "ack") refl) ack e
-    by (act.Start word) e = differs (codes "start") (decimal word ++ 32 ∷ rest) (letters (codes "start") refl) start e
-    by act.Resend e = differs (codes "resend") rest (letters (codes "resend") refl) resend e
-    by (act.Deliver p word) e = differs (codes "deliver") ((hex (spelling p) ++ 32 ∷ decimal word) ++ 32 ∷ rest) (letters (codes "deliver") refl) deliver e
-    by act.Crash e = differs (codes "crash") rest (letters (codes "crash") refl) crash e
-    by act.Recover e = differs (codes "recover") rest (letters (codes "recover") refl) recover e
+    by (act.Put m) e = differs name.Put (hex m ++ 32 ∷ rest) (letters (codes "put") refl) e
+    by act.Get e = differs name.Get rest (letters (codes "get") refl) e
+    by act.Ack e = differs name.Ack rest (letters (codes "ack") refl) e
+    by (act.Start word) e = differs name.Start (decimal word ++ 32 ∷ rest) (letters (codes "start") refl) e
+    by act.Resend e = differs name.Resend rest (letters (codes "resend") refl) e
+    by (act.Deliver p word) e = differs name.Deliver ((hex (spelling p) ++ 32 ∷ decimal word) ++ 32 ∷ rest) (letters (codes "deliver") refl) e
+    by act.Crash e = differs name.Crash rest (letters (codes "crash") refl) e
+    by act.Recover e = differs name.Recover rest (letters (codes "recover") refl) e
 
 -- a text with a space whose first field is not got is no reply
 pub other_reply : (text field more : List ℕ) → text ≡ field ++ 32 ∷ more → Lacks 32 field → field ≢ codes "got" → (r : Reply) → text ≢ reply_text r

@@ -1,8 +1,8 @@
 -- The marks of a journal's lines, while they are read.
 use Rattle.std.proofs.Common.{◌≡◌, ◌≢◌, ℕ, ◌+◌, ◌<◌, Option, None, Some, Bool, true, false, List, [], ◌∷◌, ◌++◌, length, set, get_or, refl, sym, ◌∙◌, ap, subst, inl, inr, ◌⊎◌}
-use Rattle.std.specs.Prelude.{◌↔◌, IsTrue, IfNone, IfSome}
+use Rattle.std.specs.Prelude.{IsTrue, IfNone, IfSome}
 use Rattle.std.proofs.lemmas.List.Elements.{All-contains}
-use Rattle.std.specs.List.{All, Contains}
+use Rattle.std.specs.List.{All}
 use Rattle.amo_world.specs.declared.event.Event.{Event}
 use Rattle.amo_world.specs.Stream.{IsStream}
 use Rattle.amo_audit.specs.declared.numbered.Numbered.{Numbered}

@@ -1,5 +1,5 @@
 -- What is kept of two journals while their events are merged and judged.
-use Rattle.std.specs.Prelude.{ℕ, Option, None, Some, List, reverse}
+use Rattle.std.specs.Prelude.{Option, None, Some, List, reverse}
 use Rattle.amo_world.specs.declared.event.Event.{Event}
 use Rattle.amo_world.specs.History.{DeliversEmitted}
 use Rattle.amo_audit.specs.declared.both.Both.{Both}

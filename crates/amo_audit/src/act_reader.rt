@@ -8,7 +8,7 @@ ghost use Rattle.amo_audit.specs.Fields.{IsAct, IsPacket, act_and};
 
 use crate::line_reader::next_number;
 use amo_packet::{MAX_PACKET, OwnedPacket, read};
-use amo_text::{next_field, read_hex, read_message};
+use amo_text::{ActName, next_field, read_act_name, read_hex, read_message};
 use amo_world::Act;
 use std::alloc::{AllocError, Global};
 
@@ -17,27 +17,21 @@ pub(crate) fn next_act(alloc: Global, text: &[u8]) -> Result<Option<(Act, &[u8])
     ensures found { IfOk result (λ read. IfSome read (λ a. IsAct a.0 × (text.now ≡ act_and a.0 a.1.now))) }
     ensures none { IfOk result (λ read. IfNone read ((a : Act) (rest : List ℕ) → IsAct a → text.now ≢ act_and a rest)) }
 {
-    let Some((command, rest)) = next_field(text) else {
+    let Some((field, rest)) = next_field(text) else {
         return Ok(None);
     };
-    if command == b"put".as_slice() {
-        next_put(alloc, rest)
-    } else if command == b"get".as_slice() {
-        Ok(Some((Act::Get, rest)))
-    } else if command == b"ack".as_slice() {
-        Ok(Some((Act::Ack, rest)))
-    } else if command == b"start".as_slice() {
-        Ok(next_start(rest))
-    } else if command == b"resend".as_slice() {
-        Ok(Some((Act::Resend, rest)))
-    } else if command == b"deliver".as_slice() {
-        next_delivery(alloc, rest)
-    } else if command == b"crash".as_slice() {
-        Ok(Some((Act::Crash, rest)))
-    } else if command == b"recover".as_slice() {
-        Ok(Some((Act::Recover, rest)))
-    } else {
-        Ok(None)
+    let Some(name) = read_act_name(field) else {
+        return Ok(None);
+    };
+    match name {
+        ActName::Put => next_put(alloc, rest),
+        ActName::Get => Ok(Some((Act::Get, rest))),
+        ActName::Ack => Ok(Some((Act::Ack, rest))),
+        ActName::Start => Ok(next_start(rest)),
+        ActName::Resend => Ok(Some((Act::Resend, rest))),
+        ActName::Deliver => next_delivery(alloc, rest),
+        ActName::Crash => Ok(Some((Act::Crash, rest))),
+        ActName::Recover => Ok(Some((Act::Recover, rest))),
     }
 }
 

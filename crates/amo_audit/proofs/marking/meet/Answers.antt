@@ -1,5 +1,5 @@
 use Rattle.std.proofs.Common.{◌≡◌, false, true, arith}
-use Rattle.amo_audit.proofs.Marked.{meets, met}
+use Rattle.amo_audit.proofs.Marked.{met}
 use Rattle.amo_audit.proofs.marking.meet.Goals as goal
 
 pub returns : goal.returns
