@@ -1,12 +1,12 @@
 -- What opening and closing a permit does to the permits that a host holds.
-use Rattle.std.proofs.Common.{◌≡◌, ◌≢◌, ℕ, zero, suc, ◌+◌, ◌<◌, ◌≤◌, true, List, [], ◌∷◌, ◌++◌, length, get_or, set, map, replicate, cond, is_some, count_by, ◌⊎◌, Option, Some, None, refl, sym, ap, subst, ◌∙◌, inl, inr, arith}
+use Rattle.std.proofs.Common.{◌≡◌, ◌≢◌, ℕ, zero, suc, ◌+◌, ◌<◌, ◌≤◌, true, List, [], ◌∷◌, ◌++◌, length, get_or, set, replicate, cond, is_some, count_by, ◌⊎◌, Option, Some, None, refl, sym, ap, subst, ◌∙◌, inl, inr, arith}
 use Rattle.std.proofs.lemmas.Bool.{cases_eq, cases_lt}
-use Rattle.std.proofs.lemmas.List.{get_or-set_same, get_or-set_other, length-set, length-map, length_push, get_or_append_left, get_or_at, set_at, set-get_or, get_or-map, get_or_past, map-set}
+use Rattle.std.proofs.lemmas.List.{get_or-set_same, get_or-set_other, length-map, length_push, get_or_append_left, get_or_at, set_at, set-get_or, get_or_past, map-set}
 use Rattle.std.proofs.lemmas.List.Sums.{sum_by-set, sum_by-cons}
 use Rattle.std.proofs.lemmas.Option.{same_Some}
 use Rattle.std.specs.Option.{option_map}
 use Rattle.amo_window.specs.Window.{Entry, Permits, Holds, StayOut, out, opened, closed}
-use Rattle.amo_host.specs.Handshakes.{Held, held_of, AreOut, StandsAt, streams_of, open_count}
+use Rattle.amo_host.specs.Handshakes.{held_of, AreOut, StandsAt, streams_of, open_count}
 
 -- a permit counts as one
 abbrev weight : Option Entry → ℕ

@@ -1,6 +1,6 @@
 -- What a host knows of its charges.
-use Rattle.std.proofs.Common.{◌≡◌, ◌≢◌, ℕ, zero, suc, ◌+◌, ◌-◌, ◌<◌, ◌≤◌, Bool, true, false, List, [], ◌∷◌, replicate, length, get_or, set, map, filter, slice_get, cond, is_some, count_by, Option, Some, None, Contains, refl, sym, ap, subst, ◌∙◌, inl, inr, arith}
-use Rattle.std.proofs.lemmas.List.{length-set, length-map, map-set, set-get_or}
+use Rattle.std.proofs.Common.{◌≡◌, ℕ, zero, suc, ◌+◌, ◌-◌, ◌<◌, ◌≤◌, Bool, true, false, List, [], ◌∷◌, replicate, length, get_or, set, map, filter, slice_get, cond, is_some, Option, Some, None, Contains, refl, sym, ap, subst, ◌∙◌, inl, inr, arith}
+use Rattle.std.proofs.lemmas.List.{length-set, map-set}
 use Rattle.amo_window.specs.declared.timers.Timer.{Timer}
 use Rattle.amo_window.specs.Timers.{CanBeTimed, has_come, due}
 use Rattle.amo_window.specs.Timers as timers

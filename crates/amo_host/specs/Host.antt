@@ -1,5 +1,5 @@
 -- A host: what it knows of its charges, and so what it is to do next.
-use Rattle.std.specs.Prelude.{◌≡◌, ◌≢◌, ◌↔◌, IsTrue, ℕ, ◌+◌, ◌-◌, ◌<◌, ◌≤◌, nat_lt, Bool, true, false, if◌then◌else◌, List, [], replicate, Option, Some, None, map, slice_get, slice_set, length}
+use Rattle.std.specs.Prelude.{◌≡◌, ◌↔◌, IsTrue, ℕ, ◌+◌, ◌-◌, ◌<◌, ◌≤◌, nat_lt, Bool, if◌then◌else◌, List, [], replicate, Option, Some, None, map, slice_get, slice_set, length}
 use Rattle.amo_object.specs.declared.step.End.{End}
 use Rattle.amo_object.specs.declared.step.End.TheVariants as side
 use Rattle.amo_packet.specs.declared.packet.OwnedPacket.{OwnedPacket}

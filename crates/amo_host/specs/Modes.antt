@@ -1,5 +1,5 @@
 -- What a mode means to a host.
-use Rattle.std.specs.Prelude.{◌≡◌, Bool, true, false}
+use Rattle.std.specs.Prelude.{Bool, true, false}
 use Rattle.amo_core.specs.declared.act.Act.{Act}
 use Rattle.amo_core.specs.declared.act.Act.TheVariants.{Start}
 use Rattle.amo_core.specs.declared.mode.Mode.{Mode}

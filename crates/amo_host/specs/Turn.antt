@@ -2,7 +2,6 @@
 use Rattle.std.specs.Prelude.{◌≡◌, ℕ, ◌+◌, Bool, true, false, List, ◌⊎◌, Option, Some, None, slice_get, slice_set, Contains}
 use Rattle.std.specs.Borrow.{Bor}
 use Rattle.amo_object.specs.declared.step.End.{End}
-use Rattle.amo_packet.specs.declared.fault.ReadFault.{ReadFault}
 use Rattle.amo_packet.specs.declared.packet.OwnedPacket.{OwnedPacket}
 use Rattle.amo_packet.specs.declared.packet.OwnedBody.{OwnedBody}
 use Rattle.amo_packet.specs.declared.packet.OwnedBody.TheVariants as packet

@@ -1,10 +1,5 @@
-use Rattle.std.proofs.Common.{◌≡◌, ◌<◌, List, map, length, arith, sym, subst, refl}
-use Rattle.std.specs.Global.{Vec}
-use Rattle.amo_book.specs.Book.{Each}
-use Rattle.amo_book.specs.Charge.{ChargeState}
-use Rattle.amo_host.specs.Charges.{IsOfSide, stream_mode_of}
-use Rattle.amo_host.specs.Division.{CanBeDivided, Divides}
-use Rattle.amo_host.specs.Room.{HasHosts, AreDealt}
+use Rattle.std.proofs.Common.{◌≡◌, length, arith, subst, refl}
+use Rattle.amo_host.specs.Room.{AreDealt}
 use Rattle.amo_host.proofs.DivisionLemmas.{suit_each, divides, shares_window}
 use Rattle.amo_host.proofs.division.divide.Goals as goal
 

@@ -1,5 +1,4 @@
 use Rattle.std.proofs.Common.{◌<◌, ◌≤◌, Err, arith, ap, subst, sym}
-use Rattle.amo_window.specs.Window.{most_permits}
 use Rattle.amo_host.specs.Host.{streams_of}
 use Rattle.amo_host.proofs.DivisionLemmas.{share_least, share_greatest}
 use Rattle.amo_host.proofs.PartLemmas.{part_some, part-map, part_timed}

@@ -1,4 +1,4 @@
-use Rattle.std.proofs.Common.{◌≡◌, ℕ, arith, length, subst, sym, Some, slice_get, List}
+use Rattle.std.proofs.Common.{ℕ, arith, subst, sym}
 use Rattle.amo_host.specs.Host.{Host}
 use Rattle.amo_host.specs.Room.{IsHostOfPart}
 use Rattle.amo_host.proofs.PartLemmas.{placed_push}

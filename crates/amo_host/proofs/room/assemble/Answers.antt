@@ -2,7 +2,6 @@ use Rattle.std.proofs.Common.{arith, ◌≡◌, ◌⊎◌, length, List, refl, s
 use Rattle.std.specs.Global.{Vec}
 use Rattle.amo_book.specs.Charge.{ChargeState}
 use Rattle.amo_host.specs.Host.{Host}
-use Rattle.amo_host.specs.Room.{Suit}
 use Rattle.amo_host.proofs.DivisionLemmas.{joined_none, Suit-first, Suit-rest}
 use Rattle.amo_host.proofs.room.assemble.Goals as goal
 

@@ -1,6 +1,5 @@
-use Rattle.std.proofs.Common.{arith, ◌≡◌, ◌+◌, ◌*◌, ◌<◌, ◌++◌, ◌∷◌, [], List, length, Some, refl, sym, ap, subst, ◌∙◌, append_assoc, append-nil, length-append}
+use Rattle.std.proofs.Common.{arith, ◌+◌, ◌∷◌, [], List, length, refl, sym, ap, subst, ◌∙◌, append_assoc, append-nil, length-append}
 use Rattle.std.proofs.lemmas.List.{length-set}
-use Rattle.std.specs.Global.{Vec}
 use Rattle.amo_book.specs.Charge.{ChargeState}
 use Rattle.amo_host.specs.Division.{IsPart}
 use Rattle.amo_host.proofs.DivisionLemmas.{room_left, dealt, nothing_dealt}

@@ -1,4 +1,4 @@
-use Rattle.std.proofs.Common.{rules, subst, sym, ap, ◌∙◌}
+use Rattle.std.proofs.Common.{rules, subst, ap, ◌∙◌}
 use Rattle.amo_window.specs.Timers.{CanBeTimed}
 use Rattle.amo_host.specs.Host.{fresh, streams_of}
 use Rattle.amo_host.proofs.HostLemmas.{fresh_host, same_host}

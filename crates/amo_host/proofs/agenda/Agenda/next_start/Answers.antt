@@ -1,4 +1,4 @@
-use Rattle.std.proofs.Common.{◌≡◌, ℕ, below_more, get_or, length, refl, sym, ap, ◌∙◌, subst, ◌<◌, ◌≤◌, arith}
+use Rattle.std.proofs.Common.{◌≡◌, below_more, get_or, length, sym, ap, ◌∙◌, subst, ◌<◌, arith}
 use Rattle.amo_host.specs.Host.{Host, IsQuiet, in_rotation}
 use Rattle.amo_host.proofs.HostLemmas.{quiet_read, read_quiet, none_quiet}
 use Rattle.amo_host.proofs.agenda.Agenda.next_start.Goals as goal

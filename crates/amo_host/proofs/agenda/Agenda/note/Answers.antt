@@ -1,9 +1,9 @@
-use Rattle.std.proofs.Common.{◌≡◌, ◌<◌, ℕ, length, slice_get, Some, None, Bool, cond, set, refl, sym, ap, subst, ◌∙◌}
+use Rattle.std.proofs.Common.{◌≡◌, Some, None, Bool, cond, set, refl, sym, ap, subst, ◌∙◌}
 use Rattle.std.proofs.lemmas.Option.{same_Some}
 use Rattle.amo_host.specs.declared.agenda.StreamMode.{StreamMode}
 use Rattle.amo_host.specs.Agenda.{host_of}
 use Rattle.amo_host.specs.Handshakes.{Held}
-use Rattle.amo_host.specs.Host.{Host, Noted}
+use Rattle.amo_host.specs.Host.{Noted}
 use Rattle.amo_host.proofs.HostLemmas.{noted_host, at_read}
 use Rattle.amo_host.proofs.agenda.Agenda.note.Goals as goal
 

@@ -1,6 +1,5 @@
-use Rattle.std.proofs.Common.{◌≡◌, None, replicate, refl, ap, ◌∙◌, arith, subst, sym}
+use Rattle.std.proofs.Common.{◌≡◌, refl, ap, arith}
 use Rattle.amo_window.specs.Window.{Permits}
-use Rattle.amo_host.specs.Handshakes.{AreOut, streams_of}
 use Rattle.amo_host.proofs.HeldLemmas.{streams_of-vacant, AreOut-vacant}
 use Rattle.amo_host.proofs.handshakes.Handshakes.new.Goals as goal
 

@@ -1,6 +1,5 @@
-use Rattle.std.proofs.Common.{refl}
-use Rattle.std.proofs.lemmas.Result.{IfOk-weaker, IfErr-weaker}
-use Rattle.amo_host.proofs.StationLemmas.{goes, is_silent, is_once, suits_any, opens_none, carries_none}
+use Rattle.std.proofs.lemmas.Result.{IfOk-weaker}
+use Rattle.amo_host.proofs.StationLemmas.{goes, is_silent, is_once, suits_any, opens_none}
 use Rattle.amo_host.proofs.pump.Pump.go.Goals as goal
 
 pub perform-requires-clause-suits : goal.perform-requires-clause-suits

@@ -1,9 +1,7 @@
-use Rattle.std.proofs.Common.{◌≡◌, ◌<◌, Bool, false, Some, length, slice_get, set, refl, sym, ap, subst, ◌∙◌, List}
+use Rattle.std.proofs.Common.{◌≡◌, ◌<◌, Bool, false, length, set, sym, ap, subst, ◌∙◌}
 use Rattle.std.proofs.lemmas.Option.{same_Some}
-use Rattle.amo_book.specs.Book.{Each}
 use Rattle.amo_book.specs.Charge.{ChargeState, IsChargeOf}
 use Rattle.amo_book.specs.Drive.{Driven}
-use Rattle.amo_core.specs.declared.mode.Mode.{Mode}
 use Rattle.amo_host.specs.declared.agenda.StreamMode.{StreamMode}
 use Rattle.amo_host.specs.Charges.{stream_mode_of}
 use Rattle.amo_host.specs.Host.{Noted}

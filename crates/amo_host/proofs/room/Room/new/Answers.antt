@@ -1,7 +1,6 @@
 use Rattle.std.proofs.Common.{◌≡◌, List, Some, slice_get, subst, sym, ap, ◌∙◌}
 use Rattle.std.specs.List.Sorted.{IsStrictlyIncreasing}
 use Rattle.amo_host.specs.declared.agenda.StreamMode.{StreamMode}
-use Rattle.amo_host.specs.Charges.{stream_mode_of}
 use Rattle.amo_host.specs.Host.{streams_of}
 use Rattle.amo_host.proofs.ChargeLemmas.{all_rest, streams_known, timed_streams}
 use Rattle.amo_host.proofs.room.Room.new.Goals as goal
