@@ -5,6 +5,7 @@
 //! A journal is lines `number pass side stream act reply`, as `5 0 r 1 get got 61`, numbered from 0 without a gap.
 //!
 //! - [`read_journal`] reads the events that bytes spell, and [`write_journal`] writes the one spelling of events.
+//! - [`write_line`] writes the line of one event, and [`read_line`] reads one, for a journal that goes on while things happen.
 //! - [`can_spell`] tells which events have a line. Reading asks the same of each line, so one table says which acts a side has
 //!   and which replies an act has.
 //! - [`audit`] judges bytes: [`Verdict::Yes`] comes only where they are a journal of a right, honest and fresh history,
@@ -29,6 +30,7 @@
 #![tactic(auto)]
 
 mod act_reader;
+mod appending;
 mod auditing;
 mod auditor;
 mod both;
@@ -62,6 +64,7 @@ mod verdict;
 mod writing;
 
 pub use amo_text::{Out, Sink};
+pub use appending::{read_line, write_line};
 pub use auditing::audit;
 pub use explaining::explain;
 pub use fault::JournalFault;

@@ -37,7 +37,7 @@ pub fn write_journal<W: Sink>(
 }
 
 /// Appends the line of the event of this number.
-fn push_line(text: &mut Vec<u8>, number: u64, event: &Event) -> Result<(), AllocError>
+pub(crate) fn push_line(text: &mut Vec<u8>, number: u64, event: &Event) -> Result<(), AllocError>
     ensures { OnOk result (text.new.items ≡ text.old.items ++ line_of (fields_of (record { number = number; event = event.now }))) }
 {
     push_decimal(text, number)?;
