@@ -1,0 +1,3 @@
+pub mod Onwards
+pub mod Suiting
+pub mod Opens

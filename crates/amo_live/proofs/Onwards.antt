@@ -1,0 +1,60 @@
+-- A journal that goes on by one line.
+use Rattle.std.proofs.Common.{◌≡◌, ℕ, ◌+◌, Option, List, [], ◌∷◌, ◌++◌, length, None, Some, sym, ap, subst, arith}
+use Rattle.std.specs.Io.KnownBytes.{Appends}
+use Rattle.amo_text.specs.Sink.{AppendsFront}
+use Rattle.amo_text.proofs.Written.{Appends-nil, Appends-append, AppendsFront-Appends, AppendsFront-append}
+use Rattle.amo_world.specs.declared.event.Event.{Event}
+use Rattle.amo_object.specs.declared.step.End.{End}
+use Rattle.amo_core.specs.declared.act.Act.{Act}
+use Rattle.amo_core.specs.declared.reply.Reply.{Reply}
+use Rattle.amo_book.specs.Pass.{PassState, Grown, GrownBy, event, mine}
+use Rattle.amo_audit.specs.Journal.{line_text}
+use Rattle.amo_live.specs.Noted.{JournalState, lines_of, Holds, Begins, Adds, AddsFront}
+
+module _ {S : Type 0} (written : S → Option (List ℕ)) (j k : JournalState S) where
+  -- what is known of the lines of the next event is known of those of the whole history, as the journal was opened
+  onwards : (claim : Option (List ℕ) → Option (List ℕ) → List ℕ → Type 0) (past : List Event) (e : Event) → k.opened ≡ j.opened → k.first ≡ j.first → j.next ≡ j.first + length past
+      → claim (written j.opened) (written k.sink) (lines_of j.first past ++ line_text (record { number = j.next; event = e })) → claim (written k.opened) (written k.sink) (lines_of k.first (e ∷ past))
+  onwards claim past e opened first next h =
+      let one : claim (written j.opened) (written k.sink) (lines_of j.first (e ∷ past)) = subst (λ (n : ℕ). claim (written j.opened) (written k.sink) (lines_of j.first past ++ line_text (record { number = n; event = e }))) next h in
+      let two : claim (written j.opened) (written k.sink) (lines_of k.first (e ∷ past)) = subst (λ (n : ℕ). claim (written j.opened) (written k.sink) (lines_of n (e ∷ past))) (sym first) one in
+      subst (λ (o : S). claim (written o) (written k.sink) (lines_of k.first (e ∷ past))) (sym opened) two
+
+  holds_on : (past : List Event) (e : Event) → Holds written j past → Adds written j k e → Holds written k (e ∷ past)
+  holds_on past e h a =
+      let more = a.next in let was = h.next in let first = a.same.1 in
+      record {
+        text = onwards Appends past e a.same.0 a.same.1 h.next (Appends-append (written j.opened) (written j.sink) (written k.sink) (lines_of j.first past) (line_text (record { number = j.next; event = e })) h.text a.line);
+        next = omega arith;
+      }
+
+  begins_on : (past : List Event) (e : Event) → Holds written j past → AddsFront written j k e → Begins written k (e ∷ past)
+  begins_on past e h a = record { text = onwards AppendsFront past e a.same.0 a.same.1 h.next (AppendsFront-append (written j.opened) (written j.sink) (written k.sink) (lines_of j.first past) (line_text (record { number = j.next; event = e })) h.text a.line) }
+
+  -- the pass made this event, and its line was written
+  pub holds_more : (v w : PassState) (e : Event) → GrownBy v w e → Holds written j (mine v) → Adds written j k e → Holds written k (mine w)
+  holds_more v w e g h a = subst (Holds written k) (sym g.mine_grew) (holds_on (mine v) e h a)
+
+  -- the pass made this event, and a beginning of its line was written
+  pub begins_more : (v w : PassState) (e : Event) → GrownBy v w e → Holds written j (mine v) → AddsFront written j k e → Begins written k (mine w)
+  begins_more v w e g h a = subst (Begins written k) (sym g.mine_grew) (begins_on (mine v) e h a)
+
+  module _ (pass : ℕ) (side : End) (stream : ℕ) (act : Act) (reply : Reply) (position : ℕ) where
+    -- a call answered, and its line was written
+    pub holds_answer : Adds written j k (event pass side stream act reply)
+        → (v w : PassState) → v.number ≡ pass → Grown v w side stream act (Some (reply, position)) → Holds written j (mine v) → Holds written k (mine w)
+    holds_answer a v w is g h = holds_more v w (event v.number side stream act reply) g h (subst (λ (n : ℕ). Adds written j k (event n side stream act reply)) (sym is) a)
+
+    -- a call answered, and a beginning of its line was written
+    pub begins_answer : AddsFront written j k (event pass side stream act reply)
+        → (v w : PassState) → v.number ≡ pass → Grown v w side stream act (Some (reply, position)) → Holds written j (mine v) → Begins written k (mine w)
+    begins_answer a v w is g h = begins_more v w (event v.number side stream act reply) g h (subst (λ (n : ℕ). AddsFront written j k (event n side stream act reply)) (sym is) a)
+
+-- a call that made no event leaves nothing to be noted
+pub holds_none : {S : Type 0} (written : S → Option (List ℕ)) (j : JournalState S) (pass : ℕ) (side : End) (stream : ℕ) (act : Act)
+    → (v w : PassState) → v.number ≡ pass → Grown v w side stream act None → Holds written j (mine v) → Holds written j (mine w)
+holds_none written j pass side stream act v w is g h = subst (λ (x : PassState). Holds written j (mine x)) (sym g) h
+
+-- all lines are a beginning of them
+pub begins_whole : {S : Type 0} (written : S → Option (List ℕ)) (j : JournalState S) (past : List Event) → Holds written j past → Begins written j past
+begins_whole written j past h = record { text = AppendsFront-Appends (written j.opened) (written j.sink) (lines_of j.first past) h.text }

@@ -1,0 +1,89 @@
+use Rattle.std.proofs.Common.{◌≡◌, ℕ, ◌<◌, length, slice_get, Some, sym, ap, subst, ◌∙◌}
+use Rattle.std.proofs.lemmas.Option.{same_Some}
+use Rattle.amo_object.specs.declared.step.End.{End}
+use Rattle.amo_core.specs.declared.reply.Reply.TheVariants.{Done}
+use Rattle.amo_audit.specs.Journal.{HasAct}
+use Rattle.amo_book.specs.Charge.{ChargeState}
+use Rattle.amo_book.specs.Pass.{PassState, GrownBy, event, mine}
+use Rattle.amo_host.proofs.StationLemmas.{read_at}
+use Rattle.amo_live.specs.Host.{HostState, Happens, IsNoted}
+use Rattle.amo_live.specs.Noted.{Holds}
+use Rattle.amo_live.proofs.Onwards.{begins_whole}
+use Rattle.amo_live.proofs.Suiting.{acts_done}
+use Rattle.amo_live.proofs.host.Host.perform.Goals as goal
+
+pub drive-requires-clause-suits : goal.drive-requires-clause-suits
+drive-requires-clause-suits g c =
+    let h : HostState g.row.L.Denot g.row.S.Denot = record { book = c.self.inside.book; pass = c.self.inside.pass; charges = c.self.inside.charges.items; link = c.self.inside.link; outbox = c.self.inside.outbox; journal = c.self.inside.journal } in
+    let charge = c.index_mut-charge.result.now in
+    let within : c.args.place < length h.charges = subst (λ (t : HostState g.row.L.Denot g.row.S.Denot). c.args.place < length t.charges) (sym c.self.view_is) c.requires.place in
+    let at = read_at h.charges c.args.place charge within c.index_mut-charge.ensures.value in
+    let suits = c.requires.suits charge (subst (λ (t : HostState g.row.L.Denot g.row.S.Denot). slice_get t.charges c.args.place ≡ Some charge) c.self.view_is at) in
+    suits
+
+pub returns-in-Err-NoMemory-clause-begun : goal.returns-in-Err-NoMemory-clause-begun
+returns-in-Err-NoMemory-clause-begun g c =
+    let h : HostState g.row.L.Denot g.row.S.Denot = record { book = c.self.inside.book; pass = c.self.inside.pass; charges = c.self.inside.charges.items; link = c.self.inside.link; outbox = c.self.inside.outbox; journal = c.self.inside.journal } in
+    let held : IsNoted g.S.Sink.written h = subst (λ (t : HostState g.row.L.Denot g.row.S.Denot). IsNoted g.S.Sink.written t) (sym c.self.view_is) c.requires.noted in
+    begins_whole g.S.Sink.written h.journal (mine c.drive.new.pass) (subst (λ (p : PassState). Holds g.S.Sink.written h.journal (mine p)) (sym c.in-Err-NoMemory.ensures.unchanged.0) held)
+
+pub note_answer-requires-clause-spelt : goal.note_answer-requires-clause-spelt
+note_answer-requires-clause-spelt g c =
+    let h : HostState g.row.L.Denot g.row.S.Denot = record { book = c.self.inside.book; pass = c.self.inside.pass; charges = c.self.inside.charges.items; link = c.self.inside.link; outbox = c.self.inside.outbox; journal = c.self.inside.journal } in
+    let charge = c.index_mut-charge.result.now in
+    let within : c.args.place < length h.charges = subst (λ (t : HostState g.row.L.Denot g.row.S.Denot). c.args.place < length t.charges) (sym c.self.view_is) c.requires.place in
+    let at = read_at h.charges c.args.place charge within c.index_mut-charge.ensures.value in
+    let suits = c.requires.suits charge (subst (λ (t : HostState g.row.L.Denot g.row.S.Denot). slice_get t.charges c.args.place ≡ Some charge) c.self.view_is at) in
+    (subst (λ (s : End). HasAct s c.stream-stream.result c.args.act) (sym c.side-side.ensures) (subst (λ (n : ℕ). HasAct charge.side n c.args.act) (sym c.stream-stream.ensures.number) suits.1), acts_done c.args.act suits.0)
+
+pub returns-in-Err-clause-begun : goal.returns-in-Err-clause-begun
+returns-in-Err-clause-begun g c =
+    let h : HostState g.row.L.Denot g.row.S.Denot = record { book = c.self.inside.book; pass = c.self.inside.pass; charges = c.self.inside.charges.items; link = c.self.inside.link; outbox = c.self.inside.outbox; journal = c.self.inside.journal } in
+    let held : IsNoted g.S.Sink.written h = subst (λ (t : HostState g.row.L.Denot g.row.S.Denot). IsNoted g.S.Sink.written t) (sym c.self.view_is) c.requires.noted in
+    let charge = c.index_mut-charge.result.now in
+    let v = c.self.inside.pass in let w = c.drive.new.pass in
+    let first : GrownBy v w (event v.number c.side-side.result charge.stream c.args.act Done) = subst (λ (s : End). GrownBy v w (event v.number s charge.stream c.args.act Done)) (sym c.side-side.ensures) c.in-Ok.ensures.driven.grown in
+    let grown : GrownBy v w (event v.number c.side-side.result c.stream-stream.result c.args.act Done) = subst (λ (n : ℕ). GrownBy v w (event v.number c.side-side.result n c.args.act Done)) (sym c.stream-stream.ensures.number) first in
+    c.in-Err.ensures.begun v w (sym c.number-pass.ensures.number) grown held
+
+pub returns-in_default-clause-begun : goal.returns-in_default-clause-begun
+returns-in_default-clause-begun g c =
+    let h : HostState g.row.L.Denot g.row.S.Denot = record { book = c.self.inside.book; pass = c.self.inside.pass; charges = c.self.inside.charges.items; link = c.self.inside.link; outbox = c.self.inside.outbox; journal = c.self.inside.journal } in
+    let held : IsNoted g.S.Sink.written h = subst (λ (t : HostState g.row.L.Denot g.row.S.Denot). IsNoted g.S.Sink.written t) (sym c.self.view_is) c.requires.noted in
+    let charge = c.index_mut-charge.result.now in
+    let v = c.self.inside.pass in let w = c.drive.new.pass in
+    let first : GrownBy v w (event v.number c.side-side.result charge.stream c.args.act Done) = subst (λ (s : End). GrownBy v w (event v.number s charge.stream c.args.act Done)) (sym c.side-side.ensures) c.in-Ok.ensures.driven.grown in
+    let grown : GrownBy v w (event v.number c.side-side.result c.stream-stream.result c.args.act Done) = subst (λ (n : ℕ). GrownBy v w (event v.number c.side-side.result n c.args.act Done)) (sym c.stream-stream.ensures.number) first in
+    begins_whole g.S.Sink.written c.note_answer.new.journal (mine w) (c.in-Ok-note_answer.ensures.noted v w (sym c.number-pass.ensures.number) grown held)
+
+pub returns-clause-noted : goal.returns-clause-noted
+returns-clause-noted g c =
+    let h : HostState g.row.L.Denot g.row.S.Denot = record { book = c.self.inside.book; pass = c.self.inside.pass; charges = c.self.inside.charges.items; link = c.self.inside.link; outbox = c.self.inside.outbox; journal = c.self.inside.journal } in
+    let held : IsNoted g.S.Sink.written h = subst (λ (t : HostState g.row.L.Denot g.row.S.Denot). IsNoted g.S.Sink.written t) (sym c.self.view_is) c.requires.noted in
+    let charge = c.index_mut-charge.result.now in
+    let v = c.self.inside.pass in let w = c.drive.new.pass in
+    let first : GrownBy v w (event v.number c.side-side.result charge.stream c.args.act Done) = subst (λ (s : End). GrownBy v w (event v.number s charge.stream c.args.act Done)) (sym c.side-side.ensures) c.in-Ok.ensures.driven.grown in
+    let grown : GrownBy v w (event v.number c.side-side.result c.stream-stream.result c.args.act Done) = subst (λ (n : ℕ). GrownBy v w (event v.number c.side-side.result n c.args.act Done)) (sym c.stream-stream.ensures.number) first in
+    c.in-Ok-note_answer.ensures.noted v w (sym c.number-pass.ensures.number) grown held
+
+pub returns-clause-did : goal.returns-clause-did
+returns-clause-did g c =
+    let h : HostState g.row.L.Denot g.row.S.Denot = record { book = c.self.inside.book; pass = c.self.inside.pass; charges = c.self.inside.charges.items; link = c.self.inside.link; outbox = c.self.inside.outbox; journal = c.self.inside.journal } in
+    let charge = c.index_mut-charge.result.now in
+    let within : c.args.place < length h.charges = subst (λ (t : HostState g.row.L.Denot g.row.S.Denot). c.args.place < length t.charges) (sym c.self.view_is) c.requires.place in
+    let at = read_at h.charges c.args.place charge within c.index_mut-charge.ensures.value in
+    let driven = c.in-Ok.ensures.driven in
+    λ other there.
+    let same : charge ≡ other = same_Some charge other (sym at ∙ (subst (λ (t : HostState g.row.L.Denot g.row.S.Denot). slice_get t.charges c.args.place ≡ Some other) (sym c.self.view_is) there)) in
+    rw (← c.self.view_is) (rw (← same) (
+      charge.side,
+      record {
+        grown = driven.grown;
+        mode_is = driven.mode;
+        before = _;
+        buffer = c.drive.new.out;
+        length = c.in-Ok.done.length;
+        emitted = driven.emitted;
+        outbox = c.in-Ok-push.ensures.added;
+      },
+    ))

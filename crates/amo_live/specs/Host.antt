@@ -1,0 +1,108 @@
+-- A live host: one side of its streams, a link, and a journal that is ahead of all that leaves.
+use Rattle.std.specs.Prelude.{◌≡◌, ℕ, zero, suc, ◌<◌, Option, Some, None, List, [], ◌∷◌, ◌++◌, take}
+use Rattle.amo_object.specs.declared.step.End.{End}
+use Rattle.amo_packet.specs.declared.packet.OwnedPacket.{OwnedPacket}
+use Rattle.amo_packet.specs.Grammar.{Spells}
+use Rattle.amo_core.specs.declared.act.Act.{Act}
+use Rattle.amo_core.specs.declared.act.Act.TheVariants as act
+use Rattle.amo_core.specs.declared.mode.Mode.{Mode}
+use Rattle.amo_core.specs.declared.reply.Reply.TheVariants.{Done, Got}
+use Rattle.amo_core.specs.Automaton.{mode_of, Writes}
+use Rattle.amo_world.specs.Stream.{emission_of}
+use Rattle.amo_world.specs.History.{stream_after}
+use Rattle.amo_book.specs.Book.{BookState, Each}
+use Rattle.amo_book.specs.Charge.{ChargeState, IsChargeOf}
+use Rattle.amo_book.specs.Pass.{PassState, Answer, GrownBy, automaton_after, event, mine}
+use Rattle.amo_audit.specs.Journal.{HasAct}
+use Rattle.amo_live.specs.Noted.{JournalState, IsSameJournal, Holds, Begins}
+
+-- its book, with one pass and the charges of one side; its link, the packets that are to leave, and its journal
+pub record HostState (L S : Type 0) : Type 0 where
+  pub book : BookState
+  pub pass : PassState
+  pub charges : List ChargeState
+  pub link : L
+  pub outbox : List (List ℕ)
+  pub journal : JournalState S
+
+-- the pass and the charges are the book's, and a journal has a line for the pass
+pub record IsHost {L S : Type 0} (h : HostState L S) : Type 0 where
+  pub pass : h.pass.book ≡ h.book.id
+  pub charges : Each (IsChargeOf h.book.id h.book.sides) h.charges
+  pub number : h.pass.number < 64
+
+-- no call but that of `send` touches the link, and none the book's name or how the journal was opened
+pub record Stays {L S : Type 0} (h g : HostState L S) : Type 0 where
+  pub book : g.book ≡ h.book
+  pub number : g.pass.number ≡ h.pass.number
+  pub link : g.link ≡ h.link
+  pub journal : IsSameJournal h.journal g.journal
+
+-- the packet at the front of a buffer, if there is one
+abbrev pub packet_in : List ℕ → Option ℕ → List (List ℕ)
+packet_in buffer None = []
+packet_in buffer (Some n) = take n buffer ∷ []
+
+-- one event more of the host's own: this act at this side of this stream, which left it in this mode. What its row emits is to leave.
+pub record Happens {L S : Type 0} (h g : HostState L S) (side : End) (stream : ℕ) (a : Act) (mode : Mode) : Type 0 where
+  pub grown : GrownBy h.pass g.pass (event h.pass.number side stream a Done)
+  pub mode_is : mode ≡ mode_of (automaton_after side stream g.pass.seen)
+  pub before : List ℕ
+  pub buffer : List ℕ
+  pub length : Option ℕ
+  pub emitted : Writes (emission_of (stream_after stream grown.earlier) side a) before buffer length
+  pub outbox : g.outbox ≡ h.outbox ++ packet_in buffer length
+
+-- nothing happened
+abbrev pub IsIdle : {L S : Type 0} → HostState L S → HostState L S → Type 0
+IsIdle h g = (g.pass ≡ h.pass) × (g.outbox ≡ h.outbox)
+
+-- what came of an act: that event, or none
+abbrev pub Did : {L S : Type 0} → HostState L S → HostState L S → ℕ → Act → Option Mode → Type 0
+Did h g stream a None = IsIdle h g
+Did h g stream a (Some mode) = (side : End) × Happens h g side stream a mode
+
+-- the acts of a host
+abbrev pub IsHostAct : Act → Type 0
+IsHostAct (act.Put m) = ⊥
+IsHostAct act.Get = ⊥
+IsHostAct act.Ack = ⊥
+IsHostAct _ = Unit {0}
+
+-- the charge's side has this act of a host's
+abbrev pub Suits : ChargeState → Act → Type 0
+Suits c a = IsHostAct a × HasAct c.side c.stream a
+
+-- this side of so many streams, from stream k on
+abbrev pub sides_from : End → ℕ → ℕ → List (End × ℕ)
+sides_from side k zero = []
+sides_from side k (suc n) = (side, k) ∷ sides_from side (suc k) n
+
+-- a host of this side of so many streams: no event was made, and nothing is to leave
+pub record IsOpened {L S : Type 0} (side : End) (streams : ℕ) (link : L) (journal : JournalState S) (h : HostState L S) : Type 0 where
+  pub sides : h.book.sides ≡ sides_from side 1 streams
+  pub seen : h.pass.seen ≡ []
+  pub link_is : h.link ≡ link
+  pub outbox : h.outbox ≡ []
+  pub journal_is : h.journal ≡ journal
+
+-- what came of a datagram with this word: the packet that it spells was delivered on its stream, or nothing happened
+abbrev pub Delivered : {L S : Type 0} → HostState L S → HostState L S → ℕ → List ℕ → ℕ → Option (ℕ × Mode) → Type 0
+Delivered h g newest bytes word None = IsIdle h g
+Delivered h g newest bytes word (Some (stream, mode)) =
+    (p : OwnedPacket) × Spells newest bytes p × (p.stream ≡ stream) × ((side : End) × Happens h g side stream (act.Deliver p word) mode)
+
+-- the message that a get answered, if it did
+abbrev pub message_in : Answer → Option (List ℕ)
+message_in (Some (Got m, position)) = Some m
+message_in _ = None
+
+-- given what sinks were written
+module _ {L S : Type 0} (written : S → Option (List ℕ)) where
+  -- the journal was handed the line of each event that the host has made, whole and in their order
+  abbrev pub IsNoted : HostState L S → Type 0
+  IsNoted h = Holds written h.journal (mine h.pass)
+
+  -- the journal was handed a beginning of them: of what lacks nothing has left, and no call goes on from here
+  abbrev pub IsBegun : HostState L S → Type 0
+  IsBegun h = Begins written h.journal (mine h.pass)

@@ -1,0 +1,183 @@
+//! The acts of a host: each is an event, then its line in the journal, then a packet that is to leave.
+ghost use Rattle.std.specs.Prelude.{◌≡◌, ◌<◌, IfOk, IfErr, OnOk, OnErr, Some, length, slice_get};
+ghost use Rattle.amo_core.specs.declared.act.Act.TheVariants as act;
+ghost use Rattle.amo_book.specs.Charge.{ChargeState, IsChargeOf};
+ghost use Rattle.amo_book.specs.Drive.{Driven, Unchanged};
+ghost use Rattle.amo_live.specs.Host.{Delivered, Did, IsBegun, IsHostAct, IsNoted, Stays, Suits};
+
+use crate::noting::note_answer;
+use crate::{Host, LiveFault};
+use amo_book::{Book, Charge, Done, DriveFault, Pass};
+use amo_core::{Act, Mode, Reply};
+use amo_net::Link;
+use amo_object::End;
+use amo_packet::{Body, MAX_PACKET, NEWEST_VERSION, Packet, read};
+use amo_text::Sink;
+use std::alloc::Global;
+
+impl<L: Link, S: Sink> Host<L, S> {
+    /// Begins a handshake on a stream under this word, if its sender is at rest and a message waits. Answers the kind of its mode then.
+    #[tactic(auto, using(crate::proofs::Suiting::did_at, crate::proofs::Suiting::start_suits))]
+    pub fn start(&mut self, stream: u32, word: u64) -> Result<Option<Mode>, LiveFault>
+        requires { IsNoted S.written self.old }
+        ensures did { IfOk result (Did self.old self.new stream (act.Start word)) }
+        ensures noted { OnOk result (IsNoted S.written self.new) }
+        ensures begun { OnErr result (IsBegun S.written self.new) }
+        ensures stays { Stays self.old self.new }
+    {
+        match self.place_of(stream) {
+            Some(place) if self.charges[place].side() == End::Sender => {
+                self.perform(place, Act::Start(word))
+            }
+            _ => Ok(None),
+        }
+    }
+
+    /// Emits the packet of a stream's mode again, if it has one.
+    #[tactic(auto, using(crate::proofs::Suiting::did_at, crate::proofs::Suiting::resend_suits))]
+    pub fn resend(&mut self, stream: u32) -> Result<Option<Mode>, LiveFault>
+        requires { IsNoted S.written self.old }
+        ensures did { IfOk result (Did self.old self.new stream act.Resend) }
+        ensures noted { OnOk result (IsNoted S.written self.new) }
+        ensures begun { OnErr result (IsBegun S.written self.new) }
+        ensures stays { Stays self.old self.new }
+    {
+        match self.place_of(stream) {
+            Some(place) => self.perform(place, Act::Resend),
+            None => Ok(None),
+        }
+    }
+
+    /// A stream's side goes down, and forgets everything.
+    #[tactic(auto, using(crate::proofs::Suiting::did_at, crate::proofs::Suiting::crash_suits))]
+    pub fn crash(&mut self, stream: u32) -> Result<Option<Mode>, LiveFault>
+        requires { IsNoted S.written self.old }
+        ensures did { IfOk result (Did self.old self.new stream act.Crash) }
+        ensures noted { OnOk result (IsNoted S.written self.new) }
+        ensures begun { OnErr result (IsBegun S.written self.new) }
+        ensures stays { Stays self.old self.new }
+    {
+        match self.place_of(stream) {
+            Some(place) => self.perform(place, Act::Crash),
+            None => Ok(None),
+        }
+    }
+
+    /// A stream's side is up again.
+    #[tactic(auto, using(crate::proofs::Suiting::did_at, crate::proofs::Suiting::recover_suits))]
+    pub fn recover(&mut self, stream: u32) -> Result<Option<Mode>, LiveFault>
+        requires { IsNoted S.written self.old }
+        ensures did { IfOk result (Did self.old self.new stream act.Recover) }
+        ensures noted { OnOk result (IsNoted S.written self.new) }
+        ensures begun { OnErr result (IsBegun S.written self.new) }
+        ensures stays { Stays self.old self.new }
+    {
+        match self.place_of(stream) {
+            Some(place) => self.perform(place, Act::Recover),
+            None => Ok(None),
+        }
+    }
+
+    /// Delivers the packet that a datagram is, with this word for an accept, if it is one for a side of this host. Answers its stream, and the
+    /// kind of the side's mode then.
+    pub fn deliver(&mut self, bytes: &[u8], word: u64) -> Result<Option<(u32, Mode)>, LiveFault>
+        requires { IsNoted S.written self.old }
+        ensures delivered { IfOk result (Delivered self.old self.new NEWEST_VERSION bytes.now word) }
+        ensures noted { OnOk result (IsNoted S.written self.new) }
+        ensures begun { OnErr result (IsBegun S.written self.new) }
+        ensures stays { Stays self.old self.new }
+    {
+        let Ok(packet) = read(bytes) else {
+            return Ok(None);
+        };
+        let stream = packet.stream;
+        let Some(place) = self.place_of(stream) else {
+            return Ok(None);
+        };
+        if !is_for(self.charges[place].side(), &packet) {
+            return Ok(None);
+        }
+        let Ok(packet) = packet.copied(self.alloc) else {
+            return Err(LiveFault::NoMemory);
+        };
+        match self.perform(place, Act::Deliver(packet, word)) {
+            Ok(Some(mode)) => Ok(Some((stream, mode))),
+            Ok(None) => Ok(None),
+            Err(fault) => Err(fault),
+        }
+    }
+
+    /// Does this act at the charge in this place, notes it, and keeps what it emitted for [`Host::send`].
+    fn perform(&mut self, place: usize, act: Act) -> Result<Option<Mode>, LiveFault>
+        requires noted { IsNoted S.written self.old }
+        requires place { place < length self.old.charges }
+        requires suits { (c : ChargeState) → slice_get self.old.charges place ≡ Some c → Suits c act }
+        ensures did { IfOk result (λ mode. (c : ChargeState) → slice_get self.old.charges place ≡ Some c → Did self.old self.new c.stream act mode) }
+        ensures noted { OnOk result (IsNoted S.written self.new) }
+        ensures begun { OnErr result (IsBegun S.written self.new) }
+        ensures stays { Stays self.old self.new }
+    {
+        let pass = self.pass.number();
+        let charge = &mut self.charges[place];
+        let side = charge.side();
+        let stream = charge.stream();
+        let mut out = [0; MAX_PACKET];
+        let done = match drive(
+            self.alloc,
+            &self.book,
+            &mut self.pass,
+            charge,
+            &act,
+            &mut out,
+        ) {
+            Ok(done) => done,
+            Err(DriveFault::Busy) => return Ok(None),
+            Err(DriveFault::NoMemory) => return Err(LiveFault::NoMemory),
+        };
+        let known = Some((Reply::Done, done.position));
+        match note_answer(&mut self.journal, pass, side, stream, act, known) {
+            Ok(_) => (),
+            Err(fault) => return Err(fault),
+        }
+        let Ok(()) = self.outbox.push(out, done.length) else {
+            return Err(LiveFault::NoMemory);
+        };
+        Ok(Some(done.mode))
+    }
+}
+
+/// Whether a packet is one for this side.
+fn is_for(side: End, packet: &Packet<'_>) -> bool {
+    match packet.body {
+        Body::Accept(_, _) | Body::Ack(_, _) => side == End::Sender,
+        Body::NeedUid(_) | Body::Send(_, _) | Body::Cleanup(_) => side == End::Receiver,
+    }
+}
+
+/// Does this act at the side of a charge, by one call of the book.
+fn drive(
+    alloc: Global,
+    book: &Book,
+    pass: &mut Pass,
+    charge: &mut Charge,
+    act: &Act,
+    out: &mut [u8; MAX_PACKET],
+) -> Result<Done, DriveFault>
+    requires book { (pass.old.book ≡ book.now.id) × IsChargeOf book.now.id book.now.sides charge.old }
+    requires suits { Suits charge.old act.now }
+    ensures driven { IfOk result (Driven pass.old pass.new charge.old charge.new act.now out.old out.new) }
+    ensures unchanged { IfErr result (λ _. Unchanged pass.old pass.new charge.old charge.new out.old out.new) }
+{
+    match act {
+        Act::Start(word) => book.start(pass, charge, *word, out),
+        Act::Resend => book.resend(pass, charge, out),
+        Act::Deliver(packet, word) => {
+            book.deliver(alloc, pass, charge, &packet.as_packet(), *word, out)
+        }
+        Act::Crash => book.crash(pass, charge),
+        Act::Recover => book.recover(pass, charge),
+        Act::Put(_) => unreachable!(),
+        Act::Get => unreachable!(),
+        Act::Ack => unreachable!(),
+    }
+}

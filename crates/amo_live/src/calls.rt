@@ -1,0 +1,166 @@
+//! The calls of a host's clients: each is an event, then its line in the journal, then the answer.
+ghost use Rattle.std.specs.Prelude.{◌≡◌, ℕ, List, IfOk, IfErr, IfSome, OnOk, OnErr};
+ghost use Rattle.amo_object.specs.declared.step.End.TheVariants as end;
+ghost use Rattle.amo_packet.specs.Message.{IsShort};
+ghost use Rattle.amo_text.specs.Message.{IsMessage};
+ghost use Rattle.amo_core.specs.declared.act.Act.TheVariants as act;
+ghost use Rattle.amo_audit.specs.Journal.{HasReply};
+ghost use Rattle.amo_book.specs.Calls.{put_answer, get_answer, ack_answer};
+ghost use Rattle.amo_book.specs.Fault.{put_message};
+ghost use Rattle.amo_book.specs.Pass.{Answer, Grown};
+ghost use Rattle.amo_live.specs.Host.{IsBegun, IsNoted, Stays, message_in};
+
+use crate::noting::note_answer;
+use crate::{Host, LiveFault};
+use amo_book::{AckFault, GetFault, PutFault};
+use amo_core::{Act, Reply};
+use amo_net::Link;
+use amo_object::End;
+use amo_packet::{Message, STREAMS};
+use amo_text::Sink;
+
+impl<L: Link, S: Sink> Host<L, S> {
+    /// Puts a message on a stream. The answer is the book's, and stands in the journal.
+    #[tactic(auto, using(crate::proofs::Suiting::put_spelt, crate::proofs::Onwards::begins_whole))]
+    pub fn put(&mut self, stream: u32, message: Message) -> Result<Result<u64, PutFault>, LiveFault>
+        requires { IsNoted S.written self.old }
+        ensures put { IfOk result (λ answer. Grown self.old.pass self.new.pass end.Sender stream (act.Put message) (put_answer answer)) }
+        ensures handed_back { IfOk result (λ answer. IfErr answer (λ fault. put_message fault ≡ message)) }
+        ensures noted { OnOk result (IsNoted S.written self.new) }
+        ensures begun { OnErr result (IsBegun S.written self.new) }
+        ensures stays { Stays self.old self.new × (self.new.outbox ≡ self.old.outbox) }
+    {
+        if stream < 1 || STREAMS < stream {
+            return Ok(Err(PutFault::NoStream(message)));
+        }
+        is_message(&message);
+        let Ok(copy) = message.clone() else {
+            return Err(LiveFault::NoMemory);
+        };
+        let pass = self.pass.number();
+        let answer = self.book.put(&mut self.pass, stream, message);
+        let known = reply_to_put(&answer);
+        let side = End::Sender;
+        match note_answer(&mut self.journal, pass, side, stream, Act::Put(copy), known) {
+            Ok(_) => (),
+            Err(fault) => return Err(fault),
+        }
+        Ok(answer)
+    }
+
+    /// Takes the message that has come to a stream, if one has. What the book answered stands in the journal.
+    #[tactic(auto, using(crate::proofs::Suiting::get_spelt, crate::proofs::Onwards::begins_whole))]
+    pub fn get(&mut self, stream: u32) -> Result<Option<Message>, LiveFault>
+        requires { IsNoted S.written self.old }
+        ensures got { IfOk result (λ message. (answer : Answer) × Grown self.old.pass self.new.pass end.Receiver stream act.Get answer × (message ≡ message_in answer)) }
+        ensures noted { OnOk result (IsNoted S.written self.new) }
+        ensures begun { OnErr result (IsBegun S.written self.new) }
+        ensures stays { Stays self.old self.new × (self.new.outbox ≡ self.old.outbox) }
+    {
+        if stream < 1 || STREAMS < stream {
+            return Ok(None);
+        }
+        let pass = self.pass.number();
+        let known = reply_to_get(self.book.get(&mut self.pass, stream));
+        let side = End::Receiver;
+        let known = match note_answer(&mut self.journal, pass, side, stream, Act::Get, known) {
+            Ok(known) => known,
+            Err(fault) => return Err(fault),
+        };
+        Ok(message_in(known))
+    }
+
+    /// What is known of the last message put to a stream. The answer is the book's, and stands in the journal.
+    #[tactic(auto, using(crate::proofs::Suiting::ack_spelt, crate::proofs::Onwards::begins_whole))]
+    pub fn get_ack(&mut self, stream: u32) -> Result<Result<(bool, u64), AckFault>, LiveFault>
+        requires { IsNoted S.written self.old }
+        ensures known { IfOk result (λ answer. Grown self.old.pass self.new.pass end.Sender stream act.Ack (ack_answer answer)) }
+        ensures noted { OnOk result (IsNoted S.written self.new) }
+        ensures begun { OnErr result (IsBegun S.written self.new) }
+        ensures stays { Stays self.old self.new × (self.new.outbox ≡ self.old.outbox) }
+    {
+        if stream < 1 || STREAMS < stream {
+            return Ok(Err(AckFault::NoStream));
+        }
+        let pass = self.pass.number();
+        let answer = self.book.get_ack(&mut self.pass, stream);
+        let known = reply_to_ack(answer);
+        let side = End::Sender;
+        match note_answer(&mut self.journal, pass, side, stream, Act::Ack, known) {
+            Ok(_) => (),
+            Err(fault) => return Err(fault),
+        }
+        Ok(answer)
+    }
+}
+
+/// The message that a get answered, if it did.
+fn message_in(known: Option<(Reply, u64)>) -> Option<Message>
+    ensures { result ≡ message_in known }
+{
+    match known {
+        Some((Reply::Got(message), _)) => Some(message),
+        _ => None,
+    }
+}
+
+/// The reply and the position that a put answered.
+fn reply_to_put(answered: &Result<u64, PutFault>) -> Option<(Reply, u64)>
+    ensures answer { result ≡ put_answer answered.now }
+    ensures reply { IfSome result (λ k. (m : List ℕ) → HasReply (act.Put m) k.0) }
+{
+    match answered {
+        Ok(position) => Some((Reply::Ok, *position)),
+        Err(PutFault::Full(position, _)) => Some((Reply::Full, *position)),
+        Err(PutFault::Down(position, _)) => Some((Reply::Down, *position)),
+        Err(PutFault::Busy(_)) => None,
+        Err(PutFault::NoStream(_)) => None,
+    }
+}
+
+/// The reply and the position that a get answered.
+fn reply_to_get(answered: Result<(Message, u64), GetFault>) -> Option<(Reply, u64)>
+    ensures answer { result ≡ get_answer answered }
+    ensures reply { IfSome result (λ k. HasReply act.Get k.0) }
+{
+    match answered {
+        Ok((message, position)) => {
+            is_message(&message);
+            Some((Reply::Got(message), position))
+        }
+        Err(GetFault::Nothing(position)) => Some((Reply::Nothing, position)),
+        Err(GetFault::Down(position)) => Some((Reply::Down, position)),
+        Err(GetFault::Busy) => None,
+        Err(GetFault::NoStream) => None,
+    }
+}
+
+/// The reply and the position that a question for the last put answered.
+fn reply_to_ack(answered: Result<(bool, u64), AckFault>) -> Option<(Reply, u64)>
+    ensures answer { result ≡ ack_answer answered }
+    ensures reply { IfSome result (λ k. HasReply act.Ack k.0) }
+{
+    match answered {
+        Ok((true, position)) => Some((Reply::Yes, position)),
+        Ok((false, position)) => Some((Reply::No, position)),
+        Err(AckFault::NotYet(position)) => Some((Reply::NotYet, position)),
+        Err(AckFault::Down(position)) => Some((Reply::Down, position)),
+        Err(AckFault::Busy) => None,
+        Err(AckFault::NoStream) => None,
+    }
+}
+
+/// What a journal asks of a message's bytes, which every message keeps. It does nothing.
+fn is_message(message: &Message)
+    ensures { IsMessage message.now }
+{
+    are_bytes(message.bytes());
+}
+
+/// The same, of bytes that are not too many.
+fn are_bytes(bytes: &[u8])
+    requires { IsShort bytes.now }
+    ensures { IsMessage bytes.now }
+{
+    let _ = bytes;
+}

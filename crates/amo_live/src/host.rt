@@ -1,0 +1,123 @@
+//! A live host: how it opens, hears and sends.
+ghost use Rattle.std.specs.Prelude.{◌≡◌, ◌<◌, ◌≤◌, [], Some, IfOk, IfSome, length, slice_get};
+ghost use Rattle.amo_book.specs.Charge.{ChargeState};
+ghost use Rattle.amo_live.specs.Host.{IsNoted, IsOpened, sides_from};
+ghost use Rattle.amo_live.specs.Noted.{opened_at};
+
+use crate::outbox::Outbox;
+use crate::{Journal, LiveFault};
+use amo_book::{Book, Charge, OpenFault, Pass};
+use amo_net::{Link, MAX_DATAGRAM};
+use amo_object::End;
+use amo_text::Sink;
+use std::alloc::{AllocError, Global};
+use std::marker::Model;
+
+/// How many passes the book has. One calls; a book has two at least.
+const PASSES: usize = 2;
+
+/// One side of some streams, in a process of its own. Contracts see its book, its pass, its charges, its link, the packets that are to
+/// leave, and its journal.
+#[derive(Drop)]
+pub struct Host<L, S> {
+    pub(crate) alloc: Global,
+    pub(crate) book: Book,
+    pub(crate) pass: Pass,
+    pub(crate) charges: Vec<Charge>,
+    pub(crate) link: L,
+    pub(crate) outbox: Outbox,
+    pub(crate) journal: Journal<S>,
+}
+
+impl<L, S> Model for Host<L, S> {
+    ghost use Rattle.amo_live.specs.Host.{HostState, IsHost};
+
+    ghost Value = { HostState L S };
+
+    ghost view = { λ h. record { book = h.book; pass = h.pass; charges = h.charges.items; link = h.link; outbox = h.outbox; journal = h.journal } };
+
+    ghost invariant = { λ h. IsHost (record { book = h.book; pass = h.pass; charges = h.charges.items; link = h.link; outbox = h.outbox; journal = h.journal }) };
+}
+
+impl<L: Link + Drop, S: Sink + Drop> Host<L, S> {
+    /// A host of this side of the streams from 1 on, 1 to 256 of them, that has made no event. Its journal is one of which nothing was
+    /// written yet.
+    #[tactic(auto, using(crate::proofs::Opens::may_open))]
+    pub fn open(
+        alloc: Global,
+        side: End,
+        streams: u32,
+        link: L,
+        journal: Journal<S>,
+    ) -> Result<Host<L, S>, LiveFault>
+        requires streams { (1 ≤ streams) × (streams ≤ 256) }
+        requires unwritten { journal ≡ opened_at journal.sink journal.next }
+        ensures opened { IfOk result (IsOpened side streams link journal) }
+        ensures noted { IfOk result (IsNoted S.written) }
+    {
+        let sides = sides_of(alloc, side, streams)?;
+        match Book::open(alloc, sides, PASSES) {
+            Ok((book, passes, charges)) => {
+                let mut passes = passes;
+                let Some(pass) = passes.pop() else {
+                    unreachable!()
+                };
+                Ok(Host {
+                    alloc,
+                    book,
+                    pass,
+                    charges,
+                    link,
+                    outbox: Outbox::new(alloc),
+                    journal,
+                })
+            }
+            Err(OpenFault::NoMemory) => Err(LiveFault::NoMemory),
+            Err(OpenFault::Limits) => unreachable!(),
+        }
+    }
+}
+
+impl<L: Link, S: Sink> Host<L, S> {
+    /// The length of the datagram that has come and stands at the front of the buffer, if one has. A failed link brings none.
+    pub fn hear(&mut self, buffer: &mut [u8; MAX_DATAGRAM]) -> Option<usize>
+        ensures within { IfSome result (λ n. n ≤ MAX_DATAGRAM) }
+        ensures same { self.new ≡ record self.old { link = self.new.link } }
+    {
+        self.link.receive(buffer).unwrap_or(None)
+    }
+
+    /// Hands all packets that are to leave to the link, in their order, and answers how often it failed. Of all that the host did by then
+    /// the journal has the lines.
+    pub fn send(&mut self) -> u64
+        requires { IsNoted S.written self.old }
+        ensures { self.new ≡ record self.old { link = self.new.link; outbox = [] } }
+    {
+        self.outbox.send(&mut self.link)
+    }
+
+    /// The place of the charge of this stream, if there is one.
+    pub(crate) fn place_of(&self, stream: u32) -> Option<usize>
+        ensures { IfSome result (λ place. (place < length self.now.charges) × ((c : ChargeState) → slice_get self.now.charges place ≡ Some c → c.stream ≡ stream)) }
+    {
+        let place = (stream as usize).checked_sub(1)?;
+        let charge = self.charges.get(place)?;
+        if charge.stream() == stream {
+            Some(place)
+        } else {
+            None
+        }
+    }
+}
+
+/// This side of the streams from 1 on.
+fn sides_of(alloc: Global, side: End, streams: u32) -> Result<Vec<(End, u32)>, AllocError>
+    requires { streams ≤ 256 }
+    ensures { IfOk result (λ sides. sides.items ≡ sides_from side 1 streams) }
+{
+    let mut sides = Vec::new(alloc);
+    'streams: for index in 0..streams {
+        sides.push((side, index + 1))?;
+    }
+    Ok(sides)
+}

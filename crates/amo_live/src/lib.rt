@@ -1,0 +1,34 @@
+//! A live host: one side of the service in a process of its own, which can be killed at any moment and started again.
+//! It authenticates no peer, and promises nothing of when a message comes.
+//!
+//! ```text
+//!   Host      a book of one side of some streams, one pass and its charges; a link; the packets that are to leave; a journal
+//!   Journal   the lines of what happened, each written whole before anything of its event leaves
+//! ```
+//!
+//! **Each event goes one way**: it happens in the book, then its line is written, then its packet may leave, or its answer goes to the
+//! client. A crash of the process forgets all but the journal. What had left before is in there: so what the peer and the clients
+//! were shown is explained by the journals of both hosts, which `amo audit` merges.
+//!
+//! The contracts say it so. Each call that makes an event asks that the journal has all lines so far, and gives that back with
+//! Ok. It never touches the link: what its row emits is added to the packets that are to leave. [`Host::send`], which hands them to the
+//! link, asks for the same. Where a line fails the call answers a fault, and says only that a beginning of the lines was written: no
+//! other call can go on from there, and the process ends.
+//!
+//! A host drives its charges itself and not by a pump: a pump starts each quiet stream in turn, also where no message waits, and each
+//! such start would be a line; and it does not tell when it sends again.
+//!
+//! The definitions stand in `specs/`: a journal that goes on in `Noted.antt`, a host and what its calls do in `Host.antt`.
+#![tactic(auto)]
+
+mod acts;
+mod calls;
+mod fault;
+mod host;
+mod journal;
+mod noting;
+mod outbox;
+
+pub use fault::LiveFault;
+pub use host::Host;
+pub use journal::Journal;
