@@ -1,3 +1,4 @@
 pub mod Onwards
-pub mod Suiting
 pub mod Opens
+pub mod Scans
+pub mod Suiting

@@ -28,7 +28,11 @@ mod host;
 mod journal;
 mod noting;
 mod outbox;
+mod scan;
+mod words;
 
-pub use fault::LiveFault;
+pub use fault::{LiveFault, OpenFault};
 pub use host::Host;
 pub use journal::Journal;
+pub use scan::Scan;
+pub use words::{FreshWords, UsedWords};
