@@ -2,3 +2,4 @@ pub mod Onwards
 pub mod Opens
 pub mod Scans
 pub mod Suiting
+pub mod Readers

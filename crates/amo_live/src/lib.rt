@@ -23,16 +23,27 @@
 
 mod acts;
 mod calls;
+mod disk;
 mod fault;
 mod host;
+mod input;
 mod journal;
+mod lines;
 mod noting;
 mod outbox;
 mod scan;
+mod service;
+mod socket;
+mod timer;
 mod words;
 
+pub use disk::{Disk, scan_all};
 pub use fault::{LiveFault, OpenFault};
 pub use host::Host;
+pub use input::{Input, Line};
 pub use journal::Journal;
+pub use lines::Spelling;
 pub use scan::Scan;
+pub use service::{Service, Setup};
+pub use socket::Socket;
 pub use words::{FreshWords, UsedWords};

@@ -1,0 +1,98 @@
+//! A client's lines, as a reader brings them.
+use crate::lines::{Spelling, read_put};
+use amo_packet::Message;
+use amo_text::next_line;
+use std::alloc::{AllocError, Global};
+use std::io;
+use std::io::Read;
+
+/// How many bytes are read at once.
+const PIECE: usize = 65536;
+
+/// A longer text is no line: a message of the greatest length has less, in HEX too.
+const LONGEST_LINE: usize = 4096;
+
+/// A line of a client.
+#[derive(Drop)]
+pub enum Line {
+    /// A message to be put on a stream.
+    Put(u32, Message),
+    /// The line of this number, counted from 1, does not read.
+    Unread(u64),
+}
+
+/// What a reader has brought, and not been taken.
+#[derive(Drop)]
+pub struct Input {
+    alloc: Global,
+    piece: Vec<u8>,
+    bytes: Vec<u8>,
+    /// How many lines were taken.
+    lines: u64,
+    /// The line in front is too long, and what was before it is gone.
+    skips: bool,
+    is_open: bool,
+}
+
+impl Input {
+    /// Nothing has come.
+    pub fn new(alloc: Global) -> Result<Input, AllocError> {
+        Ok(Input {
+            alloc,
+            piece: vec![in alloc; 0u8; PIECE]?,
+            bytes: Vec::new(alloc),
+            lines: 0,
+            skips: false,
+            is_open: true,
+        })
+    }
+
+    /// Whether more may come.
+    pub fn is_open(&self) -> bool {
+        self.is_open
+    }
+
+    /// Reads once.
+    pub fn fill<R: Read>(&mut self, reader: &mut R) -> io::Result<()> {
+        let count = reader.read(self.piece.as_mut_slice())?;
+        self.is_open = count > 0;
+        self.bytes.extend_from_slice(&self.piece[..count])?;
+        Ok(())
+    }
+
+    /// Takes the next line, if it has come whole; at the end of the input also one that has no end.
+    pub fn next(&mut self, spelling: Spelling) -> Result<Option<Line>, AllocError> {
+        let Some((text, rest)) = next_line(self.bytes.as_slice()) else {
+            return self.last(spelling);
+        };
+        let read = read_put(self.alloc, text, spelling)?;
+        let taken = self.bytes.len().saturating_sub(rest.len());
+        self.bytes.drain(..taken.min(self.bytes.len()));
+        Ok(Some(self.numbered(read)))
+    }
+
+    /// What stands behind the last line's end.
+    fn last(&mut self, spelling: Spelling) -> Result<Option<Line>, AllocError> {
+        if self.bytes.len() > LONGEST_LINE {
+            self.bytes.clear();
+            self.skips = true;
+        }
+        if self.is_open || self.bytes.is_empty() {
+            return Ok(None);
+        }
+        let read = read_put(self.alloc, self.bytes.as_slice(), spelling)?;
+        self.bytes.clear();
+        Ok(Some(self.numbered(read)))
+    }
+
+    /// A line that was read, or not.
+    fn numbered(&mut self, read: Option<(u32, Message)>) -> Line {
+        self.lines = self.lines.saturating_add(1);
+        let skips = self.skips;
+        self.skips = false;
+        match read {
+            Some((stream, message)) if !skips => Line::Put(stream, message),
+            _ => Line::Unread(self.lines),
+        }
+    }
+}

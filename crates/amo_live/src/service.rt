@@ -1,0 +1,387 @@
+//! What a live host does with datagrams, times and its clients' messages.
+ghost use Rattle.std.specs.Prelude.{IfOk, OnOk};
+ghost use Rattle.amo_live.specs.Host.{IsNoted};
+
+use crate::lines::{Spelling, Word, push_message, push_word};
+use crate::timer::Timer;
+use crate::{FreshWords, Host, LiveFault};
+use amo_core::{MAX_WAITING, Mode};
+use amo_net::{Link, MAX_DATAGRAM};
+use amo_object::End;
+use amo_packet::Message;
+use amo_text::Sink;
+use amo_word::Words;
+use std::alloc::{AllocError, Global};
+
+/// How many datagrams a turn takes at most.
+const MOST_DATAGRAMS: u32 = 64;
+
+/// What a host knows of one of its streams.
+#[derive(Clone, Copy)]
+struct Lane {
+    mode: Mode,
+    /// How many messages wait for their handshake.
+    waiting: u64,
+    /// A message was put, and its client does not know yet what became of it.
+    owed: bool,
+    timer: Timer,
+}
+
+impl Lane {
+    fn new(mode: Mode) -> Lane {
+        Lane {
+            mode,
+            waiting: 0,
+            owed: false,
+            timer: Timer::unset(),
+        }
+    }
+
+    /// The stream's side is in this mode now. Where its kind is another, its timer begins anew; a resend lets the next one come later.
+    fn enter(&mut self, mode: Mode, resent: bool, now: u64, tick: u64) {
+        let changed = self.mode != mode;
+        self.mode = mode;
+        if changed {
+            self.timer = Timer::unset();
+        }
+        if (changed || resent) && waits(mode) {
+            self.timer.sent(now, tick);
+        }
+    }
+}
+
+/// Whether a side in this mode waits for an answer from its peer.
+fn waits(mode: Mode) -> bool {
+    matches!(
+        mode,
+        Mode::NeedId | Mode::Send | Mode::Accept | Mode::Ack
+    )
+}
+
+/// A host at work.
+#[derive(Drop)]
+pub struct Service<L, S, W> {
+    /// The host.
+    pub host: Host<L, S>,
+    setup: Setup,
+    lanes: Vec<Lane>,
+    words: FreshWords<W>,
+    shown: Vec<u8>,
+    got: u64,
+    /// How many streams' clients have no answer yet.
+    owed: u64,
+}
+
+/// How a service is set up.
+#[derive(Clone, Copy)]
+pub struct Setup {
+    /// The side of its host.
+    pub side: End,
+    /// Of how many streams it is, from 1 on.
+    pub streams: u32,
+    /// How long a stream waits before it sends again for the first time, in microseconds.
+    pub tick: u64,
+    /// A stream's next message is put once its last one's answer came.
+    pub each: bool,
+    /// How many messages are got at most.
+    pub most: u64,
+    /// How messages and answers are spelt.
+    pub spelling: Spelling,
+}
+
+impl<L: Link + Drop, S: Sink + Drop, W: Words + Drop> Service<L, S, W> {
+    /// A service of this host.
+    pub fn new(
+        alloc: Global,
+        host: Host<L, S>,
+        words: FreshWords<W>,
+        setup: Setup,
+    ) -> Result<Service<L, S, W>, AllocError>
+        requires { IsNoted S.written host }
+        ensures { IfOk result (λ service. IsNoted S.written service.host) }
+    {
+        let mode = match setup.side {
+            End::Sender => Mode::Quiet,
+            End::Receiver => Mode::Idle,
+        };
+        let lanes = lanes_of(alloc, setup.streams, mode)?;
+        Ok(Service {
+            host,
+            setup,
+            lanes,
+            words,
+            shown: Vec::new(alloc),
+            got: 0,
+            owed: 0,
+        })
+    }
+}
+
+/// What is known of so many streams at first.
+fn lanes_of(alloc: Global, streams: u32, mode: Mode) -> Result<Vec<Lane>, AllocError> {
+    let mut lanes = Vec::new(alloc);
+    for _stream in 0..streams {
+        lanes.push(Lane::new(mode))?;
+    }
+    Ok(lanes)
+}
+
+impl<L: Link, S: Sink, W: Words> Service<L, S, W> {
+    /// What is to be shown to the clients.
+    pub fn shown(&self) -> &[u8] {
+        self.shown.as_slice()
+    }
+
+    /// All of it was shown.
+    pub fn clear_shown(&mut self)
+        requires { IsNoted S.written self.old.host }
+        ensures { IsNoted S.written self.new.host }
+    {
+        self.shown.clear();
+    }
+
+    /// How many messages were got.
+    pub fn got(&self) -> u64 {
+        self.got
+    }
+
+    /// Whether no stream waits for its peer, and each client has its answers.
+    pub fn is_at_rest(&self) -> bool {
+        self.owed == 0 && self.lanes.iter().all(|lane| !waits(lane.mode))
+    }
+
+    /// When a stream sends again next.
+    pub fn next_due(&self) -> Option<u64> {
+        let mut least: Option<u64> = None;
+        for lane in self.lanes.iter() {
+            least = match (least, lane.timer.next()) {
+                (Some(one), Some(other)) => Some(one.min(other)),
+                (None, other) => other,
+                (one, None) => one,
+            };
+        }
+        least
+    }
+
+    /// What is known of a stream.
+    fn lane(&self, stream: u32) -> Option<Lane> {
+        let place = (stream as usize).checked_sub(1)?;
+        self.lanes.get(place).copied()
+    }
+
+    /// From now on this is known of a stream.
+    fn set_lane(&mut self, stream: u32, lane: Lane)
+        requires { IsNoted S.written self.old.host }
+        ensures { IsNoted S.written self.new.host }
+    {
+        let Some(place) = (stream as usize).checked_sub(1) else {
+            return;
+        };
+        if place < self.lanes.len() {
+            self.lanes[place] = lane;
+        }
+    }
+
+    /// The stream's side is in this mode now.
+    fn enter(&mut self, stream: u32, mode: Mode, resent: bool, now: u64)
+        requires { IsNoted S.written self.old.host }
+        ensures { IsNoted S.written self.new.host }
+    {
+        if let Some(lane) = self.lane(stream) {
+            let mut lane = lane;
+            lane.enter(mode, resent, now, self.setup.tick);
+            self.set_lane(stream, lane);
+        }
+    }
+
+    /// Puts a message on a stream, and begins its handshake if the stream is at rest. A message that is not taken comes back: the stream
+    /// is full, or has no answer yet to the one before.
+    pub fn put(
+        &mut self,
+        stream: u32,
+        message: Message,
+        now: u64,
+    ) -> Result<Option<Message>, LiveFault>
+        requires { IsNoted S.written self.old.host }
+        ensures { OnOk result (IsNoted S.written self.new.host) }
+    {
+        let Some(lane) = self.lane(stream) else {
+            return Ok(Some(message));
+        };
+        if (self.setup.each && lane.owed) || lane.waiting >= MAX_WAITING as u64 {
+            return Ok(Some(message));
+        }
+        match self.host.put(stream, message)? {
+            Err(fault) => Ok(Some(fault.into_message())),
+            Ok(_) => {
+                self.owe(stream, lane);
+                push_word(&mut self.shown, stream, Word::Ok, self.setup.spelling)?;
+                self.begin(stream, now)?;
+                Ok(None)
+            }
+        }
+    }
+
+    /// A message more of this stream has no answer.
+    fn owe(&mut self, stream: u32, lane: Lane)
+        requires { IsNoted S.written self.old.host }
+        ensures { IsNoted S.written self.new.host }
+    {
+        if !lane.owed {
+            self.owed = self.owed.saturating_add(1);
+        }
+        let waiting = lane.waiting.saturating_add(1);
+        self.set_lane(
+            stream,
+            Lane {
+                waiting,
+                owed: true,
+                ..lane
+            },
+        );
+    }
+
+    /// Begins the handshake of a stream's next message, if its sender is at rest and one waits.
+    fn begin(&mut self, stream: u32, now: u64) -> Result<(), LiveFault>
+        requires { IsNoted S.written self.old.host }
+        ensures { OnOk result (IsNoted S.written self.new.host) }
+    {
+        let Some(lane) = self.lane(stream) else {
+            return Ok(());
+        };
+        if lane.mode != Mode::Quiet || lane.waiting == 0 {
+            return Ok(());
+        }
+        let Some(word) = self.words.peek() else {
+            return Ok(());
+        };
+        if let Some(mode) = self.host.start(stream, word)? {
+            if mode == Mode::NeedId {
+                self.words.use_up()?;
+                let waiting = lane.waiting - 1;
+                self.set_lane(stream, Lane { waiting, ..lane });
+            }
+            self.enter(stream, mode, false, now);
+        }
+        Ok(())
+    }
+
+    /// Takes the datagrams that have come, up to a bound.
+    pub fn hear(&mut self, now: u64) -> Result<(), LiveFault>
+        requires { IsNoted S.written self.old.host }
+        ensures { OnOk result (IsNoted S.written self.new.host) }
+    {
+        let mut buffer = [0; MAX_DATAGRAM];
+        'datagrams: for _datagram in 0..MOST_DATAGRAMS {
+            let Some(length) = self.host.hear(&mut buffer) else {
+                break;
+            };
+            self.deliver(&buffer[..length], now)?;
+        }
+        Ok(())
+    }
+
+    /// Delivers a datagram.
+    fn deliver(&mut self, bytes: &[u8], now: u64) -> Result<(), LiveFault>
+        requires { IsNoted S.written self.old.host }
+        ensures { OnOk result (IsNoted S.written self.new.host) }
+    {
+        let Some(word) = self.words.peek() else {
+            return Ok(());
+        };
+        let Some((stream, mode)) = self.host.deliver(bytes, word)? else {
+            return Ok(());
+        };
+        let Some(lane) = self.lane(stream) else {
+            return Ok(());
+        };
+        if lane.mode == Mode::Idle && mode == Mode::Accept {
+            self.words.use_up()?;
+        }
+        self.enter(stream, mode, false, now);
+        match mode {
+            Mode::Rcvd => self.get(stream, now),
+            Mode::Quiet if lane.mode != Mode::Quiet => self.settle(stream, now),
+            _ => Ok(()),
+        }
+    }
+
+    /// Gets the message that has come to a stream, and acknowledges it.
+    fn get(&mut self, stream: u32, now: u64) -> Result<(), LiveFault>
+        requires { IsNoted S.written self.old.host }
+        ensures { OnOk result (IsNoted S.written self.new.host) }
+    {
+        if self.got >= self.setup.most {
+            return Ok(());
+        }
+        let Some(message) = self.host.get(stream)? else {
+            return Ok(());
+        };
+        self.got = self.got.saturating_add(1);
+        push_message(&mut self.shown, stream, &message, self.setup.spelling)?;
+        self.enter(stream, Mode::Ack, false, now);
+        self.host.resend(stream)?;
+        Ok(())
+    }
+
+    /// A handshake is over: the stream's next one begins, or its client is told what became of the last message.
+    fn settle(&mut self, stream: u32, now: u64) -> Result<(), LiveFault>
+        requires { IsNoted S.written self.old.host }
+        ensures { OnOk result (IsNoted S.written self.new.host) }
+    {
+        let Some(lane) = self.lane(stream) else {
+            return Ok(());
+        };
+        if lane.waiting > 0 {
+            return self.begin(stream, now);
+        }
+        let Ok((was_got, _)) = self.host.get_ack(stream)? else {
+            return Ok(());
+        };
+        let word = if was_got { Word::Yes } else { Word::No };
+        push_word(&mut self.shown, stream, word, self.setup.spelling)?;
+        self.owed = self.owed.saturating_sub(1);
+        self.set_lane(
+            stream,
+            Lane {
+                owed: false,
+                ..lane
+            },
+        );
+        Ok(())
+    }
+
+    /// Sends again what is due.
+    pub fn resend(&mut self, now: u64) -> Result<(), LiveFault>
+        requires { IsNoted S.written self.old.host }
+        ensures { OnOk result (IsNoted S.written self.new.host) }
+    {
+        let streams = self.setup.streams;
+        'streams: for place in 0..streams {
+            let stream = place.saturating_add(1);
+            let Some(lane) = self.lane(stream) else {
+                continue;
+            };
+            if lane.timer.is_due(now) {
+                if let Some(mode) = self.host.resend(stream)? {
+                    self.enter(stream, mode, true, now);
+                }
+            }
+        }
+        Ok(())
+    }
+
+    /// Tells the journal that each stream's side crashed, and is up again.
+    pub fn come_back(&mut self) -> Result<(), LiveFault>
+        requires { IsNoted S.written self.old.host }
+        ensures { OnOk result (IsNoted S.written self.new.host) }
+    {
+        let streams = self.setup.streams;
+        'streams: for place in 0..streams {
+            let stream = place.saturating_add(1);
+            self.host.crash(stream)?;
+            self.host.recover(stream)?;
+        }
+        Ok(())
+    }
+}
