@@ -1,8 +1,8 @@
 -- A journal that goes on by one line.
 use Rattle.std.proofs.Common.{◌≡◌, ℕ, ◌+◌, Option, List, [], ◌∷◌, ◌++◌, length, None, Some, sym, ap, subst, arith}
-use Rattle.std.specs.Io.KnownBytes.{Appends}
+use Rattle.std.specs.Io.KnownBytes.{Appends, Keeps}
 use Rattle.amo_text.specs.Sink.{AppendsFront}
-use Rattle.amo_text.proofs.Written.{Appends-nil, Appends-append, AppendsFront-Appends, AppendsFront-append}
+use Rattle.amo_text.proofs.Written.{Appends-append, Appends-Keeps, AppendsFront-Appends, AppendsFront-append}
 use Rattle.amo_world.specs.declared.event.Event.{Event}
 use Rattle.amo_object.specs.declared.step.End.{End}
 use Rattle.amo_core.specs.declared.act.Act.{Act}
@@ -58,3 +58,12 @@ holds_none written j pass side stream act v w is g h = subst (λ (x : PassState)
 -- all lines are a beginning of them
 pub begins_whole : {S : Type 0} (written : S → Option (List ℕ)) (j : JournalState S) (past : List Event) → Holds written j past → Begins written j past
 begins_whole written j past h = record { text = AppendsFront-Appends (written j.opened) (written j.sink) (lines_of j.first past) h.text }
+
+-- the sink was put on its disk
+pub holds_kept : {S : Type 0} (written : S → Option (List ℕ)) (j k : JournalState S) (history : List Event) → k ≡ record j { sink = k.sink } → Keeps (written j.sink) (written k.sink) → Holds written j history → Holds written k history
+holds_kept {S = S} written j k history is kept h =
+    let opened = ap (λ (x : JournalState S). x.opened) is in let first = ap (λ (x : JournalState S). x.first) is in let next = ap (λ (x : JournalState S). x.next) is in
+    let was = h.next in
+    let one : Appends (written j.opened) (written k.sink) (lines_of j.first history) = Appends-Keeps (written j.opened) (written j.sink) (written k.sink) (lines_of j.first history) h.text kept in
+    let two : Appends (written k.opened) (written k.sink) (lines_of j.first history) = subst (λ (o : S). Appends (written o) (written k.sink) (lines_of j.first history)) (sym opened) one in
+    record { text = subst (λ (n : ℕ). Appends (written k.opened) (written k.sink) (lines_of n history)) (sym first) two; next = omega arith }

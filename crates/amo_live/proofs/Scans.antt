@@ -44,7 +44,7 @@ ends_line s t before number event range text at lines whole rest h =
     let place : number ≡ 0 + length h.events = omega arith in
     let list : numbered 0 h.events ++ (record { number = number; event = event }) ∷ [] ≡ numbered 0 (h.events ++ event ∷ []) = numbered_push 0 number h.events event place in
     let bytes : h.front ++ (s.rest ++ 10 ∷ []) ≡ flat_map line_text (numbered 0 h.events ++ (record { number = number; event = event }) ∷ []) =
-        ap (λ (l : List ℕ). l ++ (s.rest ++ 10 ∷ [])) h.journal.1 ∙ (ap (λ (l : List ℕ). flat_map line_text (numbered 0 h.events) ++ l) (spelt ∙ sym (one_line line_text (record { number = number; event = event }))) ∙ sym (flat_map-append line_text (numbered 0 h.events) ((record { number = number; event = event }) ∷ []))) in
+    ap (λ (l : List ℕ). l ++ (s.rest ++ 10 ∷ [])) h.journal.1 ∙ (ap (λ (l : List ℕ). flat_map line_text (numbered 0 h.events) ++ l) (spelt ∙ sym (one_line line_text (record { number = number; event = event }))) ∙ sym (flat_map-append line_text (numbered 0 h.events) ((record { number = number; event = event }) ∷ []))) in
     let long = length-append h.front (s.rest ++ 10 ∷ []) in let longer = length-append s.rest (10 ∷ []) in let count = length-append h.events (event ∷ []) in
     record {
       front = h.front ++ (s.rest ++ 10 ∷ []);

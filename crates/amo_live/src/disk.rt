@@ -2,7 +2,7 @@
 ghost use Rattle.std.specs.Prelude.{◌≡◌, ◌<◌, IfOk, IfSome};
 ghost use Rattle.amo_live.specs.Scan.{Scanned};
 
-use crate::{OpenFault, Scan};
+use crate::{Durable, OpenFault, Scan};
 use amo_object::End;
 use amo_text::{Failures, Sink, SinkFault};
 use std::alloc::Global;
@@ -79,6 +79,18 @@ impl<L: Ledger> Sink for Disk<L> {
         match self.file.write(bytes) {
             Ok(count) if count > 0 || bytes.is_empty() => Ok(count),
             _ => {
+                self.failures.count();
+                Err(SinkFault)
+            }
+        }
+    }
+}
+
+impl<L: Ledger> Durable for Disk<L> {
+    fn sync(&mut self) -> Result<(), SinkFault> {
+        match self.file.sync_data() {
+            Ok(()) => Ok(()),
+            Err(_) => {
                 self.failures.count();
                 Err(SinkFault)
             }

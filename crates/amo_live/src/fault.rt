@@ -81,3 +81,82 @@ impl From<io::Error> for OpenFault {
         }
     }
 }
+
+/// Why a live host's turns ended before its clients were done.
+#[derive(Clone, Copy, Debug, PartialEq, Eq, Error)]
+pub enum ServeFault {
+    /// The host cannot go on.
+    #[error("{0}")]
+    Host(LiveFault),
+    /// The clients' lines, what is shown to them, or the clock failed.
+    #[error("a client's device failed")]
+    Clients,
+}
+
+impl From<LiveFault> for ServeFault {
+    fn from(fault: LiveFault) -> ServeFault {
+        ServeFault::Host(fault)
+    }
+}
+
+impl From<AllocError> for ServeFault {
+    fn from(_error: AllocError) -> ServeFault {
+        ServeFault::Host(LiveFault::NoMemory)
+    }
+}
+
+impl From<io::Error> for ServeFault {
+    fn from(error: io::Error) -> ServeFault {
+        match error.kind() {
+            ErrorKind::OutOfMemory => ServeFault::Host(LiveFault::NoMemory),
+            _ => ServeFault::Clients,
+        }
+    }
+}
+
+/// Why a process ended before its clients were done.
+#[derive(Clone, Copy, Debug, PartialEq, Eq, Error)]
+pub enum ProcessFault {
+    /// Its journal cannot go on.
+    #[error("{0}")]
+    Open(OpenFault),
+    /// Its turns ended.
+    #[error("{0}")]
+    Serve(ServeFault),
+    /// Its socket did not open, or the system gave no seed.
+    #[error("a socket failed")]
+    Socket,
+}
+
+impl From<OpenFault> for ProcessFault {
+    fn from(fault: OpenFault) -> ProcessFault {
+        ProcessFault::Open(fault)
+    }
+}
+
+impl From<ServeFault> for ProcessFault {
+    fn from(fault: ServeFault) -> ProcessFault {
+        ProcessFault::Serve(fault)
+    }
+}
+
+impl From<LiveFault> for ProcessFault {
+    fn from(fault: LiveFault) -> ProcessFault {
+        ProcessFault::Serve(ServeFault::Host(fault))
+    }
+}
+
+impl From<AllocError> for ProcessFault {
+    fn from(_error: AllocError) -> ProcessFault {
+        ProcessFault::from(LiveFault::NoMemory)
+    }
+}
+
+impl From<io::Error> for ProcessFault {
+    fn from(error: io::Error) -> ProcessFault {
+        match error.kind() {
+            ErrorKind::OutOfMemory => ProcessFault::from(LiveFault::NoMemory),
+            _ => ProcessFault::Socket,
+        }
+    }
+}

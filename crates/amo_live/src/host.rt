@@ -5,7 +5,7 @@ ghost use Rattle.amo_live.specs.Host.{IsNoted, IsOpened, sides_from};
 ghost use Rattle.amo_live.specs.Noted.{opened_at};
 
 use crate::outbox::Outbox;
-use crate::{Journal, LiveFault};
+use crate::{Durable, Journal, LiveFault};
 use amo_book::{Book, Charge, OpenFault, Pass};
 use amo_net::{Link, MAX_DATAGRAM};
 use amo_object::End;
@@ -107,6 +107,17 @@ impl<L: Link, S: Sink> Host<L, S> {
         } else {
             None
         }
+    }
+}
+
+impl<L: Link, S: Durable> Host<L, S> {
+    /// Puts the journal on its disk.
+    pub fn sync(&mut self) -> Result<(), LiveFault>
+        requires { IsNoted S.written self.old }
+        ensures noted { IsNoted S.written self.new }
+        ensures same { self.new ≡ record self.old { journal = self.new.journal } }
+    {
+        self.journal.sync()
     }
 }
 

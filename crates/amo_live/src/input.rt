@@ -17,8 +17,8 @@ const LONGEST_LINE: usize = 4096;
 pub enum Line {
     /// A message to be put on a stream.
     Put(u32, Message),
-    /// The line of this number, counted from 1, does not read.
-    Unread(u64),
+    /// No such line.
+    Unread,
 }
 
 /// What a reader has brought, and not been taken.
@@ -50,6 +50,11 @@ impl Input {
     /// Whether more may come.
     pub fn is_open(&self) -> bool {
         self.is_open
+    }
+
+    /// How many lines were taken.
+    pub fn lines(&self) -> u64 {
+        self.lines
     }
 
     /// Reads once.
@@ -92,7 +97,7 @@ impl Input {
         self.skips = false;
         match read {
             Some((stream, message)) if !skips => Line::Put(stream, message),
-            _ => Line::Unread(self.lines),
+            _ => Line::Unread,
         }
     }
 }

@@ -1,15 +1,25 @@
 //! The journal of a live host.
-ghost use Rattle.std.specs.Prelude.{◌≡◌, OnOk, OnErr};
+ghost use Rattle.std.specs.Prelude.{◌≡◌, List, OnOk, OnErr};
+ghost use Rattle.amo_world.specs.declared.event.Event.{Event};
 ghost use Rattle.amo_audit.specs.Journal.{CanSpell};
-ghost use Rattle.amo_live.specs.Noted.{Adds, AddsFront, opened_at};
+ghost use Rattle.amo_live.specs.Noted.{Adds, AddsFront, Holds, IsSameJournal, opened_at};
 
 use crate::LiveFault;
 use amo_audit::write_line;
-use amo_text::Sink;
+use amo_text::{Sink, SinkFault};
 use amo_world::Event;
 use std::alloc::Global;
 use std::marker::Model;
 use std::snapshot::Snapshot;
+
+/// A sink that can be put on its disk.
+pub trait Durable: Sink {
+    ghost use Rattle.std.specs.Io.KnownBytes.{Keeps};
+
+    /// Puts what was written on the disk. A call that fails says nothing of what is there.
+    fn sync(&mut self) -> Result<(), SinkFault>
+        ensures { Keeps (Self.written self.old) (Self.written self.new) };
+}
 
 /// A journal that goes on. Contracts see its sink and the number of its next line, now and when it was opened.
 #[derive(Drop)]
@@ -60,5 +70,19 @@ impl<S: Sink> Journal<S> {
         write_line(&mut self.room, self.next, event, &mut self.sink)?;
         self.next += 1;
         Ok(())
+    }
+}
+
+impl<S: Durable> Journal<S> {
+    /// Puts all lines on the disk.
+    #[tactic(auto, using(crate::proofs::Onwards::holds_kept))]
+    pub fn sync(&mut self) -> Result<(), LiveFault>
+        ensures same { IsSameJournal self.old self.new }
+        ensures holds { (history : List Event) → Holds S.written self.old history → Holds S.written self.new history }
+    {
+        match self.sink.sync() {
+            Ok(()) => Ok(()),
+            Err(_) => Err(LiveFault::Journal),
+        }
     }
 }

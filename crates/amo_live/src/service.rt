@@ -8,7 +8,7 @@ use crate::{FreshWords, Host, LiveFault};
 use amo_core::{MAX_WAITING, Mode};
 use amo_net::{Link, MAX_DATAGRAM};
 use amo_object::End;
-use amo_packet::Message;
+use amo_packet::{Body, Message, read};
 use amo_text::Sink;
 use amo_word::Words;
 use std::alloc::{AllocError, Global};
@@ -52,10 +52,7 @@ impl Lane {
 
 /// Whether a side in this mode waits for an answer from its peer.
 fn waits(mode: Mode) -> bool {
-    matches!(
-        mode,
-        Mode::NeedId | Mode::Send | Mode::Accept | Mode::Ack
-    )
+    matches!(mode, Mode::NeedId | Mode::Send | Mode::Accept | Mode::Ack)
 }
 
 /// A host at work.
@@ -138,6 +135,11 @@ impl<L: Link, S: Sink, W: Words> Service<L, S, W> {
         ensures { IsNoted S.written self.new.host }
     {
         self.shown.clear();
+    }
+
+    /// Whether it has this stream.
+    pub fn has(&self, stream: u32) -> bool {
+        self.lane(stream).is_some()
     }
 
     /// How many messages were got.
@@ -286,7 +288,7 @@ impl<L: Link, S: Sink, W: Words> Service<L, S, W> {
         requires { IsNoted S.written self.old.host }
         ensures { OnOk result (IsNoted S.written self.new.host) }
     {
-        let Some(word) = self.words.peek() else {
+        let Some(word) = self.word_for(bytes) else {
             return Ok(());
         };
         let Some((stream, mode)) = self.host.deliver(bytes, word)? else {
@@ -303,6 +305,15 @@ impl<L: Link, S: Sink, W: Words> Service<L, S, W> {
             Mode::Rcvd => self.get(stream, now),
             Mode::Quiet if lane.mode != Mode::Quiet => self.settle(stream, now),
             _ => Ok(()),
+        }
+    }
+
+    /// The word that a packet is delivered with: the next one for a needuid, 0 for any other. None for what is no packet, or where no word is left.
+    fn word_for(&self, bytes: &[u8]) -> Option<u64> {
+        let packet = read(bytes).ok()?;
+        match packet.body {
+            Body::NeedUid(_) => self.words.peek(),
+            _ => Some(0),
         }
     }
 

@@ -45,11 +45,6 @@ impl<L: Ledger> Socket<L> {
         })
     }
 
-    /// The number by which the system waits for it.
-    pub fn number(&self) -> i32 {
-        self.socket.as_raw_fd()
-    }
-
     /// Counts a call that failed.
     fn failed(&mut self) -> LinkFault
         ensures counted { self.new ≡ self.old + 1 }
@@ -57,6 +52,11 @@ impl<L: Ledger> Socket<L> {
     {
         self.failures.count();
         LinkFault::Device
+    }
+
+    /// The number by which the system waits for it.
+    pub fn number(&self) -> i32 {
+        self.socket.as_raw_fd()
     }
 }
 

@@ -1,0 +1,119 @@
+//! A whole process, from the start of its host to its end.
+ghost use Rattle.std.specs.Prelude.{◌≤◌, IfOk};
+ghost use Rattle.amo_live.specs.Host.{IsNoted};
+
+use crate::{
+    Desk, Durable, Ended, FreshWords, Host, Input, Journal, Limits, LiveFault, ProcessFault, Scan,
+    Service, Setup, serve,
+};
+use amo_net::Link;
+use amo_object::End;
+use amo_word::{ChaChaWords, Words};
+use std::alloc::Global;
+use std::io::{Read, Write};
+use std::os::fd::AsRawFd;
+use std::random::RandomSource;
+use std::rt::Clock;
+
+/// What a process is to do.
+#[derive(Clone, Copy)]
+pub struct Plan {
+    /// How its host is set up.
+    pub setup: Setup,
+    /// When it ends.
+    pub limits: Limits,
+}
+
+/// Runs a host of 1 to 256 streams over this link until its clients are done. The system waits for the link by this number. Lines come
+/// from the reader, and answers go to the output. The journal goes on in the sink, of which this was read.
+pub fn run_process<
+    R: AllocGlobal + Clock + Eprint + RandomSource,
+    I: Read + AsRawFd + Drop,
+    O: Write + Drop,
+    L: Link + Drop,
+    S: Durable + Drop,
+>(
+    rt: &R,
+    plan: Plan,
+    reader: I,
+    output: O,
+    link: L,
+    number: i32,
+    sink: S,
+    scan: Scan,
+) -> Result<Ended, ProcessFault>
+    requires { (1 ≤ plan.setup.streams) × (plan.setup.streams ≤ 256) }
+{
+    let alloc = rt.alloc();
+    let words = ChaChaWords::new(seed(rt)?, 0);
+    let desk = Desk {
+        reader_number: reader.as_raw_fd(),
+        reader,
+        output,
+        socket_number: number,
+        input: Input::new(alloc)?,
+        spelling: plan.setup.spelling,
+        puts: plan.setup.side == End::Sender,
+        kept: None,
+    };
+    work(rt, alloc, plan, link, sink, scan, words, desk)
+}
+
+/// A seed from the system.
+fn seed<R: RandomSource>(rt: &R) -> Result<[u8; 32], ProcessFault> {
+    let mut seed = [0; 32];
+    rt.fill_bytes(&mut seed)?;
+    Ok(seed)
+}
+
+/// Starts a host over this link, with a journal of which this was read, and makes its turns.
+fn work<
+    C: Clock + Eprint,
+    L: Link + Drop,
+    S: Durable + Drop,
+    W: Words + Drop,
+    I: Read + Drop,
+    O: Write + Drop,
+>(
+    rt: &C,
+    alloc: Global,
+    plan: Plan,
+    link: L,
+    sink: S,
+    scan: Scan,
+    words: W,
+    desk: Desk<I, O>,
+) -> Result<Ended, ProcessFault>
+    requires { (1 ≤ plan.setup.streams) × (plan.setup.streams ≤ 256) }
+{
+    let mut desk = desk;
+    let mut service = start(alloc, plan.setup, link, sink, scan, words)?;
+    match serve(rt, &mut service, &mut desk, plan.limits) {
+        Ok(ended) => Ok(ended),
+        Err(fault) => Err(ProcessFault::Serve(fault)),
+    }
+}
+
+/// A host over this link, with a journal of which this was read. Where it has a line, it is noted that each stream's side crashed and is
+/// up again.
+pub fn start<L: Link + Drop, S: Durable + Drop, W: Words + Drop>(
+    alloc: Global,
+    setup: Setup,
+    link: L,
+    sink: S,
+    scan: Scan,
+    words: W,
+) -> Result<Service<L, S, W>, LiveFault>
+    requires { (1 ≤ setup.streams) × (setup.streams ≤ 256) }
+    ensures { IfOk result (λ service. IsNoted S.written service.host) }
+{
+    let lines = scan.lines();
+    let words = FreshWords::new(words, scan.into_used());
+    let journal = Journal::new(alloc, sink, lines);
+    let host = Host::open(alloc, setup.side, setup.streams, link, journal)?;
+    let mut service = Service::new(alloc, host, words, setup)?;
+    if lines > 0 {
+        service.come_back()?;
+    }
+    Ok(service)
+}

@@ -1,0 +1,235 @@
+//! A live host's turns: it waits for its socket and its clients' lines, and does what has come.
+ghost use Rattle.std.specs.Prelude.{OnOk};
+ghost use Rattle.amo_live.specs.Host.{IsNoted};
+
+use crate::ready::wait;
+use crate::{Durable, Input, Line, ServeFault, Service, Spelling};
+use amo_net::Link;
+use amo_packet::Message;
+use amo_word::Words;
+use std::io::{Read, Write};
+use std::rt::Clock;
+use std::time::Instant;
+
+/// How long a receiver waits at its end for what is still on its way, in microseconds, where it was not told.
+const LINGER: u64 = 1_000_000;
+
+/// The longest that it waits without looking up, in microseconds.
+const LONGEST: u64 = 60_000_000;
+
+/// When a host ends, and what it does before packets leave.
+#[derive(Clone, Copy, Debug)]
+pub struct Limits {
+    /// It ends once it got as many messages.
+    pub count: Option<u64>,
+    /// At its end it waits so many microseconds at most for what is still on its way.
+    pub wait: Option<u64>,
+    /// Without that, it waits no longer than a moment.
+    pub lingers: bool,
+    /// The journal is put on its disk once a turn, before packets leave.
+    pub sync: bool,
+}
+
+/// Where a host's clients are.
+#[derive(Drop)]
+pub struct Desk<I, O> {
+    /// Where lines come from.
+    pub reader: I,
+    /// The number by which the system waits for them.
+    pub reader_number: i32,
+    /// Where answers go.
+    pub output: O,
+    /// The number by which the system waits for the host's socket.
+    pub socket_number: i32,
+    /// The lines that have come.
+    pub input: Input,
+    /// How lines are spelt.
+    pub spelling: Spelling,
+    /// Lines are messages to be put. Otherwise only their end matters.
+    pub puts: bool,
+    /// The message that was not taken, which is put again.
+    pub kept: Option<(u32, Message)>,
+}
+
+/// How a host ended.
+#[derive(Clone, Copy, Debug, PartialEq, Eq)]
+pub enum Ended {
+    /// Nothing was on its way.
+    AtRest,
+    /// Something was still on its way.
+    OnItsWay,
+}
+
+/// Makes one turn after another until the clients are done.
+pub fn serve<C: Clock + Eprint, L: Link, S: Durable, W: Words, I: Read, O: Write>(
+    rt: &C,
+    service: &mut Service<L, S, W>,
+    desk: &mut Desk<I, O>,
+    limits: Limits,
+) -> Result<Ended, ServeFault>
+    requires { IsNoted S.written service.old.host }
+    ensures { OnOk result (IsNoted S.written service.new.host) }
+{
+    let start = Instant::now(rt)?;
+    let mut since: Option<u64> = None;
+    'turns: for _turn in 0..u64::MAX {
+        let now = microseconds(rt, &start)?;
+        let is_done = desk.is_done() || limits.count.is_some_and(|count| count <= service.got());
+        since = if is_done {
+            Some(since.unwrap_or(now))
+        } else {
+            None
+        };
+        if let Some(ended) = limits.ending(service.is_at_rest(), since, now) {
+            return Ok(ended);
+        }
+        let until = limits.until(service.next_due(), since);
+        turn(
+            rt,
+            service,
+            desk,
+            &start,
+            limits.sync,
+            milliseconds(until, now),
+        )?;
+    }
+    Ok(Ended::OnItsWay)
+}
+
+/// One turn, which waits at most so many milliseconds.
+fn turn<C: Clock + Eprint, L: Link, S: Durable, W: Words, I: Read, O: Write>(
+    rt: &C,
+    service: &mut Service<L, S, W>,
+    desk: &mut Desk<I, O>,
+    start: &Instant,
+    sync: bool,
+    limit: i32,
+) -> Result<(), ServeFault>
+    requires { IsNoted S.written service.old.host }
+    ensures { OnOk result (IsNoted S.written service.new.host) }
+{
+    desk.wait(limit)?;
+    let now = microseconds(rt, start)?;
+    service.hear(now)?;
+    service.resend(now)?;
+    // After the datagrams: what they made room for is put before the host waits again.
+    take_lines(rt, service, desk, now)?;
+    if sync {
+        service.host.sync()?;
+    }
+    desk.show(service.shown())?;
+    service.clear_shown();
+    service.host.send();
+    Ok(())
+}
+
+/// Puts what came: first the message that was kept, then each line, until a message is not taken.
+fn take_lines<C: Eprint, L: Link, S: Durable, W: Words, I: Read, O: Write>(
+    rt: &C,
+    service: &mut Service<L, S, W>,
+    desk: &mut Desk<I, O>,
+    now: u64,
+) -> Result<(), ServeFault>
+    requires { IsNoted S.written service.old.host }
+    ensures { OnOk result (IsNoted S.written service.new.host) }
+{
+    if let Some((stream, message)) = desk.kept.take() {
+        desk.kept = service
+            .put(stream, message, now)?
+            .map(|message| (stream, message));
+    }
+    'lines: for _line in 0..u64::MAX {
+        if desk.kept.is_some() {
+            break;
+        }
+        let Some(line) = desk.input.next(desk.spelling)? else {
+            break;
+        };
+        match line {
+            Line::Put(stream, message) if desk.puts && service.has(stream) => {
+                desk.kept = service
+                    .put(stream, message, now)?
+                    .map(|message| (stream, message));
+            }
+            Line::Put(_, _) => desk.refuse(rt),
+            Line::Unread => desk.refuse(rt),
+        }
+    }
+    Ok(())
+}
+
+impl Limits {
+    /// How the host ends, if it does. Its clients are done since a time, if they are.
+    fn ending(&self, is_at_rest: bool, since: Option<u64>, now: u64) -> Option<Ended> {
+        let since = since?;
+        if is_at_rest {
+            return Some(Ended::AtRest);
+        }
+        let waited = now.saturating_sub(since);
+        match self.wait {
+            Some(wait) if wait <= waited => Some(Ended::OnItsWay),
+            None if self.lingers && LINGER <= waited => Some(Ended::AtRest),
+            _ => None,
+        }
+    }
+
+    /// When it looks up at the latest.
+    fn until(&self, due: Option<u64>, since: Option<u64>) -> Option<u64> {
+        let Some(since) = since else {
+            return due;
+        };
+        let end = since.saturating_add(self.wait.unwrap_or(LINGER));
+        Some(due.unwrap_or(end).min(end))
+    }
+}
+
+impl<I: Read, O: Write> Desk<I, O> {
+    /// Whether no line will come any more, and none waits.
+    fn is_done(&self) -> bool {
+        !self.input.is_open() && self.kept.is_none()
+    }
+
+    /// Waits, and reads lines once where some have come. While a message waits to be put again, lines wait too.
+    fn wait(&mut self, limit: i32) -> Result<(), ServeFault> {
+        let reads = self.input.is_open() && self.kept.is_none();
+        let number = if reads { self.reader_number } else { -1 };
+        if wait(number, self.socket_number, limit) {
+            self.input.fill(&mut self.reader)?;
+        }
+        Ok(())
+    }
+
+    /// Shows these lines to the clients.
+    fn show(&mut self, shown: &[u8]) -> Result<(), ServeFault> {
+        if !shown.is_empty() {
+            self.output.write_all(shown)?;
+            self.output.flush()?;
+        }
+        Ok(())
+    }
+
+    /// Tells that the line that was taken last is none.
+    fn refuse<C: Eprint>(&self, rt: &C) {
+        if self.puts {
+            let line = self.input.lines();
+            let _ = eprintln!(rt; "amo: line {line} does not read");
+        }
+    }
+}
+
+/// How many microseconds have passed.
+fn microseconds<C: Clock>(rt: &C, start: &Instant) -> Result<u64, ServeFault> {
+    let passed = start.elapsed(rt)?.as_micros();
+    Ok(u64::try_from(passed).unwrap_or(u64::MAX))
+}
+
+/// How many milliseconds there are until a time, rounded up, as the system counts them. Without a time there is no limit.
+fn milliseconds(until: Option<u64>, now: u64) -> i32 {
+    match until {
+        None => -1,
+        Some(until) => {
+            let left = until.saturating_sub(now).min(LONGEST);
+            left.div_ceil(1000) as i32
+        }
+    }
+}
