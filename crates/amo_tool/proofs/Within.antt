@@ -3,7 +3,7 @@ use Rattle.std.proofs.Common.{List}
 use Rattle.clap.specs.Words.{Text}
 use Rattle.amo_tool.specs.Chosen.{Chooses, IsWithin}
 use Rattle.amo_tool.specs.declared.choice.Settings.{Settings}
-use Rattle.amo_tool.specs.declared.choice.Settings.TheVariants.{Replay, Run, Audit, Explain}
+use Rattle.amo_tool.specs.declared.choice.Settings.TheVariants.{Replay, Run, Audit, Explain, Manual, Completions}
 
 -- of each match
 pub within : (arguments : List Text) (chosen : Settings) → Chooses arguments chosen → IsWithin chosen
@@ -11,3 +11,5 @@ within arguments (Replay file) h = tt
 within arguments (Run settings file) h = h.2.0.within
 within arguments (Audit file second) h = tt
 within arguments (Explain file) h = tt
+within arguments Manual h = tt
+within arguments (Completions shell) h = tt

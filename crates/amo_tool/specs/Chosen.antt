@@ -9,17 +9,21 @@ use Rattle.amo_run.specs.Settings.{AreWithin}
 use Rattle.amo_run.specs.declared.settings.LinkKind.{LinkKind}
 use Rattle.amo_run.specs.declared.settings.LinkKind.TheVariants.{Memory, Udp}
 use Rattle.amo_run.specs.declared.settings.RunSettings.{RunSettings}
-use Rattle.amo_tool.specs.Commands.{Names, AreLinks, amo}
+use Rattle.amo_tool.specs.Commands.{Names, AreLinks, AreShells, amo}
 use Rattle.amo_tool.specs.declared.choice.Settings.{Settings}
-use Rattle.amo_tool.specs.declared.choice.Settings.TheVariants.{Replay, Run, Audit, Explain}
+use Rattle.amo_tool.specs.declared.choice.Settings.TheVariants.{Replay, Run, Audit, Explain, Manual, Completions}
+use Rattle.amo_tool.specs.declared.choice.Shell.{Shell}
+use Rattle.amo_tool.specs.declared.choice.Shell.TheVariants.{Bash, Zsh, Fish}
 
 -- the match of the arguments has this command, with these matches of its own
 abbrev pub HasCommand : List Text → Text → List Row → Type 0
-HasCommand arguments name rows = (links : Names) × AreLinks links × (subcommand_of (amo links) arguments ≡ Some (name, rows))
+HasCommand arguments name rows = (links : Names) × AreLinks links × ((shells : Names) × AreShells shells
+    × (subcommand_of (amo links shells) arguments ≡ Some (name, rows)))
 
 -- the command that was met and its matches are those of the arguments
 abbrev pub Matches : List Text → ArgMatches → Type 0
-Matches arguments matches = (links : Names) × AreLinks links × (subcommand_rows_of matches ≡ subcommand_of (amo links) arguments)
+Matches arguments matches = (links : Names) × AreLinks links × ((shells : Names) × AreShells shells
+    × (subcommand_rows_of matches ≡ subcommand_of (amo links shells) arguments))
 
 -- the first value of an argument of this name
 abbrev pub HasText : List Row → Text → Text → Type 0
@@ -40,6 +44,11 @@ HasFlag rows name flag = one_of name rows ≡ Some (if flag then codes "true" el
 abbrev pub link_name : LinkKind → Text
 link_name Memory = codes "memory"
 link_name Udp = codes "udp"
+
+abbrev pub shell_name : Shell → Text
+shell_name Bash = codes "bash"
+shell_name Zsh = codes "zsh"
+shell_name Fish = codes "fish"
 
 -- the matches of `run` have these values, each within its limits
 pub record HasSettings (rows : List Row) (settings : RunSettings) : Type 0 where
@@ -71,6 +80,9 @@ Chooses arguments (Run settings file) = (rows : List Row) × HasCommand argument
 Chooses arguments (Audit file second) = (rows : List Row) × HasCommand arguments (codes "audit") rows
     × HasText rows (codes "FILE") (string_bytes file) × HasTextOrNone rows (codes "SECOND") (option_map string_bytes second)
 Chooses arguments (Explain file) = (rows : List Row) × HasCommand arguments (codes "explain") rows × HasText rows (codes "FILE") (string_bytes file)
+Chooses arguments Manual = (rows : List Row) × HasCommand arguments (codes "man") rows
+Chooses arguments (Completions shell) = (rows : List Row) × HasCommand arguments (codes "completions") rows
+    × HasText rows (codes "SHELL") (shell_name shell)
 
 -- what is asked of a run is within its limits
 abbrev pub IsWithin : Settings → Type 0

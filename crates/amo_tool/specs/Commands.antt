@@ -46,6 +46,17 @@ link names = record (text (codes "link")) { parser = Some (parser.Names names) }
 abbrev pub IsLink : Rule → Type 0
 IsLink rule = (names : Names) × AreLinks names × (rule ≡ link names)
 
+-- the shells that there are completions for
+abbrev pub AreShells : Names → Type 0
+AreShells names = map (λ name. name.now) names.now ≡ codes "bash" ∷ codes "zsh" ∷ codes "fish" ∷ []
+
+-- SHELL: required, the value being one of these names
+abbrev pub shell : Names → Rule
+shell names = record (new_rule (codes "SHELL")) { required = true; action = Some Set; parser = Some (parser.Names names) }
+
+abbrev pub IsShell : Rule → Type 0
+IsShell rule = (names : Names) × AreShells names × (rule ≡ shell names)
+
 abbrev pub replay : App
 replay = with_rule (new_app (codes "replay")) file
 
@@ -61,12 +72,21 @@ audit = with_rule (with_rule (new_app (codes "audit")) file) second_file
 abbrev pub explain : App
 explain = with_rule (new_app (codes "explain")) file
 
+abbrev pub manual : App
+manual = new_app (codes "man")
+
+abbrev pub completions : Names → App
+completions shells = with_rule (new_app (codes "completions")) (shell shells)
+
 -- without a command: it tells its version, asks for a command, and shows its help where there are no arguments
 abbrev pub bare : App
 bare = let app = new_app (codes "amo") in record app { top = record app.top { has_version = true; subcommand_required = true; arg_required_else_help = true } }
 
-abbrev pub amo : Names → App
-amo links = with_subcommand (with_subcommand (with_subcommand (with_subcommand bare replay.top) (run links).top) audit.top) explain.top
+abbrev pub before_manual : Names → App
+before_manual links = with_subcommand (with_subcommand (with_subcommand (with_subcommand bare replay.top) (run links).top) audit.top) explain.top
+
+abbrev pub amo : Names → Names → App
+amo links shells = with_subcommand (with_subcommand (before_manual links) manual.top) (completions shells).top
 
 -- the command is this one, and shares no argument with commands below it
 abbrev pub IsCommand : App → Command → Type 0
@@ -75,5 +95,8 @@ IsCommand app command = (app_of command ≡ app) × ((out-Command command).has_g
 abbrev pub IsRun : Command → Type 0
 IsRun command = (links : Names) × AreLinks links × IsCommand (run links) command
 
+abbrev pub IsCompletions : Command → Type 0
+IsCompletions command = (shells : Names) × AreShells shells × IsCommand (completions shells) command
+
 abbrev pub IsAmo : Command → Type 0
-IsAmo command = (links : Names) × AreLinks links × (app_of command ≡ amo links)
+IsAmo command = (links : Names) × AreLinks links × ((shells : Names) × AreShells shells × (app_of command ≡ amo links shells))

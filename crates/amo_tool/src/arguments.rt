@@ -3,9 +3,9 @@ ghost use Rattle.std.specs.Prelude.{◌≢◌, ◌≤◌, codes, IfErr, IfNone, 
 ghost use Rattle.clap.specs.Words.{found_of, rows_of};
 ghost use Rattle.amo_text.specs.Hexadecimal.{hex};
 ghost use Rattle.amo_tool.specs.Arguments.{HasStatus};
-ghost use Rattle.amo_tool.specs.Chosen.{Chooses, ChoosesRun, HasFlag, HasNoSeed, HasNumber, HasText, HasTextOrNone, LacksSeed, Matches, link_name};
+ghost use Rattle.amo_tool.specs.Chosen.{Chooses, ChoosesRun, HasFlag, HasNoSeed, HasNumber, HasText, HasTextOrNone, LacksSeed, Matches, link_name, shell_name};
 
-use crate::choice::{ArgumentsFault, Settings};
+use crate::choice::{ArgumentsFault, Settings, Shell};
 use crate::commands::{CLIENTS, CRASHES, PUMPS, STREAMS, command};
 use amo_run::{LinkKind, RunSettings};
 use amo_text::laws::hex_is_injective;
@@ -61,8 +61,14 @@ fn parse(alloc: Global, arguments: &[String]) -> Result<Option<Settings>, Error>
         let file = text_of(alloc, audit, "FILE")?;
         return Ok(Some(Settings::Audit(file, second_file_of(alloc, audit)?)));
     }
-    match matches.subcommand_matches("explain") {
-        Some(explain) => Ok(Some(Settings::Explain(text_of(alloc, explain, "FILE")?))),
+    if let Some(explain) = matches.subcommand_matches("explain") {
+        return Ok(Some(Settings::Explain(text_of(alloc, explain, "FILE")?)));
+    }
+    if matches.subcommand_matches("man").is_some() {
+        return Ok(Some(Settings::Manual));
+    }
+    match matches.subcommand_matches("completions") {
+        Some(completions) => Ok(Some(Settings::Completions(shell_of(alloc, completions)?))),
         None => Err(beyond(alloc)?),
     }
 }
@@ -163,6 +169,18 @@ fn link_of(alloc: Global, matches: &ArgMatches<'_>) -> Result<LinkKind, Error>
     match matches.get_str("link") {
         Some("memory") => Ok(LinkKind::Memory),
         Some("udp") => Ok(LinkKind::Udp),
+        _ => Err(beyond(alloc)?),
+    }
+}
+
+/// The shell that completions are for.
+fn shell_of(alloc: Global, matches: &ArgMatches<'_>) -> Result<Shell, Error>
+    ensures { IfOk result (λ shell. HasText (rows_of (found_of matches.now)) (codes "SHELL") (shell_name shell)) }
+{
+    match matches.get_str("SHELL") {
+        Some("bash") => Ok(Shell::Bash),
+        Some("zsh") => Ok(Shell::Zsh),
+        Some("fish") => Ok(Shell::Fish),
         _ => Err(beyond(alloc)?),
     }
 }

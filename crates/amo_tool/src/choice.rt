@@ -13,6 +13,18 @@ pub enum Settings {
     Audit(String, Option<String>),
     /// Explain the journal in this file.
     Explain(String),
+    /// Show the manual page.
+    Manual,
+    /// Show the completions for this shell.
+    Completions(Shell),
+}
+
+/// A shell that completes words.
+#[derive(Clone, Copy, Debug, PartialEq, Eq)]
+pub enum Shell {
+    Bash,
+    Zsh,
+    Fish,
 }
 
 /// Why the program's arguments are no settings.

@@ -9,7 +9,7 @@ use clap::{Arg, ArgAction, Command};
 use std::alloc::{AllocError, Global};
 
 /// The name that the program goes by in its texts.
-const NAME: &str = "amo";
+pub(crate) const NAME: &str = "amo";
 
 /// The greatest numbers of a run: of its streams, of its clients, of its crashes, and of the pumps of each host.
 pub(crate) const STREAMS: u32 = 256;
@@ -23,6 +23,9 @@ pub(crate) const PUMPS: u32 = 4;
 /// What may carry the packets of a run.
 static LINKS: [&str; 2] = ["memory", "udp"];
 
+/// The shells that there are completions for.
+static SHELLS: [&str; 3] = ["bash", "zsh", "fish"];
+
 /// The whole program.
 pub(crate) fn command<'a>(alloc: Global) -> Result<Command<'a>, AllocError>
     ensures { IfOk result described.IsAmo }
@@ -31,6 +34,7 @@ pub(crate) fn command<'a>(alloc: Global) -> Result<Command<'a>, AllocError>
     let run = run(alloc)?;
     let audit = audit(alloc)?;
     let explain = explain(alloc)?;
+    let completions = completions(alloc)?;
     Command::new(alloc, NAME)
         .bin_name(NAME)?
         .version(texts::VERSION)
@@ -41,7 +45,9 @@ pub(crate) fn command<'a>(alloc: Global) -> Result<Command<'a>, AllocError>
         .subcommand(replay)?
         .subcommand(run)?
         .subcommand(audit)?
-        .subcommand(explain)
+        .subcommand(explain)?
+        .subcommand(manual(alloc))?
+        .subcommand(completions)
 }
 
 fn replay<'a>(alloc: Global) -> Result<Command<'a>, AllocError>
@@ -113,6 +119,24 @@ fn explain<'a>(alloc: Global) -> Result<Command<'a>, AllocError>
     .arg(file(alloc, "The journal"))
 }
 
+fn manual<'a>(alloc: Global) -> Command<'a>
+    ensures { described.IsCommand described.manual result }
+{
+    with_texts(alloc, "man", texts::MANUAL_ABOUT, texts::MANUAL_AFTER_HELP)
+}
+
+fn completions<'a>(alloc: Global) -> Result<Command<'a>, AllocError>
+    ensures { IfOk result described.IsCompletions }
+{
+    with_texts(
+        alloc,
+        "completions",
+        texts::COMPLETIONS_ABOUT,
+        texts::COMPLETIONS_AFTER_HELP,
+    )
+    .arg(shell(alloc))
+}
+
 /// The command of this name, without arguments, and what help says of it.
 fn with_texts<'a>(
     alloc: Global,
@@ -147,6 +171,18 @@ fn second_file<'a>(alloc: Global) -> Arg<'a>
         .value_name("FILE")
         .help("The journal of a second process")
         .action(ArgAction::Set)
+}
+
+/// The argument that names a shell.
+fn shell<'a>(alloc: Global) -> Arg<'a>
+    ensures rule { described.IsShell (rule_of result) }
+    ensures local { result.global ≡ false }
+{
+    Arg::new(alloc, "SHELL")
+        .help("The shell")
+        .required(true)
+        .action(ArgAction::Set)
+        .value_parser(ValueParser::Names(SHELLS.as_slice()))
 }
 
 /// The option of this name, whose value is a number from `low` to `high`.

@@ -11,8 +11,11 @@ ghost use Rattle.amo_tool.specs.Chosen.{IsWithin};
 mod arguments;
 mod choice;
 mod commands;
+mod completions;
 mod failure;
 mod judging;
+mod manual;
+mod outline;
 mod replaying;
 mod running;
 #[cfg(test)]
@@ -25,6 +28,7 @@ use crate::failure::Failure;
 use crate::judging::{audit_files, explain_file};
 use crate::replaying::replay_file;
 use crate::running::run_to_file;
+use std::alloc::AllocError;
 use std::env;
 use std::io::{ErrorKind, Write};
 use std::net::Net;
@@ -56,6 +60,8 @@ fn obey<
         }
         Ok(Settings::Explain(file)) => explain_file(rt, file.as_str(), errors),
         Ok(Settings::Run(settings, file)) => run_to_file(rt, &settings, file.as_str()),
+        Ok(Settings::Manual) => show_page(rt, manual::page(rt.alloc())),
+        Ok(Settings::Completions(shell)) => show_page(rt, completions::script(rt.alloc(), shell)),
         Err(ArgumentsFault::Text(text, status)) => show(rt, text.as_str(), status),
         Err(ArgumentsFault::Seed) => {
             let _ = rt.eprintln(ArgumentsFault::Seed);
@@ -86,6 +92,12 @@ fn choose<R: AllocGlobal + Env>(rt: &R) -> Result<Settings, ArgumentsFault>
         Ok(arguments) => settings(rt.alloc(), arguments),
         Err(_) => Err(ArgumentsFault::NoMemory),
     }
+}
+
+/// Shows a page on standard output. It is made whole before, so that of one for which there is no memory nothing is shown.
+fn show_page<R: Print>(rt: &R, page: Result<String, AllocError>) -> Result<u8, Failure> {
+    rt.print(page?)?;
+    Ok(0)
 }
 
 /// Shows a text about the program's arguments: asked-for help on standard output, all else on standard error.

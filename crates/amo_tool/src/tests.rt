@@ -1,6 +1,6 @@
 //! The program's arguments.
 use crate::arguments::settings;
-use crate::choice::{ArgumentsFault, Settings};
+use crate::choice::{ArgumentsFault, Settings, Shell};
 use amo_run::{LinkKind, RunSettings};
 use std::alloc::{AllocError, Global};
 use std::test::Fail;
@@ -19,11 +19,13 @@ const HELP: &str = "An at-most-once message service: commands that must never ru
 Usage: amo <COMMAND>
 
 Commands:
-  replay   Replays a schedule, and prints a line for each event
-  run      Runs the service between two hosts that crash, and keeps a journal of what happened
-  audit    Audits a journal, or those of two processes, and prints a line with the verdict
-  explain  Explains a journal: what the at-most-once queue did for each stream
-  help     Print this message or the help of the given subcommand(s)
+  replay       Replays a schedule, and prints a line for each event
+  run          Runs the service between two hosts that crash, and keeps a journal of what happened
+  audit        Audits a journal, or those of two processes, and prints a line with the verdict
+  explain      Explains a journal: what the at-most-once queue did for each stream
+  man          Prints the manual page
+  completions  Prints completions for a shell
+  help         Print this message or the help of the given subcommand(s)
 
 Options:
   -h, --help     Print help
@@ -35,6 +37,7 @@ Examples:
     --seed 0000000000000000000000000000000000000000000000000000000000000000
   amo audit examples/good_journal.journal
   amo explain examples/good_journal.journal
+  amo man | man -l -
 
 Status:
   0  done; of an audit: yes
@@ -126,6 +129,7 @@ seed differ.
 
 Output, a line:
   events E, link faults F  the journals have E events, and faults of the system lost F packets
+Until then a line on standard error tells how far the run is, where that is a terminal.
 
 Status:
   0  the journal is written; `amo audit` of it prints `yes`
@@ -225,6 +229,56 @@ Example:
   amo explain examples/good_journal.journal
 ";
 
+const MANUAL_HELP: &str = "Prints the manual page
+
+Usage: amo man
+
+Options:
+  -h, --help  Print help
+
+The page is in roff, as `man` reads it.
+
+Status:
+  0  the page is printed
+  4  `amo: out of memory`: nothing is printed
+     `amo: device`: standard output failed
+
+Examples:
+  amo man | man -l -
+  amo man >~/.local/share/man/man1/amo.1
+";
+
+const COMPLETIONS_HELP: &str = "Prints completions for a shell
+
+Usage: amo completions <SHELL>
+
+Arguments:
+  <SHELL>  The shell [possible values: bash, zsh, fish]
+
+Options:
+  -h, --help  Print help
+
+They complete the commands, their options, and of values the names and the files.
+
+Status:
+  0  the completions are printed
+  4  `amo: out of memory`: nothing is printed
+     `amo: device`: standard output failed
+
+Where each shell looks for them:
+  amo completions bash >~/.local/share/bash-completion/completions/amo
+  amo completions zsh >~/.zfunc/_amo     # with ~/.zfunc in $fpath, before compinit
+  amo completions fish >~/.config/fish/completions/amo.fish
+";
+
+const NO_SHELL: &str = "error: the following required arguments were not provided:
+  <SHELL>
+
+Usage: amo completions <SHELL>
+
+For more information, try '--help'.
+";
+
 const NO_OPTIONS: &str = "error: the following required arguments were not provided:
   --streams <N>
   --clients <N>
@@ -249,7 +303,7 @@ For more information, try '--help'.
 /// The texts that users see, whole.
 #[test]
 fn shows_its_texts(rt: HostRuntime) -> Result<(), Fail> {
-    let rows: [(&[&str], u8, &str); 10] = [
+    let rows: [(&[&str], u8, &str); 13] = [
         (&["amo"], 2, HELP),
         (&["amo", "--help"], 0, HELP),
         (&["amo", "-h"], 0, HELP),
@@ -259,6 +313,9 @@ fn shows_its_texts(rt: HostRuntime) -> Result<(), Fail> {
         (&["amo", "run", "--help"], 0, RUN_HELP),
         (&["amo", "audit", "--help"], 0, AUDIT_HELP),
         (&["amo", "explain", "--help"], 0, EXPLAIN_HELP),
+        (&["amo", "man", "--help"], 0, MANUAL_HELP),
+        (&["amo", "completions", "--help"], 0, COMPLETIONS_HELP),
+        (&["amo", "completions"], 2, NO_SHELL),
         (&["amo", "--version"], 0, "amo 0.1.0\n"),
     ];
     for (given, status, text) in rows {
@@ -291,7 +348,18 @@ fn reads_the_arguments(rt: HostRuntime) -> Result<(), Fail> {
     );
     let explained = settings(rt.alloc(), arguments(rt.alloc(), &["amo", "explain", "a"])?);
     assert!(rt; matches!(&explained, Ok(Settings::Explain(file)) if file.as_str() == "a"));
-    let rows: [(&[&str], u8, &str); 6] = [
+    let shown = settings(rt.alloc(), arguments(rt.alloc(), &["amo", "man"])?);
+    assert!(rt; matches!(&shown, Ok(Settings::Manual)));
+    for (name, shell) in [
+        ("bash", Shell::Bash),
+        ("zsh", Shell::Zsh),
+        ("fish", Shell::Fish),
+    ] {
+        let given = arguments(rt.alloc(), &["amo", "completions", name])?;
+        let chosen = settings(rt.alloc(), given);
+        assert!(rt; matches!(&chosen, Ok(Settings::Completions(read)) if *read == shell), "{name}");
+    }
+    let rows: [(&[&str], u8, &str); 8] = [
         (&["amo", "replay"], 2, "<FILE>"),
         (&["amo", "replay", "a", "b"], 2, "unexpected argument 'b'"),
         (&["amo", "audit"], 2, "<FILE>"),
@@ -301,6 +369,12 @@ fn reads_the_arguments(rt: HostRuntime) -> Result<(), Fail> {
             "unexpected argument 'c'",
         ),
         (&["amo", "explain", "a", "b"], 2, "unexpected argument 'b'"),
+        (&["amo", "man", "a"], 2, "unexpected argument 'a'"),
+        (
+            &["amo", "completions", "Bash"],
+            2,
+            "[possible values: bash, zsh, fish]",
+        ),
         (&["amo", "walk"], 2, "unrecognized subcommand 'walk'"),
     ];
     for (given, status, part) in rows {

@@ -12,6 +12,7 @@ pub(crate) const AFTER_HELP: &str = "Examples:
     --seed 0000000000000000000000000000000000000000000000000000000000000000
   amo audit examples/good_journal.journal
   amo explain examples/good_journal.journal
+  amo man | man -l -
 
 Status:
   0  done; of an audit: yes
@@ -82,6 +83,7 @@ seed differ.
 
 Output, a line:
   events E, link faults F  the journals have E events, and faults of the system lost F packets
+Until then a line on standard error tells how far the run is, where that is a terminal.
 
 Status:
   0  the journal is written; `amo audit` of it prints `yes`
@@ -163,3 +165,31 @@ Status:
 
 Example:
   amo explain examples/good_journal.journal";
+
+pub(crate) const MANUAL_ABOUT: &str = "Prints the manual page";
+
+pub(crate) const MANUAL_AFTER_HELP: &str = "The page is in roff, as `man` reads it.
+
+Status:
+  0  the page is printed
+  4  `amo: out of memory`: nothing is printed
+     `amo: device`: standard output failed
+
+Examples:
+  amo man | man -l -
+  amo man >~/.local/share/man/man1/amo.1";
+
+pub(crate) const COMPLETIONS_ABOUT: &str = "Prints completions for a shell";
+
+pub(crate) const COMPLETIONS_AFTER_HELP: &str =
+    "They complete the commands, their options, and of values the names and the files.
+
+Status:
+  0  the completions are printed
+  4  `amo: out of memory`: nothing is printed
+     `amo: device`: standard output failed
+
+Where each shell looks for them:
+  amo completions bash >~/.local/share/bash-completion/completions/amo
+  amo completions zsh >~/.zfunc/_amo     # with ~/.zfunc in $fpath, before compinit
+  amo completions fish >~/.config/fish/completions/amo.fish";

@@ -12,4 +12,7 @@ returns c =
     let replay = with_command c.in_ok-subcommand.ensures c.in_ok-replay.ensures bare_is in
     let run = with_command c.in_ok-subcommand-2.ensures links.2 replay in
     let audit = with_command c.in_ok-subcommand-3.ensures c.in_ok-audit.ensures run in
-    IfOk-weaker c.subcommand-4.result _ _ (λ m h. (links.0, links.1, with_command h c.in_ok-explain.ensures audit)) c.subcommand-4.ensures
+    let explain = with_command c.in_ok-subcommand-4.ensures c.in_ok-explain.ensures audit in
+    let manual = with_command c.in_ok-subcommand-5.ensures c.manual.ensures explain in
+    let shells = c.in_ok-completions.ensures in
+    IfOk-weaker c.subcommand-6.result _ _ (λ m h. (links.0, links.1, (shells.0, shells.1, with_command h shells.2 manual))) c.subcommand-6.ensures
