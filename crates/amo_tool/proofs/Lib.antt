@@ -1,3 +1,4 @@
+pub mod ChosenRun
 pub mod Described
 pub mod Matched
 pub mod Within

@@ -1,7 +1,7 @@
 -- What the matches of a command tell of its arguments.
 use Rattle.std.proofs.Common.{◌≡◌, ◌∙◌, Bool, true, false, codes, Option, Some, None, Result, Ok, refl, rules, subst, sym}
 use Rattle.std.specs.Option.{option_map}
-use Rattle.std.specs.Prelude.{IfNone, MatchBool, if◌then◌else◌}
+use Rattle.std.specs.Prelude.{IfNone, IfSome, MatchBool, if◌then◌else◌}
 use Rattle.std.specs.Borrow.{Bor}
 use Rattle.clap.specs.Words.{ReadsOne, Text, first_of, first_value, rows_of}
 use Rattle.clap.specs.declared.parser.matches.Found.{Found}
@@ -29,3 +29,8 @@ same_text o s t a b = let both : Some s ≡ Some t = sym a ∙ b in search rules
 pub if_none : {A : Type 0} {P Q : Type 0} (o : Option A) → (P → Q) → IfNone o P → IfNone o Q
 if_none None f h = f h
 if_none (Some x) f h = h
+
+-- what holds where there is one, and what follows from it
+pub if_some : {A : Type 0} {P Q : A → Type 0} (o : Option A) → ((x : A) → P x → Q x) → IfSome o P → IfSome o Q
+if_some None f h = h
+if_some (Some x) f h = f x h

@@ -64,7 +64,7 @@ fn parse(alloc: Global, arguments: &[String]) -> Result<Option<Settings>, Error>
     if let Some(explain) = matches.subcommand_matches("explain") {
         return Ok(Some(Settings::Explain(text_of(alloc, explain, "FILE")?)));
     }
-    if matches.subcommand_matches("man").is_some() {
+    if let Some(_manual) = matches.subcommand_matches("man") {
         return Ok(Some(Settings::Manual));
     }
     match matches.subcommand_matches("completions") {

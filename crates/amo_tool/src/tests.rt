@@ -357,7 +357,10 @@ fn reads_the_arguments(rt: HostRuntime) -> Result<(), Fail> {
     ] {
         let given = arguments(rt.alloc(), &["amo", "completions", name])?;
         let chosen = settings(rt.alloc(), given);
-        assert!(rt; matches!(&chosen, Ok(Settings::Completions(read)) if *read == shell), "{name}");
+        assert!(rt;
+            matches!(&chosen, Ok(Settings::Completions(read)) if *read == shell),
+            "{name}"
+        );
     }
     let rows: [(&[&str], u8, &str); 8] = [
         (&["amo", "replay"], 2, "<FILE>"),

@@ -2,8 +2,14 @@ use Rattle.std.proofs.Common.{codes, map, rules, string_bytes}
 use Rattle.std.proofs.lemmas.Result.{IfOk-weaker}
 use Rattle.clap.specs.Words.{found_of, rows_of}
 use Rattle.amo_tool.specs.Chosen.{HasCommand}
-use Rattle.amo_tool.proofs.Matched.{if_none}
+use Rattle.amo_tool.proofs.ChosenRun.{chooses_run}
+use Rattle.amo_tool.proofs.Matched.{if_none, if_some}
 use Rattle.amo_tool.proofs.arguments.parse.Goals as goal
+
+pub returns-in-Some-subcommand_matches-clause-chosen : goal.returns-in-Some-subcommand_matches-clause-chosen
+returns-in-Some-subcommand_matches-clause-chosen c =
+    let command : HasCommand (map string_bytes c.args.arguments.now) (codes "run") (rows_of (found_of c.in-Some-subcommand_matches.run'.now)) = search rules in
+    IfOk-weaker c.parse_run.result _ _ (λ chosen h. if_some chosen (λ s k. chooses_run _ _ s command k) h) c.parse_run.ensures.chosen
 
 pub returns-in-Some-subcommand_matches-clause-seed : goal.returns-in-Some-subcommand_matches-clause-seed
 returns-in-Some-subcommand_matches-clause-seed c =
