@@ -1,6 +1,7 @@
 //! The manual page, in roff, made from the program's commands and from what help says of each.
 use crate::commands::{NAME, command};
 use crate::outline::{Value, has_value, push_next, value_of, whole, words_of};
+use clap::error::ErrorKind;
 use clap::{Arg, Command};
 use std::alloc::{AllocError, Global};
 
@@ -23,6 +24,7 @@ pub(crate) fn page(alloc: Global) -> Result<String, AllocError> {
 /// What `clap` says where these words ask for help.
 fn help(alloc: Global, words: &[&str]) -> Result<String, AllocError> {
     match command(alloc)?.try_get_matches_from(words) {
+        Err(error) if error.kind() == ErrorKind::OutOfMemory => Err(AllocError),
         Err(error) => error.to_string(alloc),
         // Such words choose nothing to do.
         Ok(_) => Ok(String::new(alloc)),

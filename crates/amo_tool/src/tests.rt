@@ -129,7 +129,6 @@ seed differ.
 
 Output, a line:
   events E, link faults F  the journals have E events, and faults of the system lost F packets
-Until then a line on standard error tells how far the run is, where that is a terminal.
 
 Status:
   0  the journal is written; `amo audit` of it prints `yes`
