@@ -2,7 +2,7 @@
 use crate::commands::{NAME, command};
 use crate::outline::{Value, has_value, push_next, value_of, whole, words_of};
 use clap::error::ErrorKind;
-use clap::{Arg, Command};
+use clap::{Arg, Command, Error};
 use std::alloc::{AllocError, Global};
 
 /// The page.
@@ -24,11 +24,18 @@ pub(crate) fn page(alloc: Global) -> Result<String, AllocError> {
 /// What `clap` says where these words ask for help.
 fn help(alloc: Global, words: &[&str]) -> Result<String, AllocError> {
     match command(alloc)?.try_get_matches_from(words) {
-        Err(error) if error.kind() == ErrorKind::OutOfMemory => Err(AllocError),
-        Err(error) => error.to_string(alloc),
+        Err(error) => shown(alloc, &error),
         // Such words choose nothing to do.
         Ok(_) => Ok(String::new(alloc)),
     }
+}
+
+/// What `clap` shows; nothing of it where memory was refused, since it says that too in a text of its own.
+fn shown(alloc: Global, error: &Error) -> Result<String, AllocError> {
+    if error.kind() == ErrorKind::OutOfMemory {
+        return Err(AllocError);
+    }
+    error.to_string(alloc)
 }
 
 /// How help says that a command is called.

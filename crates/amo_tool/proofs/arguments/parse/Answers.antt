@@ -9,9 +9,14 @@ use Rattle.amo_tool.proofs.arguments.parse.Goals as goal
 pub returns-in-Some-subcommand_matches-clause-chosen : goal.returns-in-Some-subcommand_matches-clause-chosen
 returns-in-Some-subcommand_matches-clause-chosen c =
     let command : HasCommand (map string_bytes c.args.arguments.now) (codes "run") (rows_of (found_of c.in-Some-subcommand_matches.run'.now)) = search rules in
-    IfOk-weaker c.parse_run.result _ _ (λ chosen h. if_some chosen (λ s k. chooses_run _ _ s command k) h) c.parse_run.ensures.chosen
+    IfOk-weaker c.parse_run.result _ _ (λ chosen h. if_some chosen (λ s k. chooses_run (map string_bytes c.args.arguments.now) (rows_of (found_of c.in-Some-subcommand_matches.run'.now)) s command k) h) c.parse_run.ensures.chosen
 
 pub returns-in-Some-subcommand_matches-clause-seed : goal.returns-in-Some-subcommand_matches-clause-seed
 returns-in-Some-subcommand_matches-clause-seed c =
     let command : HasCommand (map string_bytes c.args.arguments.now) (codes "run") (rows_of (found_of c.in-Some-subcommand_matches.run'.now)) = search rules in
     IfOk-weaker c.parse_run.result _ _ (λ chosen h. if_none chosen (λ lacks. (_, command, lacks)) h) c.parse_run.ensures.seed
+
+pub returns-in-Some-subcommand_matches-4-clause-chosen : goal.returns-in-Some-subcommand_matches-4-clause-chosen
+returns-in-Some-subcommand_matches-4-clause-chosen c =
+    let command : HasCommand (map string_bytes c.args.arguments.now) (codes "man") (rows_of (found_of c.in-Some-subcommand_matches-4._manual.now)) = search rules in
+    (rows_of (found_of c.in-Some-subcommand_matches-4._manual.now), command)
