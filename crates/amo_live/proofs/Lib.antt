@@ -3,3 +3,4 @@ pub mod Opens
 pub mod Scans
 pub mod Suiting
 pub mod Readers
+pub mod Returning

@@ -1,9 +1,12 @@
 -- How a host opens.
-use Rattle.std.proofs.Common.{◌≡◌, ℕ, zero, suc, ◌+◌, ◌<◌, ◌≤◌, List, [], ◌∷◌, ◌++◌, Option, Some, length, slice_get, refl, sym, ap, ◌∙◌, subst, arith}
+use Rattle.std.proofs.Common.{◌≡◌, ℕ, zero, suc, ◌+◌, ◌<◌, ◌≤◌, List, [], ◌∷◌, ◌++◌, Option, Some, length, map, slice_get, refl, sym, ap, ◌∙◌, subst, arith}
+use Rattle.std.proofs.lemmas.Option.{same_Some}
+use Rattle.atomic_table.specs.Seated.{TableId}
 use Rattle.amo_object.specs.declared.step.End.{End}
 use Rattle.amo_world.specs.Stream.{IsStream}
-use Rattle.amo_book.specs.Book.{AreLawful, IsLawful, Lists}
-use Rattle.amo_live.specs.Host.{sides_from}
+use Rattle.amo_book.specs.Book.{AreFirstCharges, AreLawful, IsLawful, Lists, first_charge}
+use Rattle.amo_book.specs.Charge.{ChargeState}
+use Rattle.amo_live.specs.Host.{side_of, sides_from}
 
 sides_more : (side : End) (k n j : ℕ) → j ≡ k + n → sides_from side k (n + 1) ≡ sides_from side k n ++ (side, j) ∷ []
 sides_more side k zero j is = ap (λ (m : ℕ). (side, m) ∷ []) (omega arith)
@@ -43,3 +46,18 @@ last_of_two f all [] x two is = let long = two.0 in let count = ap length is in 
 last_of_two f all (a ∷ []) x two is =
     let here : slice_get all 1 ≡ Some x = ap (λ l. slice_get l 1) is in let there = two.1 1 (omega arith) in cc
 last_of_two f all (a ∷ b ∷ rest) x two is = let long = two.0 in let count = ap length is in let more = long_enough rest x in absurd (omega arith)
+
+-- charges that are for these sides, one by one
+same_sides : (sides : List (End × ℕ)) (charges : List ChargeState) → length charges ≡ length sides
+    → ((k : ℕ) (s : End × ℕ) → slice_get sides k ≡ Some s → (c : ChargeState) × (slice_get charges k ≡ Some c) × (side_of c ≡ s)) → map side_of charges ≡ sides
+same_sides [] [] long at = refl
+same_sides [] (c ∷ cs) long at = absurd (omega arith)
+same_sides (s ∷ ss) [] long at = absurd (omega arith)
+same_sides (s ∷ ss) (c ∷ cs) long at =
+    let here = at 0 s refl in
+    let same : side_of c ≡ s = ap side_of (same_Some c here.0 here.1) ∙ here.2 in
+    ap (λ l. side_of c ∷ l) (same_sides ss cs (omega arith) (λ k t e. at (suc k) t e)) ∙ ap (λ t. t ∷ ss) same
+
+-- the charges of a book that opens stand in the order of its sides
+pub in_order : (id : TableId) (sides : List (End × ℕ)) (charges : List ChargeState) → AreFirstCharges id sides charges → map side_of charges ≡ sides
+in_order id sides charges first = same_sides sides charges first.0 (λ k s e. (first_charge id k s.0 s.1, first.1 k s.0 s.1 e, refl))

@@ -16,7 +16,7 @@ use Rattle.amo_audit.specs.Journal.{HasAct, HasReply, IsPacketOf}
 use Rattle.amo_audit.proofs.Packets.{packet_spelt}
 use Rattle.amo_book.specs.Pass.{Answer}
 use Rattle.amo_live.specs.declared.fault.LiveFault.{LiveFault}
-use Rattle.amo_live.specs.Host.{HostState, Did, IsHostAct, Suits}
+use Rattle.amo_live.specs.Host.{HostState, Did, DidAt, IsHostAct, Suits}
 
 pub start_suits : (c : ChargeState) (word : ℕ) → c.side ≡ Sender → word < 2 ^ 64 → Suits c (act.Start word)
 start_suits c word is small = (tt, subst (λ (s : End). HasAct s c.stream (act.Start word)) (sym is) small)
@@ -64,18 +64,19 @@ acts_done act.Crash h = tt
 acts_done act.Recover h = tt
 
 -- there is something in each place
-stands : {X : Type 0} (xs : List X) (i : ℕ) → i < length xs → (x : X) × (slice_get xs i ≡ Some x)
+pub stands : {X : Type 0} (xs : List X) (i : ℕ) → i < length xs → (x : X) × (slice_get xs i ≡ Some x)
 stands [] i within = absurd (omega arith)
 stands (x ∷ xs) zero within = (x, refl)
 stands (x ∷ xs) (suc i) within = stands xs i (omega arith)
 
 -- what was done at the charge in a place was done on its stream
 pub did_at : {L S : Type 0} (h g : HostState L S) (place stream : ℕ) (a : Act) (r : Result (Option Mode) LiveFault) → place < length h.charges
-    → ((c : ChargeState) → slice_get h.charges place ≡ Some c → c.stream ≡ stream) → IfOk r (λ mode. (c : ChargeState) → slice_get h.charges place ≡ Some c → Did h g c.stream a mode) → IfOk r (Did h g stream a)
+    → ((c : ChargeState) → slice_get h.charges place ≡ Some c → c.stream ≡ stream) → IfOk r (λ mode. (c : ChargeState) → slice_get h.charges place ≡ Some c → DidAt h g c.side c.stream a mode) → IfOk r (Did h g stream a)
 did_at h g place stream a (Err fault) within of did = tt
-did_at h g place stream a (Ok mode) within of did =
+did_at h g place stream a (Ok None) within of did = let there = stands h.charges place within in did there.0 there.1
+did_at h g place stream a (Ok (Some mode)) within of did =
     let there = stands h.charges place within in
-    subst (λ (n : ℕ). Did h g n a mode) (of there.0 there.1) (did there.0 there.1)
+    subst (λ (n : ℕ). Did h g n a (Some mode)) (of there.0 there.1) (there.0.side, did there.0 there.1)
 
 -- a put has its line, whatever was replied
 pub put_spelt : (stream : ℕ) (m copy : List ℕ) (known : Answer) → IsMessage m → copy ≡ m → IfSome known (λ k. (x : List ℕ) → HasReply (act.Put x) k.0) → IfSome known (λ k. HasAct Sender stream (act.Put copy) × HasReply (act.Put copy) k.0)

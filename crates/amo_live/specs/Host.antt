@@ -1,5 +1,5 @@
 -- A live host: one side of its streams, a link, and a journal that is ahead of all that leaves.
-use Rattle.std.specs.Prelude.{◌≡◌, ℕ, zero, suc, ◌<◌, Option, Some, None, List, [], ◌∷◌, ◌++◌, take}
+use Rattle.std.specs.Prelude.{◌≡◌, ℕ, zero, suc, ◌<◌, Option, Some, None, List, [], ◌∷◌, ◌++◌, take, map}
 use Rattle.amo_object.specs.declared.step.End.{End}
 use Rattle.amo_packet.specs.declared.packet.OwnedPacket.{OwnedPacket}
 use Rattle.amo_packet.specs.Grammar.{Spells}
@@ -8,6 +8,7 @@ use Rattle.amo_core.specs.declared.act.Act.TheVariants as act
 use Rattle.amo_core.specs.declared.mode.Mode.{Mode}
 use Rattle.amo_core.specs.declared.reply.Reply.TheVariants.{Done, Got}
 use Rattle.amo_core.specs.Automaton.{mode_of, Writes}
+use Rattle.amo_world.specs.declared.event.Event.{Event}
 use Rattle.amo_world.specs.Stream.{emission_of}
 use Rattle.amo_world.specs.History.{stream_after}
 use Rattle.amo_book.specs.Book.{BookState, Each}
@@ -25,16 +26,22 @@ pub record HostState (L S : Type 0) : Type 0 where
   pub outbox : List (List ℕ)
   pub journal : JournalState S
 
--- the pass and the charges are the book's, and a journal has a line for the pass
+-- the side that a charge is for
+abbrev pub side_of : ChargeState → End × ℕ
+side_of c = (c.side, c.stream)
+
+-- the pass and the charges are the book's, the charges in the order of its sides; and a journal has a line for the pass
 pub record IsHost {L S : Type 0} (h : HostState L S) : Type 0 where
   pub pass : h.pass.book ≡ h.book.id
   pub charges : Each (IsChargeOf h.book.id h.book.sides) h.charges
+  pub order : map side_of h.charges ≡ h.book.sides
   pub number : h.pass.number < 64
 
--- no call but that of `send` touches the link, and none the book's name or how the journal was opened
+-- no call but that of `send` touches the link, and none the book's name, what the charges are for, or how the journal was opened
 pub record Stays {L S : Type 0} (h g : HostState L S) : Type 0 where
   pub book : g.book ≡ h.book
   pub number : g.pass.number ≡ h.pass.number
+  pub charges : map side_of g.charges ≡ map side_of h.charges
   pub link : g.link ≡ h.link
   pub journal : IsSameJournal h.journal g.journal
 
@@ -56,6 +63,11 @@ pub record Happens {L S : Type 0} (h g : HostState L S) (side : End) (stream : �
 -- nothing happened
 abbrev pub IsIdle : {L S : Type 0} → HostState L S → HostState L S → Type 0
 IsIdle h g = (g.pass ≡ h.pass) × (g.outbox ≡ h.outbox)
+
+-- what came of an act at this side of this stream: that event, or none
+abbrev pub DidAt : {L S : Type 0} → HostState L S → HostState L S → End → ℕ → Act → Option Mode → Type 0
+DidAt h g side stream a None = IsIdle h g
+DidAt h g side stream a (Some mode) = Happens h g side stream a mode
 
 -- what came of an act: that event, or none
 abbrev pub Did : {L S : Type 0} → HostState L S → HostState L S → ℕ → Act → Option Mode → Type 0
@@ -85,6 +97,20 @@ pub record IsOpened {L S : Type 0} (side : End) (streams : ℕ) (link : L) (jour
   pub link_is : h.link ≡ link
   pub outbox : h.outbox ≡ []
   pub journal_is : h.journal ≡ journal
+
+-- the event of an act of a host's
+abbrev pub done : ℕ → End → ℕ → Act → Event
+done pass side stream a = event pass side stream a Done
+
+-- the events by which these sides come back, over what was before, newest first: each of them crashed and is up again, in their order
+abbrev pub comes_back : ℕ → List (End × ℕ) → List Event → List Event
+comes_back pass [] past = past
+comes_back pass ((side, stream) ∷ sides) past = comes_back pass sides (done pass side stream act.Recover ∷ done pass side stream act.Crash ∷ past)
+
+-- what a host notes first over a journal of so many lines: in an empty one nothing, in one that goes on that each side came back
+abbrev pub first_events : ℕ → List (End × ℕ) → ℕ → List Event
+first_events pass sides zero = []
+first_events pass sides (suc n) = comes_back pass sides []
 
 -- what came of a datagram with this word: the packet that it spells was delivered on its stream, or nothing happened
 abbrev pub Delivered : {L S : Type 0} → HostState L S → HostState L S → ℕ → List ℕ → ℕ → Option (ℕ × Mode) → Type 0

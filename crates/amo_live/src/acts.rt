@@ -1,9 +1,10 @@
 //! The acts of a host: each is an event, then its line in the journal, then a packet that is to leave.
-ghost use Rattle.std.specs.Prelude.{◌≡◌, ◌<◌, IfOk, IfErr, OnOk, OnErr, Some, length, slice_get};
+ghost use Rattle.std.specs.Prelude.{◌≡◌, ◌<◌, ◌∷◌, IfOk, IfErr, OnOk, OnErr, Some, length, slice_get};
 ghost use Rattle.amo_core.specs.declared.act.Act.TheVariants as act;
 ghost use Rattle.amo_book.specs.Charge.{ChargeState, IsChargeOf};
 ghost use Rattle.amo_book.specs.Drive.{Driven, Unchanged};
-ghost use Rattle.amo_live.specs.Host.{Delivered, Did, IsBegun, IsHostAct, IsNoted, Stays, Suits};
+ghost use Rattle.amo_book.specs.Pass.{mine};
+ghost use Rattle.amo_live.specs.Host.{Delivered, Did, DidAt, IsBegun, IsHostAct, IsNoted, Stays, Suits, comes_back, done};
 
 use crate::noting::note_answer;
 use crate::{Host, LiveFault};
@@ -17,7 +18,7 @@ use std::alloc::Global;
 
 impl<L: Link, S: Sink> Host<L, S> {
     /// Begins a handshake on a stream under this word, if its sender is at rest and a message waits. Answers the kind of its mode then.
-    #[tactic(auto, using(crate::proofs::Suiting::did_at, crate::proofs::Suiting::start_suits))]
+    #[tactic(auto, using(crate::proofs::Suiting::start_suits))]
     pub fn start(&mut self, stream: u32, word: u64) -> Result<Option<Mode>, LiveFault>
         requires { IsNoted S.written self.old }
         ensures did { IfOk result (Did self.old self.new stream (act.Start word)) }
@@ -34,7 +35,7 @@ impl<L: Link, S: Sink> Host<L, S> {
     }
 
     /// Emits the packet of a stream's mode again, if it has one.
-    #[tactic(auto, using(crate::proofs::Suiting::did_at, crate::proofs::Suiting::resend_suits))]
+    #[tactic(auto, using(crate::proofs::Suiting::resend_suits))]
     pub fn resend(&mut self, stream: u32) -> Result<Option<Mode>, LiveFault>
         requires { IsNoted S.written self.old }
         ensures did { IfOk result (Did self.old self.new stream act.Resend) }
@@ -49,7 +50,7 @@ impl<L: Link, S: Sink> Host<L, S> {
     }
 
     /// A stream's side goes down, and forgets everything.
-    #[tactic(auto, using(crate::proofs::Suiting::did_at, crate::proofs::Suiting::crash_suits))]
+    #[tactic(auto, using(crate::proofs::Suiting::crash_suits))]
     pub fn crash(&mut self, stream: u32) -> Result<Option<Mode>, LiveFault>
         requires { IsNoted S.written self.old }
         ensures did { IfOk result (Did self.old self.new stream act.Crash) }
@@ -64,7 +65,7 @@ impl<L: Link, S: Sink> Host<L, S> {
     }
 
     /// A stream's side is up again.
-    #[tactic(auto, using(crate::proofs::Suiting::did_at, crate::proofs::Suiting::recover_suits))]
+    #[tactic(auto, using(crate::proofs::Suiting::recover_suits))]
     pub fn recover(&mut self, stream: u32) -> Result<Option<Mode>, LiveFault>
         requires { IsNoted S.written self.old }
         ensures did { IfOk result (Did self.old self.new stream act.Recover) }
@@ -107,12 +108,44 @@ impl<L: Link, S: Sink> Host<L, S> {
         }
     }
 
+    /// Comes back from a crash of its process: each side goes down, and is up again, in the order of the streams.
+    pub fn come_back(&mut self) -> Result<(), LiveFault>
+        requires { IsNoted S.written self.old }
+        ensures back { OnOk result (mine self.new.pass ≡ comes_back self.old.pass.number self.old.book.sides (mine self.old.pass)) }
+        ensures noted { OnOk result (IsNoted S.written self.new) }
+        ensures begun { OnErr result (IsBegun S.written self.new) }
+        ensures stays { Stays self.old self.new }
+    {
+        let count = self.charges.len();
+        'places: for place in 0..count {
+            self.manage(place, Act::Crash)?;
+            self.manage(place, Act::Recover)?;
+        }
+        Ok(())
+    }
+
+    /// Does this act at the charge in this place, or cannot go on.
+    fn manage(&mut self, place: usize, act: Act) -> Result<(), LiveFault>
+        requires noted { IsNoted S.written self.old }
+        requires place { place < length self.old.charges }
+        requires suits { (c : ChargeState) → slice_get self.old.charges place ≡ Some c → Suits c act }
+        ensures did { OnOk result ((c : ChargeState) → slice_get self.old.charges place ≡ Some c → mine self.new.pass ≡ done self.old.pass.number c.side c.stream act ∷ mine self.old.pass) }
+        ensures noted { OnOk result (IsNoted S.written self.new) }
+        ensures begun { OnErr result (IsBegun S.written self.new) }
+        ensures stays { Stays self.old self.new }
+    {
+        match self.perform(place, act)? {
+            Some(_) => Ok(()),
+            None => Err(LiveFault::Busy),
+        }
+    }
+
     /// Does this act at the charge in this place, notes it, and keeps what it emitted for [`Host::send`].
     fn perform(&mut self, place: usize, act: Act) -> Result<Option<Mode>, LiveFault>
         requires noted { IsNoted S.written self.old }
         requires place { place < length self.old.charges }
         requires suits { (c : ChargeState) → slice_get self.old.charges place ≡ Some c → Suits c act }
-        ensures did { IfOk result (λ mode. (c : ChargeState) → slice_get self.old.charges place ≡ Some c → Did self.old self.new c.stream act mode) }
+        ensures did { IfOk result (λ mode. (c : ChargeState) → slice_get self.old.charges place ≡ Some c → DidAt self.old self.new c.side c.stream act mode) }
         ensures noted { OnOk result (IsNoted S.written self.new) }
         ensures begun { OnErr result (IsBegun S.written self.new) }
         ensures stays { Stays self.old self.new }

@@ -19,6 +19,9 @@ pub enum LiveFault {
     /// The journal has as many lines as can be numbered.
     #[error("the journal is full")]
     Full,
+    /// Another call was under way at a side. In a process with one thread there is none.
+    #[error("busy")]
+    Busy,
 }
 
 impl From<JournalFault> for LiveFault {

@@ -1,6 +1,7 @@
 //! A whole process, from the start of its host to its end.
-ghost use Rattle.std.specs.Prelude.{◌≤◌, IfOk};
-ghost use Rattle.amo_live.specs.Host.{IsNoted};
+ghost use Rattle.std.specs.Prelude.{◌≡◌, ◌≤◌, IfOk};
+ghost use Rattle.amo_book.specs.Pass.{mine};
+ghost use Rattle.amo_live.specs.Host.{IsNoted, first_events, sides_from};
 
 use crate::{
     Desk, Durable, Ended, FreshWords, Host, Input, Journal, Limits, LiveFault, ProcessFault, Scan,
@@ -105,15 +106,18 @@ pub fn start<L: Link + Drop, S: Durable + Drop, W: Words + Drop>(
     words: W,
 ) -> Result<Service<L, S, W>, LiveFault>
     requires { (1 ≤ setup.streams) × (setup.streams ≤ 256) }
-    ensures { IfOk result (λ service. IsNoted S.written service.host) }
+    // The journal has all lines so far, and goes on where it was read to the end. What it was handed first tells of a crash of each
+    // side and its recovery, where it has a line, and else of nothing.
+    ensures noted { IfOk result (λ service. IsNoted S.written service.host) }
+    ensures journal { IfOk result (λ service. (service.host.journal.opened ≡ sink) × (service.host.journal.first ≡ scan.lines)) }
+    ensures back { IfOk result (λ service. mine service.host.pass ≡ first_events service.host.pass.number (sides_from setup.side 1 setup.streams) scan.lines) }
 {
     let lines = scan.lines();
     let words = FreshWords::new(words, scan.into_used());
     let journal = Journal::new(alloc, sink, lines);
-    let host = Host::open(alloc, setup.side, setup.streams, link, journal)?;
-    let mut service = Service::new(alloc, host, words, setup)?;
+    let mut host = Host::open(alloc, setup.side, setup.streams, link, journal)?;
     if lines > 0 {
-        service.come_back()?;
+        host.come_back()?;
     }
-    Ok(service)
+    Ok(Service::new(alloc, host, words, setup)?)
 }

@@ -1,5 +1,5 @@
 //! What a live host does with datagrams, times and its clients' messages.
-ghost use Rattle.std.specs.Prelude.{IfOk, OnOk};
+ghost use Rattle.std.specs.Prelude.{◌≡◌, IfOk, OnOk};
 ghost use Rattle.amo_live.specs.Host.{IsNoted};
 
 use crate::lines::{Spelling, Word, push_message, push_word};
@@ -95,7 +95,7 @@ impl<L: Link + Drop, S: Sink + Drop, W: Words + Drop> Service<L, S, W> {
         setup: Setup,
     ) -> Result<Service<L, S, W>, AllocError>
         requires { IsNoted S.written host }
-        ensures { IfOk result (λ service. IsNoted S.written service.host) }
+        ensures { IfOk result (λ service. service.host ≡ host) }
     {
         let mode = match setup.side {
             End::Sender => Mode::Quiet,
@@ -378,20 +378,6 @@ impl<L: Link, S: Sink, W: Words> Service<L, S, W> {
                     self.enter(stream, mode, true, now);
                 }
             }
-        }
-        Ok(())
-    }
-
-    /// Tells the journal that each stream's side crashed, and is up again.
-    pub fn come_back(&mut self) -> Result<(), LiveFault>
-        requires { IsNoted S.written self.old.host }
-        ensures { OnOk result (IsNoted S.written self.new.host) }
-    {
-        let streams = self.setup.streams;
-        'streams: for place in 0..streams {
-            let stream = place.saturating_add(1);
-            self.host.crash(stream)?;
-            self.host.recover(stream)?;
         }
         Ok(())
     }

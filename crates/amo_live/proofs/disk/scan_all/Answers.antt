@@ -1,4 +1,4 @@
-use Rattle.std.proofs.Common.{◌≡◌, [], ◌++◌, take, refl, arith}
+use Rattle.std.proofs.Common.{[], ◌++◌, take, arith}
 use Rattle.amo_live.proofs.Readers.{none_taken, more_taken, all_taken}
 use Rattle.amo_live.proofs.disk.scan_all.Goals as goal
 

@@ -1,7 +1,6 @@
-use Rattle.std.proofs.Common.{◌≡◌, List, ℕ, sym, subst}
+use Rattle.std.proofs.Common.{sym, subst}
 use Rattle.amo_object.specs.declared.step.End.TheVariants.{Receiver}
 use Rattle.amo_core.specs.declared.act.Act.TheVariants as act
-use Rattle.amo_book.specs.Calls.{get_answer}
 use Rattle.amo_book.specs.Pass.{Answer, Grown}
 use Rattle.amo_live.specs.Host.{HostState, IsNoted}
 use Rattle.amo_live.proofs.host.Host.get.Goals as goal

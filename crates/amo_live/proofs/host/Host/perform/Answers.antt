@@ -1,14 +1,14 @@
-use Rattle.std.proofs.Common.{◌≡◌, ℕ, ◌<◌, length, slice_get, Some, sym, ap, subst, ◌∙◌}
+use Rattle.std.proofs.Common.{◌≡◌, ℕ, ◌<◌, length, slice_get, Some, refl, sym, ap, subst, ◌∙◌}
 use Rattle.std.proofs.lemmas.Option.{same_Some}
 use Rattle.amo_object.specs.declared.step.End.{End}
 use Rattle.amo_core.specs.declared.reply.Reply.TheVariants.{Done}
 use Rattle.amo_audit.specs.Journal.{HasAct}
-use Rattle.amo_book.specs.Charge.{ChargeState}
 use Rattle.amo_book.specs.Pass.{PassState, GrownBy, event, mine}
 use Rattle.amo_host.proofs.StationLemmas.{read_at}
-use Rattle.amo_live.specs.Host.{HostState, Happens, IsNoted}
+use Rattle.amo_live.specs.Host.{HostState, IsNoted, side_of}
 use Rattle.amo_live.specs.Noted.{Holds}
 use Rattle.amo_live.proofs.Onwards.{begins_whole}
+use Rattle.amo_live.proofs.Returning.{host_after, stays_in_order}
 use Rattle.amo_live.proofs.Suiting.{acts_done}
 use Rattle.amo_live.proofs.host.Host.perform.Goals as goal
 
@@ -75,15 +75,84 @@ returns-clause-did g c =
     let driven = c.in-Ok.ensures.driven in
     λ other there.
     let same : charge ≡ other = same_Some charge other (sym at ∙ (subst (λ (t : HostState g.row.L.Denot g.row.S.Denot). slice_get t.charges c.args.place ≡ Some other) (sym c.self.view_is) there)) in
-    rw (← c.self.view_is) (rw (← same) (
-      charge.side,
-      record {
-        grown = driven.grown;
-        mode_is = driven.mode;
-        before = _;
-        buffer = c.drive.new.out;
-        length = c.in-Ok.done.length;
-        emitted = driven.emitted;
-        outbox = c.in-Ok-push.ensures.added;
-      },
-    ))
+    rw (← c.self.view_is) (rw (← same) (record {
+      grown = driven.grown;
+      mode_is = driven.mode;
+      before = _;
+      buffer = c.drive.new.out;
+      length = c.in-Ok.done.length;
+      emitted = driven.emitted;
+      outbox = c.in-Ok-push.ensures.added;
+    }))
+
+pub invariant_of-self-in-Err : goal.invariant_of-self-in-Err
+invariant_of-self-in-Err g c =
+    let charge = c.index_mut-charge.result.now in
+    let h : HostState g.row.L.Denot g.row.S.Denot = record { book = c.self.inside.book; pass = c.self.inside.pass; charges = c.self.inside.charges.items; link = c.self.inside.link; outbox = c.self.inside.outbox; journal = c.self.inside.journal } in
+    let within : c.args.place < length h.charges = subst (λ (t : HostState g.row.L.Denot g.row.S.Denot). c.args.place < length t.charges) (sym c.self.view_is) c.requires.place in
+    let at = read_at h.charges c.args.place charge within c.index_mut-charge.ensures.value in
+    let driven = c.in-Ok.ensures.driven in
+    host_after h.book h.charges c.args.place charge c.drive.new.charge c.in-Ok.done.mode h.pass c.drive.new.pass h.link h.outbox h.outbox h.journal c.note_answer.new.journal c.self.invariant at driven.charge driven.grown.book driven.grown.number
+
+pub invariant_of-self-in_default : goal.invariant_of-self-in_default
+invariant_of-self-in_default g c =
+    let charge = c.index_mut-charge.result.now in
+    let h : HostState g.row.L.Denot g.row.S.Denot = record { book = c.self.inside.book; pass = c.self.inside.pass; charges = c.self.inside.charges.items; link = c.self.inside.link; outbox = c.self.inside.outbox; journal = c.self.inside.journal } in
+    let within : c.args.place < length h.charges = subst (λ (t : HostState g.row.L.Denot g.row.S.Denot). c.args.place < length t.charges) (sym c.self.view_is) c.requires.place in
+    let at = read_at h.charges c.args.place charge within c.index_mut-charge.ensures.value in
+    let driven = c.in-Ok.ensures.driven in
+    host_after h.book h.charges c.args.place charge c.drive.new.charge c.in-Ok.done.mode h.pass c.drive.new.pass h.link h.outbox c.push.new.self h.journal c.note_answer.new.journal c.self.invariant at driven.charge driven.grown.book driven.grown.number
+
+pub invariant_of-self-2 : goal.invariant_of-self-2
+invariant_of-self-2 g c =
+    let charge = c.index_mut-charge.result.now in
+    let h : HostState g.row.L.Denot g.row.S.Denot = record { book = c.self.inside.book; pass = c.self.inside.pass; charges = c.self.inside.charges.items; link = c.self.inside.link; outbox = c.self.inside.outbox; journal = c.self.inside.journal } in
+    let within : c.args.place < length h.charges = subst (λ (t : HostState g.row.L.Denot g.row.S.Denot). c.args.place < length t.charges) (sym c.self.view_is) c.requires.place in
+    let at = read_at h.charges c.args.place charge within c.index_mut-charge.ensures.value in
+    let driven = c.in-Ok.ensures.driven in
+    host_after h.book h.charges c.args.place charge c.drive.new.charge c.in-Ok.done.mode h.pass c.drive.new.pass h.link h.outbox c.push.new.self h.journal c.note_answer.new.journal c.self.invariant at driven.charge driven.grown.book driven.grown.number
+
+pub returns-in-Err-clause-stays : goal.returns-in-Err-clause-stays
+returns-in-Err-clause-stays g c =
+    let charge = c.index_mut-charge.result.now in
+    let h : HostState g.row.L.Denot g.row.S.Denot = record { book = c.self.inside.book; pass = c.self.inside.pass; charges = c.self.inside.charges.items; link = c.self.inside.link; outbox = c.self.inside.outbox; journal = c.self.inside.journal } in
+    let within : c.args.place < length h.charges = subst (λ (t : HostState g.row.L.Denot g.row.S.Denot). c.args.place < length t.charges) (sym c.self.view_is) c.requires.place in
+    let at = read_at h.charges c.args.place charge within c.index_mut-charge.ensures.value in
+    let driven = c.in-Ok.ensures.driven in
+    rw (← c.self.view_is) (record {
+      book = refl;
+      number = driven.grown.number;
+      charges = stays_in_order h.charges c.args.place charge c.drive.new.charge at (ap side_of {y = record charge { mode = c.in-Ok.done.mode }} driven.charge);
+      link = refl;
+      journal = c.in-Err.ensures.same;
+    })
+
+pub returns-in_default-clause-stays : goal.returns-in_default-clause-stays
+returns-in_default-clause-stays g c =
+    let charge = c.index_mut-charge.result.now in
+    let h : HostState g.row.L.Denot g.row.S.Denot = record { book = c.self.inside.book; pass = c.self.inside.pass; charges = c.self.inside.charges.items; link = c.self.inside.link; outbox = c.self.inside.outbox; journal = c.self.inside.journal } in
+    let within : c.args.place < length h.charges = subst (λ (t : HostState g.row.L.Denot g.row.S.Denot). c.args.place < length t.charges) (sym c.self.view_is) c.requires.place in
+    let at = read_at h.charges c.args.place charge within c.index_mut-charge.ensures.value in
+    let driven = c.in-Ok.ensures.driven in
+    rw (← c.self.view_is) (record {
+      book = refl;
+      number = driven.grown.number;
+      charges = stays_in_order h.charges c.args.place charge c.drive.new.charge at (ap side_of {y = record charge { mode = c.in-Ok.done.mode }} driven.charge);
+      link = refl;
+      journal = c.in-Ok-note_answer.ensures.same;
+    })
+
+pub returns-clause-stays : goal.returns-clause-stays
+returns-clause-stays g c =
+    let charge = c.index_mut-charge.result.now in
+    let h : HostState g.row.L.Denot g.row.S.Denot = record { book = c.self.inside.book; pass = c.self.inside.pass; charges = c.self.inside.charges.items; link = c.self.inside.link; outbox = c.self.inside.outbox; journal = c.self.inside.journal } in
+    let within : c.args.place < length h.charges = subst (λ (t : HostState g.row.L.Denot g.row.S.Denot). c.args.place < length t.charges) (sym c.self.view_is) c.requires.place in
+    let at = read_at h.charges c.args.place charge within c.index_mut-charge.ensures.value in
+    let driven = c.in-Ok.ensures.driven in
+    rw (← c.self.view_is) (record {
+      book = refl;
+      number = driven.grown.number;
+      charges = stays_in_order h.charges c.args.place charge c.drive.new.charge at (ap side_of {y = record charge { mode = c.in-Ok.done.mode }} driven.charge);
+      link = refl;
+      journal = c.in-Ok-note_answer.ensures.same;
+    })
