@@ -4,3 +4,4 @@ pub mod Scans
 pub mod Suiting
 pub mod Readers
 pub mod Returning
+pub mod Putting

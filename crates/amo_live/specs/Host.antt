@@ -6,6 +6,8 @@ use Rattle.amo_packet.specs.Grammar.{Spells}
 use Rattle.amo_core.specs.declared.act.Act.{Act}
 use Rattle.amo_core.specs.declared.act.Act.TheVariants as act
 use Rattle.amo_core.specs.declared.mode.Mode.{Mode}
+use Rattle.amo_core.specs.declared.reply.Reply.{Reply}
+use Rattle.amo_core.specs.declared.reply.Reply.TheVariants as reply
 use Rattle.amo_core.specs.declared.reply.Reply.TheVariants.{Done, Got}
 use Rattle.amo_core.specs.Automaton.{mode_of, Writes}
 use Rattle.amo_world.specs.declared.event.Event.{Event}
@@ -122,6 +124,21 @@ Delivered h g newest bytes word (Some (stream, mode)) =
 abbrev pub message_in : Answer → Option (List ℕ)
 message_in (Some (Got m, position)) = Some m
 message_in _ = None
+
+-- the message that an event put, with its stream, if it did
+abbrev pub put_by : ℕ → Act → Reply → List (ℕ × List ℕ)
+put_by stream (act.Put m) reply.Ok = (stream, m) ∷ []
+put_by _ _ _ = []
+
+-- the messages that were put, each with its stream; newest first
+abbrev pub puts_in : List Event → List (ℕ × List ℕ)
+puts_in [] = []
+puts_in (e ∷ past) = put_by e.stream e.act e.reply ++ puts_in past
+
+-- a message was put on a stream, once; or it came back, and nothing was put
+abbrev pub Puts : PassState → PassState → ℕ → List ℕ → Option (List ℕ) → Type 0
+Puts v w stream message None = puts_in (mine w) ≡ (stream, message) ∷ puts_in (mine v)
+Puts v w stream message (Some m) = (m ≡ message) × (puts_in (mine w) ≡ puts_in (mine v))
 
 -- given what sinks were written
 module _ {L S : Type 0} (written : S → Option (List ℕ)) where

@@ -1,6 +1,7 @@
 //! What a live host does with datagrams, times and its clients' messages.
 ghost use Rattle.std.specs.Prelude.{◌≡◌, IfOk, OnOk};
-ghost use Rattle.amo_live.specs.Host.{IsNoted};
+ghost use Rattle.amo_book.specs.Pass.{mine};
+ghost use Rattle.amo_live.specs.Host.{IsNoted, Puts, puts_in};
 
 use crate::lines::{Spelling, Word, push_message, push_word};
 use crate::timer::Timer;
@@ -131,8 +132,7 @@ impl<L: Link, S: Sink, W: Words> Service<L, S, W> {
 
     /// All of it was shown.
     pub fn clear_shown(&mut self)
-        requires { IsNoted S.written self.old.host }
-        ensures { IsNoted S.written self.new.host }
+        ensures { self.new.host ≡ self.old.host }
     {
         self.shown.clear();
     }
@@ -173,8 +173,7 @@ impl<L: Link, S: Sink, W: Words> Service<L, S, W> {
 
     /// From now on this is known of a stream.
     fn set_lane(&mut self, stream: u32, lane: Lane)
-        requires { IsNoted S.written self.old.host }
-        ensures { IsNoted S.written self.new.host }
+        ensures { self.new.host ≡ self.old.host }
     {
         let Some(place) = (stream as usize).checked_sub(1) else {
             return;
@@ -186,8 +185,7 @@ impl<L: Link, S: Sink, W: Words> Service<L, S, W> {
 
     /// The stream's side is in this mode now.
     fn enter(&mut self, stream: u32, mode: Mode, resent: bool, now: u64)
-        requires { IsNoted S.written self.old.host }
-        ensures { IsNoted S.written self.new.host }
+        ensures { self.new.host ≡ self.old.host }
     {
         if let Some(lane) = self.lane(stream) {
             let mut lane = lane;
@@ -198,6 +196,7 @@ impl<L: Link, S: Sink, W: Words> Service<L, S, W> {
 
     /// Puts a message on a stream, and begins its handshake if the stream is at rest. A message that is not taken comes back: the stream
     /// is full, or has no answer yet to the one before.
+    #[tactic(auto, using(crate::proofs::Putting::was_put, crate::proofs::Putting::was_refused))]
     pub fn put(
         &mut self,
         stream: u32,
@@ -205,7 +204,8 @@ impl<L: Link, S: Sink, W: Words> Service<L, S, W> {
         now: u64,
     ) -> Result<Option<Message>, LiveFault>
         requires { IsNoted S.written self.old.host }
-        ensures { OnOk result (IsNoted S.written self.new.host) }
+        ensures noted { OnOk result (IsNoted S.written self.new.host) }
+        ensures put { IfOk result (Puts self.old.host.pass self.new.host.pass stream message) }
     {
         let Some(lane) = self.lane(stream) else {
             return Ok(Some(message));
@@ -226,8 +226,7 @@ impl<L: Link, S: Sink, W: Words> Service<L, S, W> {
 
     /// A message more of this stream has no answer.
     fn owe(&mut self, stream: u32, lane: Lane)
-        requires { IsNoted S.written self.old.host }
-        ensures { IsNoted S.written self.new.host }
+        ensures { self.new.host ≡ self.old.host }
     {
         if !lane.owed {
             self.owed = self.owed.saturating_add(1);
@@ -244,9 +243,11 @@ impl<L: Link, S: Sink, W: Words> Service<L, S, W> {
     }
 
     /// Begins the handshake of a stream's next message, if its sender is at rest and one waits.
+    #[tactic(auto, using(crate::proofs::Putting::start_puts))]
     fn begin(&mut self, stream: u32, now: u64) -> Result<(), LiveFault>
         requires { IsNoted S.written self.old.host }
-        ensures { OnOk result (IsNoted S.written self.new.host) }
+        ensures noted { OnOk result (IsNoted S.written self.new.host) }
+        ensures none_put { OnOk result (puts_in (mine self.new.host.pass) ≡ puts_in (mine self.old.host.pass)) }
     {
         let Some(lane) = self.lane(stream) else {
             return Ok(());
