@@ -8,6 +8,7 @@ pub mod Subsequences
 mod Losing
 mod Replicas
 mod Runs
+mod Weaving
 mod Telling
 mod Gathering
 mod Seeing

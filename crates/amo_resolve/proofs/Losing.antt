@@ -5,14 +5,14 @@ use Rattle.std.proofs.lemmas.List.{append-nil, length-append, drop-drop, drop_mo
 use Rattle.std.proofs.lemmas.List.Edits.{length-remove}
 use Rattle.amo_object.specs.declared.status.Status.{Status}
 use Rattle.amo_object.specs.declared.status.Status.TheVariants.{No}
-use Rattle.amo_object.specs.declared.step.Step.{Step}
 use Rattle.amo_object.specs.declared.step.Step.TheVariants.{Lose, LoseAck}
 use Rattle.amo_object.specs.Queue.{QueueState, Allows, after, settled}
 use Rattle.amo_object.specs.Delivery.{IsSubsequence}
+use Rattle.amo_resolve.specs.declared.draft.Draft.{Draft}
 use Rattle.amo_resolve.specs.declared.replica.Replica.{Replica}
-use Rattle.amo_resolve.specs.Explanation.{LeadsTo}
 use Rattle.amo_resolve.specs.Plan.{last, Leaves}
 use Rattle.amo_resolve.specs.Telling.{IsSound, Settles, part, state_of, state_before, known_of, Looked, IsNeeded, OnlyLost}
+use Rattle.amo_resolve.specs.Weaving.{LeadsTo}
 use Rattle.amo_resolve.proofs.Falls.{sound_after, last-remove, subsequence-remove}
 use Rattle.amo_resolve.proofs.Lists.{part_more, whole_last, none_left, found, not_found, any_default}
 use Rattle.amo_resolve.proofs.Runs.{lost_on, lost_then}
@@ -151,7 +151,7 @@ losing_lost q now got first end left place inside l allowed missed same = record
     ]
 
 -- what waits last is looked at
-pub losing_on : (q now later : QueueState) (got : List (List ℕ)) (first end left next place : ℕ) (run longer : List Step) → (first < end → end ≤ length got)
+pub losing_on : (q now later : QueueState) (got : List (List ℕ)) (first end left next place : ℕ) (run longer : Draft) → (first < end → end ≤ length got)
     → Losing q now got first end left (place + 1) → Looked got first left next place run now longer later → Losing q later got first end next place
 losing_on q now later got first end left next place run longer inside l (inl f) =
     let some : first < left = omega (arith, f.0, f.1) in
@@ -177,10 +177,10 @@ losing_on q now later got first end left next place run longer inside l (inr f) 
         not_found got now.messages first left place (get_or got (left - 1) []) (get_or now.messages place []) some there within
         (default got (left - 1) (omega (arith, some, there))) (default now.messages place within) (λ equal. f.1 some (sym equal))
 
-pub lost_looked : (q now later : QueueState) (got : List (List ℕ)) (first left next place : ℕ) (run more longer : List Step)
+pub lost_looked : (q now later : QueueState) (got : List (List ℕ)) (first left next place : ℕ) (run more longer : Draft)
     → OnlyLost run q more now → Looked got first left next place more now longer later → OnlyLost run q longer later
 lost_looked q now later got first left next place run more longer lost (inl f) =
-    subst (λ (steps : List Step). OnlyLost run q steps later) (sym f.3) (subst (λ (x : QueueState). OnlyLost run q more x) (sym f.4) lost)
+    subst (λ (draft : Draft). OnlyLost run q draft later) (sym f.3) (subst (λ (x : QueueState). OnlyLost run q more x) (sym f.4) lost)
 lost_looked q now later got first left next place run more longer lost (inr f) =
     lost_then run more longer q now later lost (lost_on more longer now later (Lose place) refl f.2)
 
@@ -294,7 +294,7 @@ losing_refused got wanted old r end left place mode inside within l first known 
 ]
 
 -- one look more, for all that is looked at
-pub looked_on : (got : List (List ℕ)) (old r new : Replica) (end left next : ℕ) (run more longer : List Step)
+pub looked_on : (got : List (List ℕ)) (old r new : Replica) (end left next : ℕ) (run more longer : Draft)
     → (old.first < end → end ≤ length got) → r.first ≡ old.first → r.known ≡ old.known → length new.others + 1 ≡ length r.others
     → OnlyLost run (state_of got old) more (state_before got r (part got left end))
     → Losing (state_of got old) (state_before got r (part got left end)) got old.first end left (length (known_of got old) + length r.others)
@@ -316,7 +316,7 @@ looked_on got old r new end left next run more longer inside first known fewer l
     )
 
 -- before the first look
-pub looking : (got : List (List ℕ)) (old : Replica) (end : ℕ) (run : List Step) → old.first ≤ end
+pub looking : (got : List (List ℕ)) (old : Replica) (end : ℕ) (run : Draft) → old.first ≤ end
     → OnlyLost run (state_of got old) run (state_before got old (part got end end))
     × Losing (state_of got old) (state_before got old (part got end end)) got old.first end end (length (known_of got old) + length old.others)
 looking got old end run from =

@@ -6,11 +6,13 @@ use Rattle.std.proofs.lemmas.List.Edits.{length-remove, remove-append_left, remo
 use Rattle.std.proofs.lemmas.Option.{same_Some}
 use Rattle.amo_object.specs.declared.status.Status.{Status}
 use Rattle.amo_object.specs.declared.status.Status.TheVariants.{Yes, No}
-use Rattle.amo_object.specs.declared.step.Step.{Step}
 use Rattle.amo_object.specs.declared.step.Step.TheVariants.{Get, Lose}
 use Rattle.amo_object.specs.Queue.{QueueState, after, settled, without, is_any_down}
+use Rattle.amo_resolve.specs.declared.draft.Draft.{Draft}
+use Rattle.amo_resolve.specs.declared.draft.Loss.TheVariants.{Message}
 use Rattle.amo_resolve.specs.declared.replica.Replica.{Replica}
 use Rattle.amo_resolve.specs.Telling.{part, known_of, state_of, state_before, Moves, Looked}
+use Rattle.amo_resolve.specs.Weaving.{Loses}
 use Rattle.amo_resolve.proofs.Planning.{got_one}
 
 -- the first message of a part
@@ -135,11 +137,11 @@ pub message_at : (known others behind : List (List ℕ)) (place : ℕ) → place
 message_at known others behind place within = get_or-append-add known (others ++ behind) place [] ∙ get_or_append_left others behind [] place within
 
 -- it stays
-pub looked_stays : (got : List (List ℕ)) (old new : Replica) (left next end place : ℕ) (run : List Step) → length old.others ≡ place + 1
+pub looked_stays : (got : List (List ℕ)) (old new : Replica) (left next end place : ℕ) (draft : Draft) → length old.others ≡ place + 1
     → (old.first < end → end ≤ length got) → left ≤ end → old.first < left → next ≡ left - 1
     → get_or got (left - 1) [] ≡ get_or old.others place [] → new ≡ record old { others = remove old.others place }
-    → Looked got old.first left next (length (known_of got old) + length new.others) run (state_before got old (part got left end)) run (state_before got new (part got next end))
-looked_stays got old new left next end place run count inside most some is same new_is =
+    → Looked got old.first left next (length (known_of got old) + length new.others) draft (state_before got old (part got left end)) draft (state_before got new (part got next end))
+looked_stays got old new left next end place draft count inside most some is same new_is =
     inl (
       omega (arith, some, is),
       omega (arith, some, is),
@@ -165,21 +167,21 @@ looked_stays got old new left next end place run count inside most some is same 
         ∙ ap (λ (xs : List (List ℕ)). xs ++ part got left end) (sym (last_apart old.others place count))
 
 -- it is lost
-pub looked_lost : (got : List (List ℕ)) (old new : Replica) (left next end place before : ℕ) (run longer : List Step) → length old.others ≡ place + 1
+pub looked_lost : (got : List (List ℕ)) (old new : Replica) (left next end place before : ℕ) (draft longer : Draft) → length old.others ≡ place + 1
     → (old.first < old.known → old.known ≤ length got) → (old.first < end → end ≤ length got) → old.first ≤ left → left ≤ end → next ≡ left
     → (old.first < left → get_or got (left - 1) [] ≡ get_or old.others place [] → ⊥)
-    → is_any_down (state_of got old) ≡ true → before ≡ old.known - old.first → longer ≡ run ++ Lose (before + place) ∷ []
+    → is_any_down (state_of got old) ≡ true → before ≡ old.known - old.first → Loses draft (Message (before + place)) longer
     → new.first ≡ old.first → new.known ≡ old.known → new.others ≡ remove old.others place → new.sender_down ≡ old.sender_down → new.receiver_down ≡ old.receiver_down
     → (left ≡ end → new.status ≡ settled old.status No) → ((left ≡ end → ⊥) → new.status ≡ old.status)
-    → Looked got old.first left next (length (known_of got old) + length new.others) run (state_before got old (part got left end)) longer (state_before got new (part got next end))
-looked_lost got old new left next end place before run longer count within inside from most is other down known_before steps same_first same_known removed sender receiver last not_last =
+    → Looked got old.first left next (length (known_of got old) + length new.others) draft (state_before got old (part got left end)) longer (state_before got new (part got next end))
+looked_lost got old new left next end place before draft longer count within inside from most is other down known_before lost_here same_first same_known removed sender receiver last not_last =
     inr (
       is,
       λ some equal. other some (sym (sym there ∙ equal)),
       record {
         allowed = (down, omega (arith, lengths, counted, count));
         reached = reached;
-        steps = steps ∙ ap (λ (n : ℕ). run ++ Lose n ∷ []) {x = before + place} {y = length (known_of got old) + length new.others} (omega (arith, known_before, known_length, counted));
+        told = subst (λ (n : ℕ). Loses draft (Message n) longer) {x = before + place} {y = length (known_of got old) + length new.others} (omega (arith, known_before, known_length, counted)) lost_here;
       },
     )
   where

@@ -1,5 +1,5 @@
 -- What is seen of streams, event by event.
-use Rattle.std.proofs.Common.{◌≡◌, ◌↔◌, ℕ, ◌+◌, ◌-◌, ◌<◌, ◌==◌, Bool, true, false, inl, inr, ◌⊎◌, Some, List, [], ◌∷◌, ◌++◌, length, take, reverse, set, get_or, slice_get, refl, sym, ◌∙◌, ap, subst, arith}
+use Rattle.std.proofs.Common.{◌≡◌, ◌↔◌, ℕ, suc, ◌+◌, ◌-◌, ◌<◌, ◌==◌, Bool, true, false, inl, inr, ◌⊎◌, Some, List, [], ◌∷◌, ◌++◌, length, take, reverse, set, get_or, slice_get, refl, sym, ◌∙◌, ap, subst, arith}
 use Rattle.std.specs.Option.{option_to_list}
 use Rattle.std.proofs.lemmas.Bool.{eq-eqb, eqb-true}
 use Rattle.std.proofs.lemmas.List.{take_more, reverse-append, length-set, length-append}
@@ -130,3 +130,24 @@ seen_next streams events place e within is seen =
 pub seen_at : (streams : List Seen) (events : List Event) (place : ℕ) (seen : Seen) → AreSeen streams events → place < 256
     → seen ≡ get_or streams place seen → IsSeen seen (place + 1) events
 seen_at streams events place seen known within at = known.each place seen (slice_get_read streams 256 place seen (sym known.count) within at)
+
+-- what is seen of the streams from a place on, and of no others
+pub record AreLeft (rest : List Seen) (place : ℕ) (events : List Event) : Type 0 where
+  pub count : place + length rest ≡ 256
+  pub each : (k : ℕ) (seen : Seen) → slice_get rest k ≡ Some seen → IsSeen seen (place + k + 1) events
+
+pub all_left : (streams : List Seen) (events : List Event) → AreSeen streams events → AreLeft streams 0 events
+all_left streams events seen = record {
+  count = omega (arith, seen.count);
+  each = λ k s is. subst (λ (n : ℕ). IsSeen s n events) {x = k + 1} {y = 0 + k + 1} (omega arith) (seen.each k s is);
+}
+
+pub next_left : (seen : Seen) (rest : List Seen) (place : ℕ) (events : List Event) → AreLeft (seen ∷ rest) place events
+    → IsSeen seen (place + 1) events × AreLeft rest (place + 1) events
+next_left seen rest place events left = (
+  subst (λ (n : ℕ). IsSeen seen n events) {x = place + 0 + 1} {y = place + 1} (omega arith) (left.each 0 seen refl),
+  record {
+    count = omega (arith, left.count);
+    each = λ k s is. subst (λ (n : ℕ). IsSeen s n events) {x = place + suc k + 1} {y = place + 1 + k + 1} (omega arith) (left.each (suc k) s is);
+  },
+)

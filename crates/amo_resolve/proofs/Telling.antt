@@ -6,11 +6,13 @@ use Rattle.amo_object.specs.declared.step.Step.TheVariants.{Put, Get, Ack, Crash
 use Rattle.amo_object.specs.Queue.{QueueState, Allows, after, is_any_down}
 use Rattle.amo_object.specs.Run.{is_loss}
 use Rattle.amo_object.specs.Delivery.{messages_got}
+use Rattle.amo_resolve.specs.declared.draft.Draft.{Draft}
 use Rattle.amo_resolve.specs.declared.plan.Note.{Note}
 use Rattle.amo_resolve.specs.declared.replica.Replica.{Replica}
-use Rattle.amo_resolve.specs.Explanation.{IsExplained, LeadsTo}
+use Rattle.amo_resolve.specs.Explanation.{IsExplained}
 use Rattle.amo_resolve.specs.Plan.{Leaves, is_told_yes, wanted_of, Choose, GoesOn, GoesAfter}
 use Rattle.amo_resolve.specs.Telling.{Settles, Moves, IsNeeded, known_of, state_of}
+use Rattle.amo_resolve.specs.Weaving.{LeadsTo}
 use Rattle.amo_resolve.proofs.Following.{Ready, Called, called, can_leave, ready_down, ready_up}
 use Rattle.amo_resolve.proofs.Serving.{marks_after}
 use Rattle.amo_resolve.proofs.Subsequences.{leaves-part, length-subsequence}
@@ -24,8 +26,8 @@ pub bound_start : (got : List (List ℕ)) (r : Replica) (P : List (List ℕ) →
 bound_start got r P none fewer goes = omega (arith, none, length-take (r.known - r.first) (drop r.first got))
 
 -- the calls before a place are told, and if some run has all of them the others can be
-pub record IsSoFar (calls : List Step) (notes : List Note) (got : List (List ℕ)) (run : List Step) (replica : Replica) (place : ℕ) : Type 0 where
-  pub leads : LeadsTo run (take place calls) (state_of got replica)
+pub record IsSoFar (calls : List Step) (notes : List Note) (got : List (List ℕ)) (draft : Draft) (replica : Replica) (place : ℕ) : Type 0 where
+  pub leads : LeadsTo draft (take place calls) (state_of got replica)
   pub within : replica.first < replica.known → replica.known ≤ length got
   pub later : drop replica.first got ≡ messages_got (drop place calls)
   pub ready : IsExplained calls → Ready (state_of got replica) (drop place calls) (drop place notes)

@@ -1,8 +1,7 @@
 -- Runs of the queue that explain calls.
 use Rattle.std.specs.Prelude.{◌≡◌, List}
 use Rattle.amo_object.specs.declared.step.Step.{Step}
-use Rattle.amo_object.specs.Queue.{QueueState, start}
-use Rattle.amo_object.specs.Run.{IsRun, after_all, without_losses}
+use Rattle.amo_object.specs.Run.{IsRun, without_losses}
 
 -- a run of the queue that has, with its losses left out, exactly these calls
 pub record Explains (run : List Step) (calls : List Step) : Type 0 where
@@ -12,9 +11,3 @@ pub record Explains (run : List Step) (calls : List Step) : Type 0 where
 -- some run explains these calls
 abbrev pub IsExplained : List Step → Type 0
 IsExplained calls = (run : List Step) × Explains run calls
-
--- a run that explains these calls and leads to this queue
-pub record LeadsTo (run : List Step) (calls : List Step) (queue : QueueState) : Type 0 where
-  pub is_run : IsRun run
-  pub seen : without_losses run ≡ calls
-  pub reached : after_all start run ≡ queue

@@ -5,9 +5,10 @@ use Rattle.amo_object.specs.declared.status.Status.TheVariants.{Yes, No, Open}
 use Rattle.amo_object.specs.declared.step.Step.{Step}
 use Rattle.amo_object.specs.declared.step.Step.TheVariants.{Put, Get, Lose}
 use Rattle.amo_object.specs.Queue.{QueueState, Allows, after}
+use Rattle.amo_resolve.specs.declared.draft.Draft.{Draft}
 use Rattle.amo_resolve.specs.declared.replica.Replica.{Replica}
-use Rattle.amo_resolve.specs.Explanation.{LeadsTo}
 use Rattle.amo_resolve.specs.Plan.{last, Leaves}
+use Rattle.amo_resolve.specs.Weaving.{TellsOn, LeadsTo}
 
 -- Yes is known of an empty queue alone, and Open is the status while the last message put waits
 abbrev pub Agrees : List (List ℕ) → Status → Type 0
@@ -19,14 +20,14 @@ abbrev pub IsSound : QueueState → Type 0
 IsSound q = Agrees q.messages q.status
 
 -- a run was told on by one step
-pub record IsPushed (run : List Step) (queue : QueueState) (step : Step) (longer : List Step) (next : QueueState) : Type 0 where
+pub record IsPushed (draft : Draft) (queue : QueueState) (step : Step) (longer : Draft) (next : QueueState) : Type 0 where
   pub allowed : Allows queue step
   pub reached : next ≡ after queue step
-  pub steps : longer ≡ run ++ step ∷ []
+  pub told : TellsOn draft step longer
 
 -- a run was told on by losses
-abbrev pub OnlyLost : List Step → QueueState → List Step → QueueState → Type 0
-OnlyLost run queue longer next = (calls : List Step) → LeadsTo run calls queue → LeadsTo longer calls next
+abbrev pub OnlyLost : Draft → QueueState → Draft → QueueState → Type 0
+OnlyLost draft queue longer next = (calls : List Step) → LeadsTo draft calls queue → LeadsTo longer calls next
 
 -- what losses make of a queue where a side is down
 pub record Settles (q lost : QueueState) (wanted : List (List ℕ)) (told_no : Bool) : Type 0 where
@@ -70,10 +71,10 @@ Moves (Get m) known others known_after others_after = ((known ≡ []) × (known_
 Moves call known others known_after others_after = (known_after ≡ known) × (others_after ≡ others)
 
 -- the last message that was not looked at yet is the last one that is wanted, and stays, or else it is lost
-abbrev pub Looked : List (List ℕ) → ℕ → ℕ → ℕ → ℕ → List Step → QueueState → List Step → QueueState → Type 0
-Looked got first left next place run queue longer later =
-    ((left ≡ next + 1) × (first ≤ next) × (get_or queue.messages place [] ≡ get_or got next []) × (longer ≡ run) × (later ≡ queue))
-    ⊎ ((next ≡ left) × (first < left → get_or queue.messages place [] ≡ get_or got (left - 1) [] → ⊥) × IsPushed run queue (Lose place) longer later)
+abbrev pub Looked : List (List ℕ) → ℕ → ℕ → ℕ → ℕ → Draft → QueueState → Draft → QueueState → Type 0
+Looked got first left next place draft queue longer later =
+    ((left ≡ next + 1) × (first ≤ next) × (get_or queue.messages place [] ≡ get_or got next []) × (longer ≡ draft) × (later ≡ queue))
+    ⊎ ((next ≡ left) × (first < left → get_or queue.messages place [] ≡ get_or got (left - 1) [] → ⊥) × IsPushed draft queue (Lose place) longer later)
 
 -- no fewer messages than these let losses leave what is wanted, with the others behind them
 abbrev pub IsNeeded : Bool → List (List ℕ) → List (List ℕ) → List (List ℕ) → Type 0

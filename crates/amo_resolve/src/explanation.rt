@@ -1,12 +1,16 @@
 //! A run that explains calls.
-ghost use Rattle.std.specs.Prelude.{IfOk, IfSome, IfNone};
+ghost use Rattle.std.specs.Prelude.{◌≡◌, IfOk, IfSome, IfNone};
 ghost use Rattle.amo_resolve.specs.Explanation.{Explains, IsExplained};
+ghost use Rattle.amo_resolve.specs.Weaving.{woven};
 
+use crate::draft::Mark;
 use crate::plan::plan;
 use crate::tell::tell;
 use crate::waiting::Got;
+use crate::weave::woven;
 use crate::{NoMemory, Step};
-use std::alloc::Global;
+use amo_object::Bytes;
+use std::alloc::{AllocError, Global};
 
 /// A run of the at-most-once queue that has, with its losses left out, exactly these calls, the earliest first; none where no
 /// run has them. Which of several runs is given is open.
@@ -18,7 +22,56 @@ pub fn explain(alloc: Global, calls: &[Step]) -> Result<Option<Vec<Step>>, NoMem
     ensures explains { IfOk result (λ run. IfSome run (λ steps. Explains steps.items calls.now)) }
     ensures none { IfOk result (λ run. IfNone run (¬ (IsExplained calls.now))) }
 {
+    match losses(alloc, calls)? {
+        Some(marks) => Ok(Some(woven(alloc, copied(alloc, calls)?, marks.as_slice())?)),
+        None => Ok(None),
+    }
+}
+
+/// A run that explains these calls, of which there is one. The calls are moved into it, and none is copied.
+pub(crate) fn explained(alloc: Global, calls: Vec<Step>) -> Result<Vec<Step>, NoMemory>
+    requires { IsExplained calls.items }
+    ensures { IfOk result (λ run. Explains run.items calls.items) }
+{
+    match losses(alloc, calls.as_slice())? {
+        Some(marks) => Ok(woven(alloc, calls, marks.as_slice())?),
+        None => unreachable!(),
+    }
+}
+
+/// The losses of a run that explains these calls; none where no run has them.
+fn losses(alloc: Global, calls: &[Step]) -> Result<Option<Vec<Mark>>, AllocError>
+    ensures explains { IfOk result (λ marks. IfSome marks (λ them. Explains (woven calls.now them.items) calls.now)) }
+    ensures none { IfOk result (λ marks. IfNone marks (¬ (IsExplained calls.now))) }
+{
     let got = Got::by(alloc, calls)?;
     let notes = plan(alloc, calls, &got)?;
-    Ok(tell(alloc, calls, notes.as_slice(), &got)?)
+    tell(alloc, calls, notes.as_slice(), &got)
+}
+
+/// Equal calls.
+fn copied(alloc: Global, calls: &[Step]) -> Result<Vec<Step>, AllocError>
+    ensures { IfOk result (λ copies. copies.items ≡ calls.now) }
+{
+    let mut copies = Vec::with_capacity(alloc, calls.len())?;
+    for call in calls {
+        copies.push(copy_of(alloc, call)?)?;
+    }
+    Ok(copies)
+}
+
+/// An equal step.
+fn copy_of(alloc: Global, step: &Step) -> Result<Step, AllocError>
+    ensures { IfOk result (λ copy. copy ≡ step.now) }
+{
+    Ok(match step {
+        Step::Put(message) => Step::Put(Bytes::from(Vec::from_slice(alloc, message.as_slice())?)),
+        Step::Get(message) => Step::Get(Bytes::from(Vec::from_slice(alloc, message.as_slice())?)),
+        Step::Ack(answer) => Step::Ack(*answer),
+        Step::Crash(side) => Step::Crash(*side),
+        Step::Recover(side) => Step::Recover(*side),
+        Step::DownReply(side) => Step::DownReply(*side),
+        Step::Lose(place) => Step::Lose(*place),
+        Step::LoseAck => Step::LoseAck,
+    })
 }

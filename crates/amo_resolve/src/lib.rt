@@ -19,6 +19,7 @@
 
 mod borders;
 mod calls;
+mod draft;
 mod explanation;
 mod fault;
 mod judge;
@@ -29,6 +30,7 @@ mod tell;
 #[cfg(test)]
 mod tests;
 mod waiting;
+mod weave;
 
 pub use amo_object::Step;
 pub use amo_world::{Event, NoMemory};

@@ -15,10 +15,10 @@ use std::alloc::{AllocError, Global};
 /// What is noted of a call.
 #[derive(Clone, Copy, Debug)]
 pub(crate) struct Note {
-    /// A side is down after the call.
-    pub(crate) is_down: bool,
     /// Where a side is down: so many of the messages got from here on have to wait here.
     pub(crate) wanted: usize,
+    /// A side is down after the call.
+    pub(crate) is_down: bool,
     /// The next answer is yes, before any put.
     pub(crate) is_told_yes: bool,
     /// The next answer is no, before any put and any call that leaves a side down.

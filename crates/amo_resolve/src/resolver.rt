@@ -5,11 +5,10 @@ ghost use Rattle.amo_world.specs.Stream.{IsStream};
 ghost use Rattle.amo_world.specs.History.{IsRight, IsHonest, IsFresh};
 ghost use Rattle.amo_resolve.specs.Fault.{IsFault};
 ghost use Rattle.amo_resolve.specs.Resolved.{IsResolved};
-ghost use Rattle.amo_resolve.specs.Explanation.{IsExplained, Explains};
 
-use crate::explanation::explain;
+use crate::explanation::explained;
 use crate::judge::judge;
-use crate::{Event, NoMemory, ResolveFault, Step};
+use crate::{Event, ResolveFault, Step};
 use amo_world::STREAMS;
 use std::alloc::Global;
 
@@ -36,11 +35,10 @@ pub fn resolve(alloc: Global, events: &[Event]) -> Result<Vec<Run>, ResolveFault
 {
     let streams = judge(alloc, events)?;
     let mut runs = Vec::new(alloc);
-    for place in 0..STREAMS {
-        let seen = &streams[place as usize];
+    for (place, seen) in (0..STREAMS).zip(streams) {
         if seen.is_named {
             let stream = place + 1;
-            let steps = explanation(alloc, seen.calls.as_slice())?;
+            let steps = explained(alloc, seen.calls)?;
             match runs.push(Run { stream, steps }) {
                 Ok(()) => {}
                 Err(_) => return Err(ResolveFault::NoMemory),
@@ -48,15 +46,4 @@ pub fn resolve(alloc: Global, events: &[Event]) -> Result<Vec<Run>, ResolveFault
         }
     }
     Ok(runs)
-}
-
-/// A run that explains these calls, of which there is one.
-fn explanation(alloc: Global, calls: &[Step]) -> Result<Vec<Step>, NoMemory>
-    requires { IsExplained calls.now }
-    ensures { IfOk result (λ run. Explains run.items calls.now) }
-{
-    match explain(alloc, calls)? {
-        Some(steps) => Ok(steps),
-        None => unreachable!(),
-    }
 }

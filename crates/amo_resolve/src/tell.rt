@@ -1,63 +1,48 @@
 //! A run that follows a plan.
-ghost use Rattle.std.specs.Prelude.{◌≡◌, ◌+◌, ◌-◌, ◌<◌, ◌≤◌, ◌||◌, ℕ, Bool, List, [], ◌∷◌, ◌++◌, take, drop, length, true, false, IfOk, IfSome, IfNone};
+ghost use Rattle.std.specs.Prelude.{◌≡◌, ◌+◌, ◌-◌, ◌<◌, ◌≤◌, ◌^◌, ◌||◌, ℕ, Bool, List, [], ◌∷◌, ◌++◌, take, drop, length, true, false, IfOk, IfSome, IfNone};
 ghost use Rattle.amo_object.specs.declared.step.Step.{Step};
 ghost use Rattle.amo_object.specs.Queue.{start, Allows, is_any_down};
 ghost use Rattle.amo_object.specs.Run.{is_loss};
 ghost use Rattle.amo_object.specs.Delivery.{messages_got};
-ghost use Rattle.amo_resolve.specs.Explanation.{Explains, IsExplained, LeadsTo};
+ghost use Rattle.amo_resolve.specs.Explanation.{Explains, IsExplained};
 ghost use Rattle.amo_resolve.specs.Plan.{IsMarked, IsPlan, Leaves};
 ghost use Rattle.amo_resolve.specs.Telling.{IsPushed, OnlyLost, Settles, Moves, Looked, IsNeeded, part, known_of, state_of, state_before};
+ghost use Rattle.amo_resolve.specs.Weaving.{LeadsTo, woven};
 
 use crate::Step;
+use crate::draft::{Draft, Loss, Mark};
 use crate::plan::{Note, note_at};
 use crate::replica::Replica;
 use crate::waiting::Got;
-use amo_object::{Bytes, Status};
+use amo_object::Status;
 use std::alloc::{AllocError, Global};
 
 /// A run, so far, and the queue that it leads to.
 #[derive(Drop)]
 pub(crate) struct Told<'a> {
-    alloc: Global,
-    run: Vec<Step>,
+    draft: Draft,
     queue: Replica<'a>,
 }
 
-/// An equal step.
-fn copy_of(alloc: Global, step: &Step) -> Result<Step, AllocError>
-    ensures { IfOk result (λ copy. copy ≡ step.now) }
-{
-    Ok(match step {
-        Step::Put(message) => Step::Put(Bytes::from(Vec::from_slice(alloc, message.as_slice())?)),
-        Step::Get(message) => Step::Get(Bytes::from(Vec::from_slice(alloc, message.as_slice())?)),
-        Step::Ack(answer) => Step::Ack(*answer),
-        Step::Crash(side) => Step::Crash(*side),
-        Step::Recover(side) => Step::Recover(*side),
-        Step::DownReply(side) => Step::DownReply(*side),
-        Step::Lose(place) => Step::Lose(*place),
-        Step::LoseAck => Step::LoseAck,
-    })
-}
-
 impl<'a> Told<'a> {
-    /// Nothing yet, with room for so many steps.
-    fn new(alloc: Global, steps: usize) -> Result<Told<'a>, AllocError>
-        ensures leads { IfOk result (λ told. (got : List (List ℕ)) → LeadsTo told.run.items [] (state_of got told.queue)) }
-        ensures start { IfOk result (λ told. (got : List (List ℕ)) → state_of got told.queue ≡ start) }
-        ensures parts { IfOk result (λ told. (told.queue.first ≡ 0) × (told.queue.known ≡ 0) × (told.queue.others ≡ [])) }
+    /// Nothing yet.
+    fn new(alloc: Global) -> Told<'a>
+        ensures leads { (got : List (List ℕ)) → LeadsTo result.draft [] (state_of got result.queue) }
+        ensures start { (got : List (List ℕ)) → state_of got result.queue ≡ start }
+        ensures parts { (result.queue.first ≡ 0) × (result.queue.known ≡ 0) × (result.queue.others ≡ []) }
     {
-        Ok(Told {
-            alloc,
-            run: Vec::with_capacity(alloc, steps)?,
+        Told {
+            draft: Draft::new(alloc),
             queue: Replica::new(alloc),
-        })
+        }
     }
 
     /// The call that comes next, if the queue allows it and it is no loss.
     fn push_call(&mut self, got: &Got<'a>, call: &'a Step) -> Result<bool, AllocError>
-        requires { self.old.queue.first < self.old.queue.known → self.old.queue.known ≤ length got.now }
+        requires within { self.old.queue.first < self.old.queue.known → self.old.queue.known ≤ length got.now }
+        requires count { self.old.draft.since + 1 < 2 ^ 64 }
         ensures pushed { IfOk result (λ is. is ≡ true
-            → IsPushed self.old.run.items (state_of got.now self.old.queue) call.now self.new.run.items (state_of got.now self.new.queue)) }
+            → IsPushed self.old.draft (state_of got.now self.old.queue) call.now self.new.draft (state_of got.now self.new.queue)) }
         ensures seen { IfOk result (λ is. is ≡ true → is_loss call.now ≡ false) }
         ensures moved { IfOk result (λ is. is ≡ true
             → Moves call.now (known_of got.now self.old.queue) self.old.queue.others (known_of got.now self.new.queue) self.new.queue.others) }
@@ -69,8 +54,8 @@ impl<'a> Told<'a> {
         if !self.queue.allows(got, call) {
             return Ok(false);
         }
-        self.run.push(copy_of(self.alloc, call)?)?;
         self.queue.take(got, call)?;
+        self.draft.add_call();
         Ok(true)
     }
 
@@ -82,7 +67,7 @@ impl<'a> Told<'a> {
             × (self.old.queue.first < end → end ≤ length got.now) }
         requires down { self.old.queue.sender_down || self.old.queue.receiver_down ≡ true }
         ensures looked { IfOk result (λ next. Looked got.now self.old.queue.first left next (length (known_of got.now self.old.queue) + length self.new.queue.others)
-            self.old.run.items (state_before got.now self.old.queue (part got.now left end)) self.new.run.items (state_before got.now self.new.queue (part got.now next end))) }
+            self.old.draft (state_before got.now self.old.queue (part got.now left end)) self.new.draft (state_before got.now self.new.queue (part got.now next end))) }
         ensures same { IfOk result (λ _. (self.new.queue.first ≡ self.old.queue.first) × (self.new.queue.known ≡ self.old.queue.known)
             × (self.new.queue.sender_down ≡ self.old.queue.sender_down) × (self.new.queue.receiver_down ≡ self.old.queue.receiver_down)) }
         ensures fewer { IfOk result (λ _. length self.new.queue.others + 1 ≡ length self.old.queue.others) }
@@ -95,7 +80,7 @@ impl<'a> Told<'a> {
             return Ok(left - 1);
         }
         let before = got.between(first, self.queue.known);
-        self.run.push(Step::Lose(before + place))?;
+        self.draft.add_loss(Loss::Message(before + place))?;
         if left == end {
             self.queue.settle(Status::No);
         }
@@ -109,7 +94,7 @@ impl<'a> Told<'a> {
         requires within { self.old.queue.first < self.old.queue.known → self.old.queue.known ≤ length got.now }
         requires down { self.old.queue.sender_down || self.old.queue.receiver_down ≡ true }
         ensures lost { IfOk result (λ is. is ≡ true
-            → OnlyLost self.old.run.items (state_of got.now self.old.queue) self.new.run.items (state_of got.now self.new.queue)) }
+            → OnlyLost self.old.draft (state_of got.now self.old.queue) self.new.draft (state_of got.now self.new.queue)) }
         ensures settled { IfOk result (λ is. is ≡ true
             → Settles (state_of got.now self.old.queue) (state_of got.now self.new.queue) (take count (drop self.old.queue.first got.now)) is_told_no) }
         ensures parts { IfOk result (λ is. is ≡ true → (known_of got.now self.new.queue ≡ take count (drop self.old.queue.first got.now))
@@ -130,27 +115,27 @@ impl<'a> Told<'a> {
         }
         self.queue.known = end;
         if is_told_no {
-            self.run.push(Step::LoseAck)?;
+            self.draft.add_loss(Loss::Answer)?;
             self.queue.status = Status::No;
         }
         Ok(true)
     }
 }
 
-/// A run that has these calls and follows their plan, or none where no run has them.
+/// The losses of a run that has these calls and follows their plan, or none where no run has them.
 pub(crate) fn tell<'a>(
     alloc: Global,
     calls: &'a [Step],
     notes: &[Note],
     got: &Got<'a>,
-) -> Result<Option<Vec<Step>>, AllocError>
+) -> Result<Option<Vec<Mark>>, AllocError>
     requires marked { IsMarked calls.now notes.now }
     requires plan { IsPlan calls.now notes.now }
     requires got { got.now ≡ messages_got calls.now }
-    ensures explains { IfOk result (λ run. IfSome run (λ steps. Explains steps.items calls.now)) }
-    ensures none { IfOk result (λ run. IfNone run (¬ (IsExplained calls.now))) }
+    ensures explains { IfOk result (λ marks. IfSome marks (λ them. Explains (woven calls.now them.items) calls.now)) }
+    ensures none { IfOk result (λ marks. IfNone marks (¬ (IsExplained calls.now))) }
 {
-    let mut told = Told::new(alloc, calls.len())?;
+    let mut told = Told::new(alloc);
     for place in 0..calls.len() {
         let call = &calls[place];
         let note = note_at(notes, place);
@@ -163,5 +148,5 @@ pub(crate) fn tell<'a>(
             }
         }
     }
-    Ok(Some(told.run))
+    Ok(Some(told.draft.marks))
 }

@@ -14,13 +14,13 @@ pub loop-place-init : goal.loop-place-init
 loop-place-init c =
     let got = c.args.got.now in
     record {
-      leads = c.in_ok-told.ensures.leads got;
-      within = λ some. absurd (omega (arith, some, c.in_ok-told.ensures.parts.1));
-      later = ap (λ (n : ℕ). drop n got) c.in_ok-told.ensures.parts.0 ∙ c.requires.got;
+      leads = c.new-told.ensures.leads got;
+      within = λ some. absurd (omega (arith, some, c.new-told.ensures.parts.1));
+      later = ap (λ (n : ℕ). drop n got) c.new-told.ensures.parts.0 ∙ c.requires.got;
       ready = λ explained. (
-        subst (λ (q : QueueState). Ready q c.args.calls.now c.args.notes.now) (sym (c.in_ok-told.ensures.start got))
+        subst (λ (q : QueueState). Ready q c.args.calls.now c.args.notes.now) (sym (c.new-told.ensures.start got))
             (ready_start c.args.calls.now c.args.notes.now c.requires.marked.0 c.requires.plan (serves_start c.args.calls.now explained)),
-        bound_start got c.in_ok-told.told.queue (GoesOn c.args.calls.now c.args.notes.now) c.in_ok-told.ensures.parts.1,
+        bound_start got c.new-told.result.queue (GoesOn c.args.calls.now c.args.notes.now) c.new-told.ensures.parts.1,
       );
     }
 
@@ -73,7 +73,7 @@ loop-place-preserved c =
           let settled = w.in_ok-lose_to.ensures.settled w.if-not-branch-2.false in
           let parts = w.in_ok-lose_to.ensures.parts w.if-not-branch-2.false in
           let end = w.lose_to.new.self.queue in
-          subst (λ (told : Told). IsSoFar calls notes got told.run.items told.queue (place + 1)) (sym w.told-is)
+          subst (λ (told : Told). IsSoFar calls notes got told.draft told.queue (place + 1)) (sym w.told-is)
           (record {
             leads = lost (take (place + 1) calls) leads;
             within = w.in_ok-lose_to.ensures.within w.if-not-branch-2.false;
@@ -85,7 +85,7 @@ loop-place-preserved c =
                 down later (n.called pushed.reached) settled parts.0 parts.1;
           }))
       | else-is_any_down w ↦
-          subst (λ (told : Told). IsSoFar calls notes got told.run.items told.queue (place + 1)) (sym w.told-is)
+          subst (λ (told : Told). IsSoFar calls notes got told.draft told.queue (place + 1)) (sym w.told-is)
           (record {
             leads = leads;
             within = c.in_ok-push_call.ensures.within c.if-not-branch.false;

@@ -14,7 +14,7 @@ returns-then-stays-clause-looked c =
     let place = c.len-place.result - 1 in
     let count : length old.others ≡ place + 1 = omega (arith, c.len-place.ensures.length, c.requires.some) in
     let both = c.ends_with-stays.ensures.0 c.if-stays.true in
-    looked_stays c.args.got.now old (record old { others = c.remove.new.self }) c.args.left (c.args.left - 1) c.args.end place c.args.self.now.run.items count
+    looked_stays c.args.got.now old (record old { others = c.remove.new.self }) c.args.left (c.args.left - 1) c.args.end place c.args.self.now.draft count
     c.requires.within.3 c.requires.within.2 both.0 refl
     (both.1 ∙ c.at.ensures ∙ any_default old.others place c.at.result.now [] (omega (arith, count)))
     (ap (λ (xs : List (List ℕ)). record old { others = xs }) c.remove.ensures)
@@ -27,13 +27,13 @@ returns-then-left-end-clause-looked c =
     let end = c.args.end in
     let place = c.len-place.result - 1 in
     let count : length old.others ≡ place + 1 = omega (arith, c.len-place.ensures.length, c.requires.some) in
-    subst (λ (r : Replica). Looked got old.first left left (length (known_of got old) + length r.others) c.args.self.now.run.items (state_before got old (part got left end)) c.push.new.self.items
+    subst (λ (r : Replica). Looked got old.first left left (length (known_of got old) + length r.others) c.args.self.now.draft (state_before got old (part got left end)) c.add_loss.new.self
     (state_before got r (part got left end))) (sym c.settle.ensures)
-    (looked_lost got old (record old { others = c.remove.new.self; status = settled old.status No }) left left end place c.between-before.result c.args.self.now.run.items c.push.new.self.items count
+    (looked_lost got old (record old { others = c.remove.new.self; status = settled old.status No }) left left end place c.between-before.result c.args.self.now.draft c.add_loss.new.self count
     c.requires.within.0 c.requires.within.3 c.requires.within.1 c.requires.within.2 refl
     (λ some equal. never c.ends_with-stays.result c.if-stays.false
     (c.ends_with-stays.ensures.1 (some, equal ∙ any_default old.others place [] c.at.result.now (omega (arith, count)) ∙ sym c.at.ensures)))
-    c.requires.down c.between-before.ensures.length c.in_ok-push.ensures.items refl refl c.remove.ensures refl refl
+    c.requires.down c.between-before.ensures.length (record { marks = c.in_ok-add_loss.ensures.marks; since = c.in_ok-add_loss.ensures.since }) refl refl c.remove.ensures refl refl
     (λ same. refl) (λ apart. absurd (apart c.if-left-end.true)))
 
 pub returns-else-left-end-clause-looked : goal.returns-else-left-end-clause-looked
@@ -44,9 +44,9 @@ returns-else-left-end-clause-looked c =
     let end = c.args.end in
     let place = c.len-place.result - 1 in
     let count : length old.others ≡ place + 1 = omega (arith, c.len-place.ensures.length, c.requires.some) in
-    looked_lost got old (record old { others = c.remove.new.self }) left left end place c.between-before.result c.args.self.now.run.items c.push.new.self.items count
+    looked_lost got old (record old { others = c.remove.new.self }) left left end place c.between-before.result c.args.self.now.draft c.add_loss.new.self count
     c.requires.within.0 c.requires.within.3 c.requires.within.1 c.requires.within.2 refl
     (λ some equal. never c.ends_with-stays.result c.if-stays.false
     (c.ends_with-stays.ensures.1 (some, equal ∙ any_default old.others place [] c.at.result.now (omega (arith, count)) ∙ sym c.at.ensures)))
-    c.requires.down c.between-before.ensures.length c.in_ok-push.ensures.items refl refl c.remove.ensures refl refl
+    c.requires.down c.between-before.ensures.length (record { marks = c.in_ok-add_loss.ensures.marks; since = c.in_ok-add_loss.ensures.since }) refl refl c.remove.ensures refl refl
     (λ same. absurd (c.if-left-end.false same)) (λ apart. refl)

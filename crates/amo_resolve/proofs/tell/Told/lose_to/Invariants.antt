@@ -8,7 +8,7 @@ abbrev pub invariant-loop-self : goal.invariant-loop-self
 invariant-loop-self l = record {
   first : l.self.queue.first ≡ l.fn.self.queue.first;
   known : l.self.queue.known ≡ l.fn.self.queue.known;
-  lost : OnlyLost l.fn.self.run.items (state_of l.got l.fn.self.queue) l.self.run.items (state_before l.got l.self.queue (part l.got l.left l.end));
+  lost : OnlyLost l.fn.self.draft (state_of l.got l.fn.self.queue) l.self.draft (state_before l.got l.self.queue (part l.got l.left l.end));
   losing : Losing (state_of l.got l.fn.self.queue) (state_before l.got l.self.queue (part l.got l.left l.end)) l.got l.fn.self.queue.first l.end l.left
       (length (known_of l.got l.fn.self.queue) + length l.self.queue.others);
 }
