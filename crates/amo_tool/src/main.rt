@@ -2,7 +2,7 @@
 //! service between two hosts, and keeps a journal; and audits and explains journals.
 //!
 //! `arguments` reads the program's arguments, which `commands` describes, and `choice` is what they choose. `replaying`, `running`
-//! and `judging` do it, and `failure` is why they cannot.
+//! and `judging` do it, `progress` shows how far a run is, and `failure` is why they cannot.
 #![tactic(auto)]
 
 ghost use Rattle.std.specs.Prelude.{IfOk};
@@ -16,6 +16,7 @@ mod failure;
 mod judging;
 mod manual;
 mod outline;
+mod progress;
 mod replaying;
 mod running;
 #[cfg(test)]
@@ -30,7 +31,7 @@ use crate::replaying::replay_file;
 use crate::running::run_to_file;
 use std::alloc::AllocError;
 use std::env;
-use std::io::{ErrorKind, Write};
+use std::io::{ErrorKind, IsTerminal, Write};
 use std::net::Net;
 use std::process::ExitCode;
 use std::rt::{Env, Files};
@@ -50,7 +51,7 @@ fn main(rt: HostRuntime) -> ExitCode {
 /// Does what the program's arguments ask for, and answers the status to end with.
 fn obey<
     R: AllocGlobal + Env + Files + Print + Eprint + Threads + Wait + Net + Sync,
-    E: Write + Drop,
+    E: Write + IsTerminal + Send + Drop,
 >(rt: &R, errors: E) -> u8 {
     let done = match choose(rt) {
         Ok(Settings::Replay(file)) => replay_file(rt, file.as_str(), errors),
@@ -59,7 +60,7 @@ fn obey<
             audit_files(rt, file.as_str(), second)
         }
         Ok(Settings::Explain(file)) => explain_file(rt, file.as_str(), errors),
-        Ok(Settings::Run(settings, file)) => run_to_file(rt, &settings, file.as_str()),
+        Ok(Settings::Run(settings, file)) => run_to_file(rt, &settings, file.as_str(), errors),
         Ok(Settings::Manual) => show_page(rt, manual::page(rt.alloc())),
         Ok(Settings::Completions(shell)) => show_page(rt, completions::script(rt.alloc(), shell)),
         Err(ArgumentsFault::Text(text, status)) => show(rt, text.as_str(), status),

@@ -5,12 +5,13 @@ ghost use Rattle.amo_audit.specs.Journal.{CanSpell};
 ghost use Rattle.amo_run.specs.Settings.{AreWithin};
 
 use crate::failure::Failure;
+use crate::progress::run_shown;
 use amo_audit::{Out, write_journal};
-use amo_run::{RunSettings, run};
+use amo_run::RunSettings;
 use amo_world::Event;
 use std::alloc::{AllocError, Global};
 use std::fs;
-use std::io::{BufWriter, Write};
+use std::io::{BufWriter, IsTerminal, Write};
 use std::marker::Brand;
 use std::net::Net;
 use std::rt::Files;
@@ -19,16 +20,16 @@ use std::sync::ledger::{Blank, Ledger};
 use std::thread::Threads;
 
 /// Runs the service and keeps its journal in this file, or with two books a journal of each: the senders' in the file with `.s`
-/// added to its name, the receivers' in the one with `.r`. Tells how much happened, and answers the status to end with.
-pub(crate) fn run_to_file<R: AllocGlobal + Files + Print + Threads + Wait + Net + Sync>(
-    rt: &R,
-    settings: &RunSettings,
-    file: &str,
-) -> Result<u8, Failure>
+/// added to its name, the receivers' in the one with `.r`. Tells how much happened, and answers the status to end with. Where `errors`
+/// is a terminal it shows meanwhile how far the run is.
+pub(crate) fn run_to_file<
+    R: AllocGlobal + Files + Print + Threads + Wait + Net + Sync,
+    E: Write + IsTerminal + Send + Drop,
+>(rt: &R, settings: &RunSettings, file: &str, errors: E) -> Result<u8, Failure>
     requires { AreWithin settings.now }
 {
     let alloc = rt.alloc();
-    let ran = run(rt, alloc, settings)?;
+    let ran = run_shown(rt, alloc, settings, errors)?;
     if settings.split {
         keep(
             rt,
