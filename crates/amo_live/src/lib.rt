@@ -36,6 +36,8 @@ mod ready;
 mod scan;
 mod service;
 mod socket;
+#[cfg(test)]
+mod tests;
 mod timer;
 mod turns;
 mod words;
