@@ -82,7 +82,7 @@ impl Input {
             self.bytes.clear();
             self.skips = true;
         }
-        if self.is_open || self.bytes.is_empty() {
+        if self.is_open || (self.bytes.is_empty() && !self.skips) {
             return Ok(None);
         }
         let read = read_put(self.alloc, self.bytes.as_slice(), spelling)?;

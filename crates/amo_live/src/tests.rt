@@ -375,6 +375,10 @@ fn lines_of(alloc: Global, text: &[u8], spelling: Spelling) -> Result<Vec<(u32, 
 #[test]
 fn reads_lines(rt: HostRuntime) -> Result<(), Fail> {
     let mut long = vec![in rt.alloc(); b'x'; 70_000]?;
+    assert_eq!(rt;
+        lines_of(rt.alloc(), long.as_slice(), TEXT)?.as_slice(),
+        [(0, 0)].as_slice()
+    );
     long.extend_from_slice(b"1 x\n2 y\n1 ")?;
     let mut longest = b"9 ".to_vec(rt.alloc())?;
     longest.extend_from_slice(&[b'y'; 1024])?;
