@@ -27,6 +27,8 @@ pub struct Input {
     alloc: Global,
     piece: Vec<u8>,
     bytes: Vec<u8>,
+    /// How many of them, in front, were taken.
+    taken: usize,
     /// How many lines were taken.
     lines: u64,
     /// The line in front is too long, and what was before it is gone.
@@ -41,6 +43,7 @@ impl Input {
             alloc,
             piece: vec![in alloc; 0u8; PIECE]?,
             bytes: Vec::new(alloc),
+            taken: 0,
             lines: 0,
             skips: false,
             is_open: true,
@@ -59,6 +62,8 @@ impl Input {
 
     /// Reads once.
     pub fn fill<R: Read>(&mut self, reader: &mut R) -> io::Result<()> {
+        self.bytes.drain(..self.taken.min(self.bytes.len()));
+        self.taken = 0;
         let count = reader.read(self.piece.as_mut_slice())?;
         self.is_open = count > 0;
         self.bytes.extend_from_slice(&self.piece[..count])?;
@@ -67,26 +72,36 @@ impl Input {
 
     /// Takes the next line, if it has come whole; at the end of the input also one that has no end.
     pub fn next(&mut self, spelling: Spelling) -> Result<Option<Line>, AllocError> {
-        let Some((text, rest)) = next_line(self.bytes.as_slice()) else {
+        let Some((text, rest)) = next_line(self.rest()) else {
             return self.last(spelling);
         };
         let read = read_put(self.alloc, text, spelling)?;
-        let taken = self.bytes.len().saturating_sub(rest.len());
-        self.bytes.drain(..taken.min(self.bytes.len()));
+        self.taken = self.bytes.len().saturating_sub(rest.len());
         Ok(Some(self.numbered(read)))
+    }
+
+    /// What has come, and not been taken.
+    fn rest(&self) -> &[u8] {
+        self.bytes.get(self.taken..).unwrap_or(&[])
+    }
+
+    /// All that has come is taken.
+    fn clear(&mut self) {
+        self.bytes.clear();
+        self.taken = 0;
     }
 
     /// What stands behind the last line's end.
     fn last(&mut self, spelling: Spelling) -> Result<Option<Line>, AllocError> {
-        if self.bytes.len() > LONGEST_LINE {
-            self.bytes.clear();
+        if self.rest().len() > LONGEST_LINE {
+            self.clear();
             self.skips = true;
         }
-        if self.is_open || (self.bytes.is_empty() && !self.skips) {
+        if self.is_open || (self.rest().is_empty() && !self.skips) {
             return Ok(None);
         }
-        let read = read_put(self.alloc, self.bytes.as_slice(), spelling)?;
-        self.bytes.clear();
+        let read = read_put(self.alloc, self.rest(), spelling)?;
+        self.clear();
         Ok(Some(self.numbered(read)))
     }
 
