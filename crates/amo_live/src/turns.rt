@@ -159,27 +159,37 @@ fn take_lines<C: Eprint, L: Link, S: Durable, W: Words, I: Read, O: Write>(
 }
 
 impl Limits {
-    /// How the host ends, if it does. Its clients are done since a time, if they are.
+    /// When the host ends at the latest, if it does. Its clients are done since a time, if they are.
+    fn end(&self, since: Option<u64>) -> Option<u64> {
+        let limit = match self.wait {
+            Some(wait) => wait,
+            None if self.lingers => LINGER,
+            None => return None,
+        };
+        Some(since?.saturating_add(limit))
+    }
+
+    /// How the host ends, if it does now.
     fn ending(&self, is_at_rest: bool, since: Option<u64>, now: u64) -> Option<Ended> {
-        let since = since?;
-        if is_at_rest {
+        if since.is_some() && is_at_rest {
             return Some(Ended::AtRest);
         }
-        let waited = now.saturating_sub(since);
+        if now < self.end(since)? {
+            return None;
+        }
         match self.wait {
-            Some(wait) if wait <= waited => Some(Ended::OnItsWay),
-            None if self.lingers && LINGER <= waited => Some(Ended::AtRest),
-            _ => None,
+            Some(_) => Some(Ended::OnItsWay),
+            None => Some(Ended::AtRest),
         }
     }
 
     /// When it looks up at the latest.
     fn until(&self, due: Option<u64>, since: Option<u64>) -> Option<u64> {
-        let Some(since) = since else {
-            return due;
-        };
-        let end = since.saturating_add(self.wait.unwrap_or(LINGER));
-        Some(due.unwrap_or(end).min(end))
+        match (due, self.end(since)) {
+            (Some(due), Some(end)) => Some(due.min(end)),
+            (due, None) => due,
+            (None, end) => end,
+        }
     }
 }
 
