@@ -107,6 +107,7 @@ pub fn scan_all<R: Read>(alloc: Global, reader: &mut R, side: End) -> Result<Sca
     'pieces: for _piece in 0..u64::MAX {
         let count = reader.read(&mut piece)?;
         if count == 0 {
+            scan.end()?;
             return Ok(scan);
         }
         scan.take(&piece[..count])?;

@@ -82,6 +82,14 @@ impl Scan {
         self.go_on(text)
     }
 
+    /// All was read. A file without a whole line is a journal only where what it has begins one: else it is somebody else's, and must not be cut.
+    pub fn end(&self) -> Result<(), OpenFault> {
+        if self.lines == 0 && !begins_first_line(self.rest.as_slice()) {
+            return Err(OpenFault::Malformed(1));
+        }
+        Ok(())
+    }
+
     /// Bytes without a line's end follow.
     #[tactic(auto, using(crate::proofs::Scans::goes_on))]
     fn go_on(&mut self, text: &[u8]) -> Result<(), OpenFault>
@@ -129,6 +137,11 @@ impl Scan {
         self.rest.clear();
         Ok(())
     }
+}
+
+/// Whether a journal's first line may begin so.
+fn begins_first_line(text: &[u8]) -> bool {
+    matches!(text, [] | [b'0'] | [b'0', b' ', ..])
 }
 
 /// Notes the word that an event may have used up.

@@ -286,13 +286,17 @@ fn scanned(alloc: Global, text: &[u8], piece: usize) -> Result<(u64, u64), OpenF
     for part in text.chunks(piece.max(1)) {
         scan.take(part)?;
     }
+    scan.end()?;
     Ok((scan.lines(), scan.whole()))
 }
 
 #[test]
 fn scans_in_pieces(rt: HostRuntime) -> Result<(), Fail> {
     let long = vec![in rt.alloc(); b'0'; 5000]?;
-    let rows: [(&[u8], Result<(u64, u64), OpenFault>); 9] = [
+    let rows: [(&[u8], Result<(u64, u64), OpenFault>); 12] = [
+        (b"0", Ok((0, 0))),
+        (b"00", Err(OpenFault::Malformed(1))),
+        (b"secret", Err(OpenFault::Malformed(1))),
         (b"", Ok((0, 0))),
         (b"0 1 r 1 ge", Ok((0, 0))),
         (b"0 1 r 1 get nothing\n", Ok((1, 20))),
