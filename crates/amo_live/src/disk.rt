@@ -48,11 +48,13 @@ impl<L: Ledger> Disk<L> {
         requires some { 0 < L.parts }
         ensures calm { IfOk result (λ opened. opened.0 ≡ 0) }
     {
-        let mut file: File = OpenOptions::new()
+        let opened: File = OpenOptions::new()
             .read(true)
             .append(true)
             .create(true)
             .open(rt, path)?;
+        // Where a standard stream is closed, the file has its number, and gets what is shown there. A clone has a number of its own.
+        let mut file = opened.try_clone()?;
         match file.try_lock() {
             Ok(()) => (),
             Err(TryLockError::WouldBlock) => return Err(OpenFault::InUse),

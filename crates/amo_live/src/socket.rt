@@ -36,7 +36,8 @@ impl<L: Ledger> Socket<L> {
         requires some { 0 < L.parts }
         ensures calm { IfOk result (λ socket. socket ≡ 0) }
     {
-        let socket = UdpSocket::bind(rt, listen)?;
+        // Where a standard stream is closed, the socket has its number, and sends what is shown there. A clone has a number of its own.
+        let socket = UdpSocket::bind(rt, listen)?.try_clone()?;
         socket.connect(peer)?;
         socket.set_nonblocking(true)?;
         Ok(Socket {
