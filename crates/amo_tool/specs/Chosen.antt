@@ -1,5 +1,5 @@
 -- What the program's arguments choose.
-use Rattle.std.specs.Prelude.{◌≡◌, ℕ, Bool, if◌then◌else◌, List, Option, Some, codes, length, option_map, string_bytes}
+use Rattle.std.specs.Prelude.{◌≡◌, ℕ, ◌≤◌, Bool, if◌then◌else◌, List, Option, Some, None, IfSome, codes, length, option_map, string_bytes}
 use Rattle.hex.specs.Hex.{IsBytes}
 use Rattle.std.specs.Str.Parse.{digits_value, without_leading_plus}
 use Rattle.clap.specs.Words.{Row, Text, first_of, one_of, subcommand_of, subcommand_rows_of}
@@ -10,8 +10,11 @@ use Rattle.amo_run.specs.declared.settings.LinkKind.{LinkKind}
 use Rattle.amo_run.specs.declared.settings.LinkKind.TheVariants.{Memory, Udp}
 use Rattle.amo_run.specs.declared.settings.RunSettings.{RunSettings}
 use Rattle.amo_tool.specs.Commands.{Names, AreLinks, AreShells, amo}
+use Rattle.amo_tool.specs.declared.choice.HostSettings.{HostSettings}
+use Rattle.amo_tool.specs.declared.choice.ReceiveSettings.{ReceiveSettings}
+use Rattle.amo_tool.specs.declared.choice.SendSettings.{SendSettings}
 use Rattle.amo_tool.specs.declared.choice.Settings.{Settings}
-use Rattle.amo_tool.specs.declared.choice.Settings.TheVariants.{Replay, Run, Audit, Explain, Manual, Completions}
+use Rattle.amo_tool.specs.declared.choice.Settings.TheVariants.{Replay, Run, Send, Receive, Audit, Explain, Manual, Completions}
 use Rattle.amo_tool.specs.declared.choice.Shell.{Shell}
 use Rattle.amo_tool.specs.declared.choice.Shell.TheVariants.{Bash, Zsh, Fish}
 
@@ -36,6 +39,11 @@ HasTextOrNone rows name text = first_of name rows ≡ text
 -- the value of an argument of this name, read as a number
 abbrev pub HasNumber : List Row → Text → ℕ → Type 0
 HasNumber rows name number = (text : Text) × (one_of name rows ≡ Some text) × (digits_value 10 (without_leading_plus text) ≡ number)
+
+-- the same of an option that may be absent
+abbrev pub HasNumberOrNone : List Row → Text → Option ℕ → Type 0
+HasNumberOrNone rows name None = first_of name rows ≡ None
+HasNumberOrNone rows name (Some number) = HasNumber rows name number
 
 -- whether the flag of this name is there
 abbrev pub HasFlag : List Row → Text → Bool → Type 0
@@ -70,6 +78,36 @@ ChoosesRun rows _ = ⊥
 abbrev pub HasNoSeed : List Row → Type 0
 HasNoSeed rows = (seed : List ℕ) → IsBytes seed → length seed ≡ 32 → HasText rows (codes "seed") (hex seed) → ⊥
 
+-- 1 to 256 streams, a tick of 1 to 60000000 microseconds, and a wait of 1000000 seconds at most
+pub record IsHostWithin (host : HostSettings) : Type 0 where
+  pub streams : (1 ≤ host.streams) × (host.streams ≤ 256)
+  pub tick : (1 ≤ host.tick) × (host.tick ≤ 60000000)
+  pub wait : IfSome host.wait (λ seconds. seconds ≤ 1000000)
+
+-- the matches of `send` or of `receive` have these values, each within its limits
+pub record HasHost (rows : List Row) (host : HostSettings) : Type 0 where
+  pub listen : HasText rows (codes "listen") (string_bytes host.listen)
+  pub peer : HasText rows (codes "peer") (string_bytes host.peer)
+  pub streams : HasNumber rows (codes "streams") host.streams
+  pub journal : HasText rows (codes "journal") (string_bytes host.journal)
+  pub tick : HasNumber rows (codes "tick") host.tick
+  pub json : HasFlag rows (codes "json") host.json
+  pub sync : HasFlag rows (codes "sync") host.sync
+  pub wait : HasNumberOrNone rows (codes "wait") host.wait
+  pub within : IsHostWithin host
+
+-- the matches of `send` have these values
+pub record HasSend (rows : List Row) (send : SendSettings) : Type 0 where
+  pub host : HasHost rows send.host
+  pub each : HasFlag rows (codes "each") send.each
+  pub hex : HasFlag rows (codes "hex") send.hex
+
+-- the matches of `receive` have these values
+pub record HasReceive (rows : List Row) (receive : ReceiveSettings) : Type 0 where
+  pub host : HasHost rows receive.host
+  pub count : HasNumberOrNone rows (codes "count") receive.count
+  pub some : IfSome receive.count (λ count. 1 ≤ count)
+
 -- the match of the arguments is one of `run`, without a seed
 abbrev pub LacksSeed : List Text → Type 0
 LacksSeed arguments = (rows : List Row) × HasCommand arguments (codes "run") rows × HasNoSeed rows
@@ -77,6 +115,8 @@ LacksSeed arguments = (rows : List Row) × HasCommand arguments (codes "run") ro
 abbrev pub Chooses : List Text → Settings → Type 0
 Chooses arguments (Replay file) = (rows : List Row) × HasCommand arguments (codes "replay") rows × HasText rows (codes "FILE") (string_bytes file)
 Chooses arguments (Run settings file) = (rows : List Row) × HasCommand arguments (codes "run") rows × ChoosesRun rows (Run settings file)
+Chooses arguments (Send send) = (rows : List Row) × HasCommand arguments (codes "send") rows × HasSend rows send
+Chooses arguments (Receive receive) = (rows : List Row) × HasCommand arguments (codes "receive") rows × HasReceive rows receive
 Chooses arguments (Audit file second) = (rows : List Row) × HasCommand arguments (codes "audit") rows
     × HasText rows (codes "FILE") (string_bytes file) × HasTextOrNone rows (codes "SECOND") (option_map string_bytes second)
 Chooses arguments (Explain file) = (rows : List Row) × HasCommand arguments (codes "explain") rows × HasText rows (codes "FILE") (string_bytes file)
@@ -84,7 +124,9 @@ Chooses arguments Manual = (rows : List Row) × HasCommand arguments (codes "man
 Chooses arguments (Completions shell) = (rows : List Row) × HasCommand arguments (codes "completions") rows
     × HasText rows (codes "SHELL") (shell_name shell)
 
--- what is asked of a run is within its limits
+-- what is asked of a run, and what a host is told, is within its limits
 abbrev pub IsWithin : Settings → Type 0
 IsWithin (Run settings file) = AreWithin settings
+IsWithin (Send send) = IsHostWithin send.host
+IsWithin (Receive receive) = IsHostWithin receive.host
 IsWithin _ = Unit {0}

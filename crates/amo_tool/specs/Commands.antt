@@ -27,9 +27,17 @@ number name low high = record (text name) { parser = Some (parser.Unsigned low h
 abbrev pub pumps : Rule
 pumps = record (new_rule (codes "pumps")) { long = Some (codes "pumps"); value_names = 1; defaults = codes "1" ∷ []; action = Some Set; parser = Some (parser.Unsigned 1 4) }
 
--- --split: it is there, or it is not
-abbrev pub split : Rule
-split = record (new_rule (codes "split")) { long = Some (codes "split"); action = Some SetTrue }
+-- a flag: it is there, or it is not
+abbrev pub flag : Text → Rule
+flag name = record (new_rule name) { long = Some name; action = Some SetTrue }
+
+-- an option that may be absent, with a number from `low` to `high`
+abbrev pub optional_number : Text → ℕ → ℕ → Rule
+optional_number name low high = record (new_rule name) { long = Some name; value_names = 1; action = Some Set; parser = Some (parser.Unsigned low high) }
+
+-- --tick: a number of microseconds, up to a minute, and 10000 where it is absent
+abbrev pub tick : Rule
+tick = record (optional_number (codes "tick") 1 60000000) { defaults = codes "10000" ∷ [] }
 
 -- a list of texts in memory
 abbrev pub Names : Type 0
@@ -64,7 +72,21 @@ abbrev pub run_before_link : App
 run_before_link = with_rule (with_rule (with_rule (with_rule (new_app (codes "run")) (number (codes "streams") 1 256)) (number (codes "clients") 1 56)) (number (codes "crashes") 0 1000)) (text (codes "seed"))
 
 abbrev pub run : Names → App
-run links = with_rule (with_rule (with_rule (with_rule run_before_link (link links)) (text (codes "journal"))) pumps) split
+run links = with_rule (with_rule (with_rule (with_rule run_before_link (link links)) (text (codes "journal"))) pumps) (flag (codes "split"))
+
+-- what both hosts of a pair are told: where they are, of how many streams, and which journal is theirs
+abbrev pub placed : Text → App
+placed name = with_rule (with_rule (with_rule (with_rule (new_app name) (text (codes "listen"))) (text (codes "peer"))) (number (codes "streams") 1 256)) (text (codes "journal"))
+
+-- and what else both may be told
+abbrev pub host : Text → App
+host name = with_rule (with_rule (with_rule (with_rule (placed name) tick) (flag (codes "json"))) (flag (codes "sync"))) (optional_number (codes "wait") 0 1000000)
+
+abbrev pub send : App
+send = with_rule (with_rule (host (codes "send")) (flag (codes "each"))) (flag (codes "hex"))
+
+abbrev pub receive : App
+receive = with_rule (host (codes "receive")) (optional_number (codes "count") 1 18446744073709551615)
 
 abbrev pub audit : App
 audit = with_rule (with_rule (new_app (codes "audit")) file) second_file
@@ -82,11 +104,11 @@ completions shells = with_rule (new_app (codes "completions")) (shell shells)
 abbrev pub bare : App
 bare = let app = new_app (codes "amo") in record app { top = record app.top { has_version = true; subcommand_required = true; arg_required_else_help = true } }
 
-abbrev pub before_manual : Names → App
-before_manual links = with_subcommand (with_subcommand (with_subcommand (with_subcommand bare replay.top) (run links).top) audit.top) explain.top
+abbrev pub before_audit : Names → App
+before_audit links = with_subcommand (with_subcommand (with_subcommand (with_subcommand bare replay.top) (run links).top) send.top) receive.top
 
 abbrev pub amo : Names → Names → App
-amo links shells = with_subcommand (with_subcommand (before_manual links) manual.top) (completions shells).top
+amo links shells = with_subcommand (with_subcommand (with_subcommand (with_subcommand (before_audit links) audit.top) explain.top) manual.top) (completions shells).top
 
 -- the command is this one, and shares no argument with commands below it
 abbrev pub IsCommand : App → Command → Type 0

@@ -1,3 +1,4 @@
 pub mod Arguments
 pub mod Chosen
 pub mod Commands
+pub mod Plans

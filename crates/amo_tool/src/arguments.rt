@@ -3,10 +3,10 @@ ghost use Rattle.std.specs.Prelude.{◌≢◌, ◌≤◌, codes, IfErr, IfNone, 
 ghost use Rattle.clap.specs.Words.{found_of, rows_of};
 ghost use Rattle.amo_text.specs.Hexadecimal.{hex};
 ghost use Rattle.amo_tool.specs.Arguments.{HasStatus};
-ghost use Rattle.amo_tool.specs.Chosen.{Chooses, ChoosesRun, HasFlag, HasNoSeed, HasNumber, HasText, HasTextOrNone, LacksSeed, Matches, link_name, shell_name};
+ghost use Rattle.amo_tool.specs.Chosen.{Chooses, ChoosesRun, HasFlag, HasHost, HasNoSeed, HasNumber, HasNumberOrNone, HasReceive, HasSend, HasText, HasTextOrNone, LacksSeed, Matches, link_name, shell_name};
 
-use crate::choice::{ArgumentsFault, Settings, Shell};
-use crate::commands::{CLIENTS, CRASHES, PUMPS, STREAMS, command};
+use crate::choice::{ArgumentsFault, HostSettings, ReceiveSettings, SendSettings, Settings, Shell};
+use crate::commands::{CLIENTS, CRASHES, PUMPS, STREAMS, TICK, WAIT, command};
 use amo_run::{LinkKind, RunSettings};
 use amo_text::laws::hex_is_injective;
 use amo_text::read_hex;
@@ -56,6 +56,12 @@ fn parse(alloc: Global, arguments: &[String]) -> Result<Option<Settings>, Error>
     }
     if let Some(run) = matches.subcommand_matches("run") {
         return parse_run(alloc, run);
+    }
+    if let Some(send) = matches.subcommand_matches("send") {
+        return Ok(Some(Settings::Send(parse_send(alloc, send)?)));
+    }
+    if let Some(receive) = matches.subcommand_matches("receive") {
+        return Ok(Some(Settings::Receive(parse_receive(alloc, receive)?)));
     }
     if let Some(audit) = matches.subcommand_matches("audit") {
         let file = text_of(alloc, audit, "FILE")?;
@@ -107,6 +113,49 @@ fn parse_run(alloc: Global, matches: &ArgMatches<'_>) -> Result<Option<Settings>
     Ok(Some(Settings::Run(settings, journal)))
 }
 
+/// The settings that the arguments of `send` choose.
+fn parse_send(alloc: Global, matches: &ArgMatches<'_>) -> Result<SendSettings, Error>
+    ensures { IfOk result (HasSend (rows_of (found_of matches.now))) }
+{
+    let host = parse_host(alloc, matches)?;
+    let each = flag_of(alloc, matches, "each")?;
+    let hex = flag_of(alloc, matches, "hex")?;
+    Ok(SendSettings { host, each, hex })
+}
+
+/// The settings that the arguments of `receive` choose.
+fn parse_receive(alloc: Global, matches: &ArgMatches<'_>) -> Result<ReceiveSettings, Error>
+    ensures { IfOk result (HasReceive (rows_of (found_of matches.now))) }
+{
+    let host = parse_host(alloc, matches)?;
+    let count = number_or_none_of(alloc, matches, "count", 1, u64::MAX)?;
+    Ok(ReceiveSettings { host, count })
+}
+
+/// The settings that the options choose which a host has on either side.
+fn parse_host(alloc: Global, matches: &ArgMatches<'_>) -> Result<HostSettings, Error>
+    ensures { IfOk result (HasHost (rows_of (found_of matches.now))) }
+{
+    let listen = text_of(alloc, matches, "listen")?;
+    let peer = text_of(alloc, matches, "peer")?;
+    let streams = number_of(alloc, matches, "streams", 1, STREAMS)?;
+    let journal = text_of(alloc, matches, "journal")?;
+    let tick = number_of(alloc, matches, "tick", 1, TICK)?;
+    let json = flag_of(alloc, matches, "json")?;
+    let sync = flag_of(alloc, matches, "sync")?;
+    let wait = number_or_none_of(alloc, matches, "wait", 0, WAIT)?;
+    Ok(HostSettings {
+        listen,
+        peer,
+        streams,
+        journal,
+        tick,
+        json,
+        sync,
+        wait,
+    })
+}
+
 /// The text of an argument of a command.
 fn text_of(alloc: Global, matches: &ArgMatches<'_>, name: &str) -> Result<String, Error>
     ensures { IfOk result (λ text. HasText (rows_of (found_of matches.now)) name.now (string_bytes text)) }
@@ -139,6 +188,26 @@ fn number_of(
 {
     match matches.get_one::<u32>(name) {
         Some(number) if low <= number && number <= high => Ok(number),
+        _ => Err(beyond(alloc)?),
+    }
+}
+
+/// The number of an option that may be absent, from `low` to `high`.
+fn number_or_none_of(
+    alloc: Global,
+    matches: &ArgMatches<'_>,
+    name: &str,
+    low: u64,
+    high: u64,
+) -> Result<Option<u64>, Error>
+    ensures number { IfOk result (HasNumberOrNone (rows_of (found_of matches.now)) name.now) }
+    ensures within { IfOk result (λ number. IfSome number (λ n. (low ≤ n) × (n ≤ high))) }
+{
+    let Some(_text) = matches.get_str(name) else {
+        return Ok(None);
+    };
+    match matches.get_one::<u64>(name) {
+        Some(number) if low <= number && number <= high => Ok(Some(number)),
         _ => Err(beyond(alloc)?),
     }
 }

@@ -20,6 +20,11 @@ pub(crate) const CRASHES: u32 = 1000;
 
 pub(crate) const PUMPS: u32 = 4;
 
+/// The greatest numbers of a host: of microseconds in its tick, and of seconds that it waits at its end.
+pub(crate) const TICK: u32 = 60_000_000;
+
+pub(crate) const WAIT: u64 = 1_000_000;
+
 /// What may carry the packets of a run.
 static LINKS: [&str; 2] = ["memory", "udp"];
 
@@ -30,24 +35,37 @@ static SHELLS: [&str; 3] = ["bash", "zsh", "fish"];
 pub(crate) fn command<'a>(alloc: Global) -> Result<Command<'a>, AllocError>
     ensures { IfOk result described.IsAmo }
 {
+    let bare = bare(alloc)?;
     let replay = replay(alloc)?;
     let run = run(alloc)?;
+    let send = send(alloc)?;
+    let receive = receive(alloc)?;
     let audit = audit(alloc)?;
     let explain = explain(alloc)?;
     let completions = completions(alloc)?;
-    Command::new(alloc, NAME)
-        .bin_name(NAME)?
-        .version(texts::VERSION)
-        .about(texts::ABOUT)
-        .after_help(texts::AFTER_HELP)
-        .subcommand_required(true)
-        .arg_required_else_help(true)
-        .subcommand(replay)?
+    bare.subcommand(replay)?
         .subcommand(run)?
+        .subcommand(send)?
+        .subcommand(receive)?
         .subcommand(audit)?
         .subcommand(explain)?
         .subcommand(manual(alloc))?
         .subcommand(completions)
+}
+
+/// The program without its commands.
+fn bare<'a>(alloc: Global) -> Result<Command<'a>, AllocError>
+    ensures { IfOk result (λ command. app_of command ≡ described.bare) }
+{
+    let named = Command::new(alloc, NAME).bin_name(NAME)?;
+    Ok(
+        named
+            .version(texts::VERSION)
+            .about(texts::ABOUT)
+            .after_help(texts::AFTER_HELP)
+            .subcommand_required(true)
+            .arg_required_else_help(true),
+    )
 }
 
 fn replay<'a>(alloc: Global) -> Result<Command<'a>, AllocError>
@@ -96,7 +114,93 @@ fn run<'a>(alloc: Global) -> Result<Command<'a>, AllocError>
         .arg(link(alloc))?
         .arg(text(alloc, "journal", "FILE", "Where the journal goes"))?
         .arg(pumps(alloc))?
-        .arg(split(alloc))
+        .arg(flag(
+            alloc,
+            "split",
+            "Gives each host a book and a journal of its own, FILE.s and FILE.r",
+        ))
+}
+
+fn send<'a>(alloc: Global) -> Result<Command<'a>, AllocError>
+    ensures { IfOk result (described.IsCommand described.send) }
+{
+    host(alloc, "send", texts::SEND_ABOUT, texts::SEND_AFTER_HELP)?
+        .arg(flag(
+            alloc,
+            "each",
+            "Puts a stream's next message once the last one's answer came",
+        ))?
+        .arg(flag(
+            alloc,
+            "hex",
+            "Reads messages in lower-case hexadecimal, `-` for no bytes",
+        ))
+}
+
+fn receive<'a>(alloc: Global) -> Result<Command<'a>, AllocError>
+    ensures { IfOk result (described.IsCommand described.receive) }
+{
+    host(
+        alloc,
+        "receive",
+        texts::RECEIVE_ABOUT,
+        texts::RECEIVE_AFTER_HELP,
+    )?
+    .arg(optional_number(
+        alloc,
+        "count",
+        "N",
+        1,
+        u64::MAX,
+        "Ends once it got N messages",
+    ))
+}
+
+/// The command of this name with the options that a host has on either side, and what help says of it.
+fn host<'a>(
+    alloc: Global,
+    name: &'static str,
+    about: &'static str,
+    after_help: &'static str,
+) -> Result<Command<'a>, AllocError>
+    ensures { IfOk result (described.IsCommand (described.host name.entry.now)) }
+{
+    with_texts(alloc, name, about, after_help)
+        .arg(text(
+            alloc,
+            "listen",
+            "ADDR",
+            "Where it listens, as 127.0.0.1:7001",
+        ))?
+        .arg(text(alloc, "peer", "ADDR", "Where the other host listens"))?
+        .arg(number(
+            alloc,
+            "streams",
+            1,
+            STREAMS,
+            "The number of streams, 1 to 256",
+        ))?
+        .arg(text(
+            alloc,
+            "journal",
+            "FILE",
+            "Its journal, which is begun, or gone on with",
+        ))?
+        .arg(tick(alloc))?
+        .arg(flag(alloc, "json", "Prints each line as a JSON object"))?
+        .arg(flag(
+            alloc,
+            "sync",
+            "Puts the journal on its disk before packets leave",
+        ))?
+        .arg(optional_number(
+            alloc,
+            "wait",
+            "SECONDS",
+            0,
+            WAIT,
+            "How long it waits at its end for what is on its way, 0 to 1000000",
+        ))
 }
 
 fn audit<'a>(alloc: Global) -> Result<Command<'a>, AllocError>
@@ -240,13 +344,49 @@ fn pumps<'a>(alloc: Global) -> Arg<'a>
         .value_parser(ValueParser::unsigned(1, u64::from(PUMPS)))
 }
 
-/// The option that gives each host a book and a journal of its own.
-fn split<'a>(alloc: Global) -> Arg<'a>
-    ensures rule { rule_of result ≡ described.split }
+/// The option that tells how long a packet waits for its answer.
+fn tick<'a>(alloc: Global) -> Arg<'a>
+    ensures rule { rule_of result ≡ described.tick }
     ensures local { result.global ≡ false }
 {
-    Arg::new(alloc, "split")
-        .long("split")
-        .help("Gives each host a book and a journal of its own, FILE.s and FILE.r")
+    optional_number(
+        alloc,
+        "tick",
+        "MICROSECONDS",
+        1,
+        u64::from(TICK),
+        "How long a packet waits for its answer before it is sent again, 1 to 60000000",
+    )
+    .default_value("10000")
+}
+
+/// The option of this name that may be absent, whose value is a number from `low` to `high`.
+fn optional_number<'a>(
+    alloc: Global,
+    name: &'static str,
+    value: &'static str,
+    low: u64,
+    high: u64,
+    help: &'static str,
+) -> Arg<'a>
+    ensures rule { rule_of result ≡ described.optional_number name.entry.now low high }
+    ensures local { result.global ≡ false }
+{
+    Arg::new(alloc, name)
+        .long(name)
+        .value_name(value)
+        .help(help)
+        .action(ArgAction::Set)
+        .value_parser(ValueParser::unsigned(low, high))
+}
+
+/// The flag of this name.
+fn flag<'a>(alloc: Global, name: &'static str, help: &'static str) -> Arg<'a>
+    ensures rule { rule_of result ≡ described.flag name.entry.now }
+    ensures local { result.global ≡ false }
+{
+    Arg::new(alloc, name)
+        .long(name)
+        .help(help)
         .action(ArgAction::SetTrue)
 }

@@ -1,5 +1,6 @@
 //! Why the program fails.
 use amo_audit::JournalFault;
+use amo_live::ProcessFault;
 use amo_replay::ToolFault;
 use amo_run::RunFault;
 use std::alloc::AllocError;
@@ -8,7 +9,7 @@ use std::io::ErrorKind;
 use thiserror::Error;
 
 /// Why the program cannot end what it was asked for. Standard error gets its text, and the status is 4.
-#[derive(Clone, Copy, Debug, PartialEq, Eq, Error)]
+#[derive(Debug, Drop, Error)]
 pub(crate) enum Failure {
     /// Memory or a thread was refused.
     #[error("amo: out of memory")]
@@ -19,6 +20,12 @@ pub(crate) enum Failure {
     /// A file, a socket or standard output failed.
     #[error("amo: device")]
     Device,
+    /// A text is the address of no socket, or a name that is not known.
+    #[error("amo: no address: {0}")]
+    NoAddress(String),
+    /// A host in this process cannot go on.
+    #[error("amo: {0}")]
+    Host(ProcessFault),
 }
 
 impl From<ToolFault> for Failure {
@@ -46,6 +53,12 @@ impl From<RunFault> for Failure {
             RunFault::NoMemory => Failure::NoMemory,
             RunFault::Device => Failure::Device,
         }
+    }
+}
+
+impl From<ProcessFault> for Failure {
+    fn from(fault: ProcessFault) -> Failure {
+        Failure::Host(fault)
     }
 }
 

@@ -1,8 +1,9 @@
 //! The program `amo`: replays schedules on a book with both sides of 256 streams, and prints what they reply and emit; runs the
-//! service between two hosts, and keeps a journal; and audits and explains journals.
+//! service between two hosts, and keeps a journal; is one host of a pair, for clients at its standard input and output; and audits and
+//! explains journals.
 //!
-//! `arguments` reads the program's arguments, which `commands` describes, and `choice` is what they choose. `replaying`, `running`
-//! and `judging` do it, `progress` shows how far a run is, and `failure` is why they cannot.
+//! `arguments` reads the program's arguments, which `commands` describes, and `choice` is what they choose. `replaying`, `running`,
+//! `live` and `judging` do it, `progress` shows how far a run is, and `failure` is why they cannot.
 #![tactic(auto)]
 
 ghost use Rattle.std.specs.Prelude.{IfOk};
@@ -14,6 +15,7 @@ mod commands;
 mod completions;
 mod failure;
 mod judging;
+mod live;
 mod manual;
 mod outline;
 mod progress;
@@ -27,14 +29,18 @@ use crate::arguments::{not_text, settings};
 use crate::choice::{ArgumentsFault, Settings};
 use crate::failure::Failure;
 use crate::judging::{audit_files, explain_file};
+use crate::live::{receive_lines, send_lines};
 use crate::replaying::replay_file;
 use crate::running::run_to_file;
 use std::alloc::AllocError;
 use std::env;
-use std::io::{ErrorKind, IsTerminal, Write};
+use std::fs::File;
+use std::io::{ErrorKind, IsTerminal, Read, Write};
 use std::net::Net;
+use std::os::fd::AsRawFd;
 use std::process::ExitCode;
-use std::rt::{Env, Files};
+use std::random::RandomSource;
+use std::rt::{Clock, Env, Files};
 use std::sync::Wait;
 use std::thread::Threads;
 
@@ -45,14 +51,26 @@ const REFUSED: u8 = 2;
 const FAILED: u8 = 4;
 
 fn main(rt: HostRuntime) -> ExitCode {
-    ExitCode::from(obey(&rt, rt.stderr()))
+    ExitCode::from(obey(&rt, rt.stdin(), rt.stdout(), rt.stderr()))
 }
 
-/// Does what the program's arguments ask for, and answers the status to end with.
+/// Does what the program's arguments ask for, and answers the status to end with. These are the standard streams.
 fn obey<
-    R: AllocGlobal + Env + Files + Print + Eprint + Threads + Wait + Net + Sync,
+    R: AllocGlobal
+        + Clock
+        + Env
+        + Files<File = File>
+        + Print
+        + Eprint
+        + RandomSource
+        + Threads
+        + Wait
+        + Net
+        + Sync,
+    I: Read + AsRawFd + Drop,
+    O: Write + Drop,
     E: Write + IsTerminal + Send + Drop,
->(rt: &R, errors: E) -> u8 {
+>(rt: &R, input: I, output: O, errors: E) -> u8 {
     let done = match choose(rt) {
         Ok(Settings::Replay(file)) => replay_file(rt, file.as_str(), errors),
         Ok(Settings::Audit(file, second)) => {
@@ -61,6 +79,8 @@ fn obey<
         }
         Ok(Settings::Explain(file)) => explain_file(rt, file.as_str(), errors),
         Ok(Settings::Run(settings, file)) => run_to_file(rt, &settings, file.as_str(), errors),
+        Ok(Settings::Send(settings)) => send_lines(rt, &settings, input, output),
+        Ok(Settings::Receive(settings)) => receive_lines(rt, &settings, input, output),
         Ok(Settings::Manual) => show_page(rt, manual::page(rt.alloc())),
         Ok(Settings::Completions(shell)) => show_page(rt, completions::script(rt.alloc(), shell)),
         Err(ArgumentsFault::Text(text, status)) => show(rt, text.as_str(), status),

@@ -21,6 +21,8 @@ Usage: amo <COMMAND>
 Commands:
   replay       Replays a schedule, and prints a line for each event
   run          Runs the service between two hosts that crash, and keeps a journal of what happened
+  send         Sends messages to another host, and tells what became of them; can be killed at any moment
+  receive      Receives messages from another host, each at most once; can be killed at any moment
   audit        Audits a journal, or those of two processes, and prints a line with the verdict
   explain      Explains a journal: what the at-most-once queue did for each stream
   man          Prints the manual page
@@ -35,6 +37,8 @@ Examples:
   amo replay examples/handshake.schedule
   amo run --streams 8 --clients 16 --crashes 20 --link udp --journal run.journal \\
     --seed 0000000000000000000000000000000000000000000000000000000000000000
+  amo receive --listen 127.0.0.1:7002 --peer 127.0.0.1:7001 --streams 8 --journal receive.journal
+  amo send --listen 127.0.0.1:7001 --peer 127.0.0.1:7002 --streams 8 --journal send.journal
   amo audit examples/good_journal.journal
   amo explain examples/good_journal.journal
   amo man | man -l -
@@ -46,7 +50,8 @@ Status:
      that do not parse
   3  a premise is broken: a packet that nobody emitted, or a word used twice
   4  out of memory, busy, or a file, a socket or standard output that cannot be opened, read or
-     written
+     written; of a host also an address that is none, or a journal that it cannot go on with
+  5  a host waited as long as it was told, and something was still on its way
 
 Faults go to standard error. `amo: device` is a file, a socket or standard output that failed,
 also where there is no such file.
@@ -140,6 +145,110 @@ Example:
   amo run --streams 8 --clients 16 --crashes 20 --link udp --journal run.journal \\
     --seed 0000000000000000000000000000000000000000000000000000000000000000
   amo audit run.journal
+";
+
+const SEND_HELP: &str =
+    "Sends messages to another host, and tells what became of them; can be killed at any moment
+
+Usage: amo send [OPTIONS] --listen <ADDR> --peer <ADDR> --streams <N> --journal <FILE>
+
+Options:
+      --listen <ADDR>        Where it listens, as 127.0.0.1:7001
+      --peer <ADDR>          Where the other host listens
+      --streams <N>          The number of streams, 1 to 256
+      --journal <FILE>       Its journal, which is begun, or gone on with
+      --tick <MICROSECONDS>  How long a packet waits for its answer before it is sent again, 1 to 60000000 [default: 10000]
+      --json                 Prints each line as a JSON object
+      --sync                 Puts the journal on its disk before packets leave
+      --wait <SECONDS>       How long it waits at its end for what is on its way, 0 to 1000000
+      --each                 Puts a stream's next message once the last one's answer came
+      --hex                  Reads messages in lower-case hexadecimal, `-` for no bytes
+  -h, --help                 Print help
+
+A line of standard input is a message for a stream:
+  STREAM TEXT    TEXT is the rest of the line, 1,024 bytes at most; with --hex it is HEX
+
+A line that is none is told on standard error, as `amo: line L does not read`, L counted from 1, and
+nothing is put. While a stream is full, with 16 messages waiting, its next line waits, and so do all
+lines behind it. With --each a line waits also for the answer to the stream's last message.
+
+Output, a line of which each is of the message that was put last to the stream:
+  STREAM ok      it was put
+  STREAM yes     it was got
+  STREAM no      a host crashed: it may or may not have been got
+With --json: {\"stream\":1,\"event\":\"ok\"}, and so on.
+
+At the end of standard input the host goes on until all is answered, or as long as --wait says.
+
+ADDR is HOST:PORT. The other host is `amo receive`, with as many streams and with both addresses the
+other way round. What does not come from there is dropped, but nothing is authenticated: use a
+network that keeps forgers out.
+
+The journal has a line for each event, which is written before its packet leaves and before its
+answer is shown. So the host may be killed, and started again on its journal: a last line that is
+torn is cut off, and it is noted that each stream crashed and recovered. What was sent and has no
+answer by then may or may not be got. `amo audit` takes the journals of both hosts. A power failure
+loses lines that the disk has not: --sync waits for it.
+
+Status:
+  0  all is answered
+  2  arguments that do not parse
+  4  `amo: out of memory`
+     `amo: no address: ADDR`
+     `amo: a socket failed`: it cannot be opened; later faults of it lose packets and no more
+     `amo: the journal is in use`: another process has it
+     `amo: the journal's line L is malformed`, `.. has another number`, `.. is of the other side`: it
+     is no journal of a host that sends, and was not changed
+     `amo: the journal failed`, `amo: the journal is full`: the file, or the disk
+     `amo: a client's device failed`: standard input, standard output, or the clock
+  5  --wait is over, and something is still on its way
+
+Example:
+  amo send --listen 127.0.0.1:7001 --peer 127.0.0.1:7002 --streams 8 --journal send.journal
+";
+
+const RECEIVE_HELP: &str =
+    "Receives messages from another host, each at most once; can be killed at any moment
+
+Usage: amo receive [OPTIONS] --listen <ADDR> --peer <ADDR> --streams <N> --journal <FILE>
+
+Options:
+      --listen <ADDR>        Where it listens, as 127.0.0.1:7001
+      --peer <ADDR>          Where the other host listens
+      --streams <N>          The number of streams, 1 to 256
+      --journal <FILE>       Its journal, which is begun, or gone on with
+      --tick <MICROSECONDS>  How long a packet waits for its answer before it is sent again, 1 to 60000000 [default: 10000]
+      --json                 Prints each line as a JSON object
+      --sync                 Puts the journal on its disk before packets leave
+      --wait <SECONDS>       How long it waits at its end for what is on its way, 0 to 1000000
+      --count <N>            Ends once it got N messages
+  -h, --help                 Print help
+
+Output, a line for each message that it got, in the order put of each stream:
+  STREAM TEXT    or STREAM 0xHEX where the message is no UTF-8 or has a control character
+With --json: {\"stream\":1,\"event\":\"got\",\"text\":\"TEXT\"}, or \"hex\":\"HEX\" in place of the text.
+
+The host ends at the end of standard input, or once it got as many messages as --count says. It then
+waits for what is still on its way: as long as --wait says, or else for a second at most.
+
+ADDR is HOST:PORT. The other host is `amo send`, with as many streams and with both addresses the
+other way round. What does not come from there is dropped, but nothing is authenticated: use a
+network that keeps forgers out.
+
+The journal has a line for each event, which is written before its packet leaves and before its
+message is shown. So the host may be killed, and started again on its journal: a last line that is
+torn is cut off, and it is noted that each stream crashed and recovered. A message whose line was
+written and which was not shown by then is lost, and none is shown twice. `amo audit` takes the
+journals of both hosts. A power failure loses lines that the disk has not: --sync waits for it.
+
+Status:
+  0  done
+  2  arguments that do not parse
+  4  as of `amo send`; the journal is one of a host that receives
+  5  --wait is over, and something is still on its way
+
+Example:
+  amo receive --listen 127.0.0.1:7002 --peer 127.0.0.1:7001 --streams 8 --journal receive.journal
 ";
 
 const AUDIT_HELP: &str =
@@ -302,7 +411,7 @@ For more information, try '--help'.
 /// The texts that users see, whole.
 #[test]
 fn shows_its_texts(rt: HostRuntime) -> Result<(), Fail> {
-    let rows: [(&[&str], u8, &str); 13] = [
+    let rows: [(&[&str], u8, &str); 15] = [
         (&["amo"], 2, HELP),
         (&["amo", "--help"], 0, HELP),
         (&["amo", "-h"], 0, HELP),
@@ -310,6 +419,8 @@ fn shows_its_texts(rt: HostRuntime) -> Result<(), Fail> {
         (&["amo", "replay", "--help"], 0, REPLAY_HELP),
         (&["amo", "run"], 2, NO_OPTIONS),
         (&["amo", "run", "--help"], 0, RUN_HELP),
+        (&["amo", "send", "--help"], 0, SEND_HELP),
+        (&["amo", "receive", "--help"], 0, RECEIVE_HELP),
         (&["amo", "audit", "--help"], 0, AUDIT_HELP),
         (&["amo", "explain", "--help"], 0, EXPLAIN_HELP),
         (&["amo", "man", "--help"], 0, MANUAL_HELP),
@@ -571,5 +682,103 @@ fn tells_each_fault(rt: HostRuntime) -> Result<(), Fail> {
         ArgumentsFault::NoMemory.to_string(alloc)?.as_str(),
         "amo: out of memory"
     );
+    Ok(())
+}
+
+/// The arguments of a host of this command, with these options behind the four that are required.
+fn host_arguments(alloc: Global, command: &str, more: &[&str]) -> Result<Vec<String>, AllocError> {
+    let first = [
+        "amo",
+        command,
+        "--listen",
+        "a:1",
+        "--peer",
+        "b:2",
+        "--streams",
+        "8",
+        "--journal",
+        "j",
+    ];
+    let mut all = arguments(alloc, first.as_slice())?;
+    for text in more {
+        all.push(String::from_str(alloc, text)?)?;
+    }
+    Ok(all)
+}
+
+#[test]
+fn reads_a_host(rt: HostRuntime) -> Result<(), Fail> {
+    let alloc = rt.alloc();
+    let chosen = settings(alloc, host_arguments(alloc, "send", &[])?);
+    assert!(rt;
+        matches!(&chosen, Ok(Settings::Send(send)) if !send.each && !send.hex
+            && send.host.listen.as_str() == "a:1" && send.host.peer.as_str() == "b:2"
+            && send.host.streams == 8 && send.host.journal.as_str() == "j" && send.host.tick == 10000
+            && !send.host.json && !send.host.sync && send.host.wait.is_none())
+    );
+    let more = [
+        "--each", "--hex", "--json", "--sync", "--tick", "1", "--wait", "0",
+    ];
+    let chosen = settings(alloc, host_arguments(alloc, "send", more.as_slice())?);
+    assert!(rt;
+        matches!(&chosen, Ok(Settings::Send(send)) if send.each && send.hex
+            && send.host.json && send.host.sync && send.host.tick == 1 && send.host.wait == Some(0))
+    );
+    let chosen = settings(alloc, host_arguments(alloc, "receive", &[])?);
+    assert!(rt;
+        matches!(&chosen, Ok(Settings::Receive(receive)) if receive.count.is_none()
+            && receive.host.listen.as_str() == "a:1" && receive.host.wait.is_none())
+    );
+    let more = [
+        "--count",
+        "18446744073709551615",
+        "--tick=60000000",
+        "--wait=1000000",
+    ];
+    let chosen = settings(alloc, host_arguments(alloc, "receive", more.as_slice())?);
+    assert!(rt;
+        matches!(&chosen, Ok(Settings::Receive(receive)) if receive.count == Some(u64::MAX)
+            && receive.host.tick == 60000000 && receive.host.wait == Some(1000000))
+    );
+    Ok(())
+}
+
+#[test]
+fn refuses_a_host(rt: HostRuntime) -> Result<(), Fail> {
+    let alloc = rt.alloc();
+    let rows: [(&str, &[&str], &str); 9] = [
+        ("send", &["--tick", "0"], "0 is not in 1..=60000000"),
+        (
+            "send",
+            &["--tick", "60000001"],
+            "60000001 is not in 1..=60000000",
+        ),
+        ("send", &["--wait", "-1"], "unexpected argument '-1'"),
+        (
+            "send",
+            &["--wait", "1000001"],
+            "1000001 is not in 0..=1000000",
+        ),
+        ("send", &["--count", "1"], "unexpected argument '--count'"),
+        ("send", &["--peer", "c:3"], "cannot be used multiple times"),
+        (
+            "receive",
+            &["--count", "0"],
+            "0 is not in 1..18446744073709551615",
+        ),
+        (
+            "receive",
+            &["--count", "18446744073709551616"],
+            "number too large to fit in target type",
+        ),
+        ("receive", &["--each"], "unexpected argument '--each'"),
+    ];
+    for (command, more, part) in rows {
+        let refused = settings(alloc, host_arguments(alloc, command, more)?);
+        assert!(rt;
+            matches!(&refused, Err(ArgumentsFault::Text(text, 2)) if text.contains(part)),
+            "{command} {more:?}"
+        );
+    }
     Ok(())
 }

@@ -10,6 +10,8 @@ pub(crate) const AFTER_HELP: &str = "Examples:
   amo replay examples/handshake.schedule
   amo run --streams 8 --clients 16 --crashes 20 --link udp --journal run.journal \\
     --seed 0000000000000000000000000000000000000000000000000000000000000000
+  amo receive --listen 127.0.0.1:7002 --peer 127.0.0.1:7001 --streams 8 --journal receive.journal
+  amo send --listen 127.0.0.1:7001 --peer 127.0.0.1:7002 --streams 8 --journal send.journal
   amo audit examples/good_journal.journal
   amo explain examples/good_journal.journal
   amo man | man -l -
@@ -21,7 +23,8 @@ Status:
      that do not parse
   3  a premise is broken: a packet that nobody emitted, or a word used twice
   4  out of memory, busy, or a file, a socket or standard output that cannot be opened, read or
-     written
+     written; of a host also an address that is none, or a journal that it cannot go on with
+  5  a host waited as long as it was told, and something was still on its way
 
 Faults go to standard error. `amo: device` is a file, a socket or standard output that failed,
 also where there is no such file.";
@@ -94,6 +97,80 @@ Example:
   amo run --streams 8 --clients 16 --crashes 20 --link udp --journal run.journal \\
     --seed 0000000000000000000000000000000000000000000000000000000000000000
   amo audit run.journal";
+
+pub(crate) const SEND_ABOUT: &str =
+    "Sends messages to another host, and tells what became of them; can be killed at any moment";
+
+pub(crate) const SEND_AFTER_HELP: &str = "A line of standard input is a message for a stream:
+  STREAM TEXT    TEXT is the rest of the line, 1,024 bytes at most; with --hex it is HEX
+
+A line that is none is told on standard error, as `amo: line L does not read`, L counted from 1, and
+nothing is put. While a stream is full, with 16 messages waiting, its next line waits, and so do all
+lines behind it. With --each a line waits also for the answer to the stream's last message.
+
+Output, a line of which each is of the message that was put last to the stream:
+  STREAM ok      it was put
+  STREAM yes     it was got
+  STREAM no      a host crashed: it may or may not have been got
+With --json: {\"stream\":1,\"event\":\"ok\"}, and so on.
+
+At the end of standard input the host goes on until all is answered, or as long as --wait says.
+
+ADDR is HOST:PORT. The other host is `amo receive`, with as many streams and with both addresses the
+other way round. What does not come from there is dropped, but nothing is authenticated: use a
+network that keeps forgers out.
+
+The journal has a line for each event, which is written before its packet leaves and before its
+answer is shown. So the host may be killed, and started again on its journal: a last line that is
+torn is cut off, and it is noted that each stream crashed and recovered. What was sent and has no
+answer by then may or may not be got. `amo audit` takes the journals of both hosts. A power failure
+loses lines that the disk has not: --sync waits for it.
+
+Status:
+  0  all is answered
+  2  arguments that do not parse
+  4  `amo: out of memory`
+     `amo: no address: ADDR`
+     `amo: a socket failed`: it cannot be opened; later faults of it lose packets and no more
+     `amo: the journal is in use`: another process has it
+     `amo: the journal's line L is malformed`, `.. has another number`, `.. is of the other side`: it
+     is no journal of a host that sends, and was not changed
+     `amo: the journal failed`, `amo: the journal is full`: the file, or the disk
+     `amo: a client's device failed`: standard input, standard output, or the clock
+  5  --wait is over, and something is still on its way
+
+Example:
+  amo send --listen 127.0.0.1:7001 --peer 127.0.0.1:7002 --streams 8 --journal send.journal";
+
+pub(crate) const RECEIVE_ABOUT: &str =
+    "Receives messages from another host, each at most once; can be killed at any moment";
+
+pub(crate) const RECEIVE_AFTER_HELP: &str =
+    "Output, a line for each message that it got, in the order put of each stream:
+  STREAM TEXT    or STREAM 0xHEX where the message is no UTF-8 or has a control character
+With --json: {\"stream\":1,\"event\":\"got\",\"text\":\"TEXT\"}, or \"hex\":\"HEX\" in place of the text.
+
+The host ends at the end of standard input, or once it got as many messages as --count says. It then
+waits for what is still on its way: as long as --wait says, or else for a second at most.
+
+ADDR is HOST:PORT. The other host is `amo send`, with as many streams and with both addresses the
+other way round. What does not come from there is dropped, but nothing is authenticated: use a
+network that keeps forgers out.
+
+The journal has a line for each event, which is written before its packet leaves and before its
+message is shown. So the host may be killed, and started again on its journal: a last line that is
+torn is cut off, and it is noted that each stream crashed and recovered. A message whose line was
+written and which was not shown by then is lost, and none is shown twice. `amo audit` takes the
+journals of both hosts. A power failure loses lines that the disk has not: --sync waits for it.
+
+Status:
+  0  done
+  2  arguments that do not parse
+  4  as of `amo send`; the journal is one of a host that receives
+  5  --wait is over, and something is still on its way
+
+Example:
+  amo receive --listen 127.0.0.1:7002 --peer 127.0.0.1:7001 --streams 8 --journal receive.journal";
 
 pub(crate) const AUDIT_ABOUT: &str =
     "Audits a journal, or those of two processes, and prints a line with the verdict";

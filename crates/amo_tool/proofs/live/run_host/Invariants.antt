@@ -1,0 +1,8 @@
+use Rattle.amo_tool.proofs.live.run_host.Given as goal
+
+-- the counts of failures are the blanks' ledgers
+abbrev pub ghosts-run_opened-L-Ledger : goal.ghosts-run_opened-L-Ledger
+ghosts-run_opened-L-Ledger g a = record { name = a.link.name; parts = a.link.parts }
+
+abbrev pub ghosts-run_opened-M-Ledger : goal.ghosts-run_opened-M-Ledger
+ghosts-run_opened-M-Ledger g a = record { name = a.lines.name; parts = a.lines.parts }
