@@ -176,6 +176,45 @@ fn fails_once(rt: HostRuntime) {
     assert_eq!(rt; other.receive(&mut buffer), Ok(None));
 }
 
+/// What an end took out at once it hands out in the order in which it was sent, and then what came after it.
+#[test]
+fn an_end_hands_out_what_it_took(rt: HostRuntime) {
+    let channel = Mutex::new(calm_channel(rt.alloc()));
+    let mut here = LossyEnd::new(&rt, &channel, End::Sender);
+    let mut there = LossyEnd::new(&rt, &channel, End::Receiver);
+    let mut buffer = [0; MAX_DATAGRAM];
+    for number in 0..40u8 {
+        assert_eq!(rt; here.send(&[number]), Ok(()));
+    }
+    for number in 0..40u8 {
+        assert_eq!(rt; there.receive(&mut buffer), Ok(Some(1)));
+        assert_eq!(rt; buffer[0], number);
+        assert_eq!(rt; here.send(&[number]), Ok(()));
+    }
+    for number in 0..40u8 {
+        assert_eq!(rt; there.receive(&mut buffer), Ok(Some(1)));
+        assert_eq!(rt; buffer[0], number);
+    }
+    assert_eq!(rt; there.receive(&mut buffer), Ok(None));
+    assert_eq!(rt; here.receive(&mut buffer), Ok(None));
+}
+
+/// Two channels, one each way: what an end sends comes at the other end, and nowhere else.
+#[test]
+fn ends_share_two_channels(rt: HostRuntime) {
+    let there = Mutex::new(calm_channel(rt.alloc()));
+    let back = Mutex::new(calm_channel(rt.alloc()));
+    let mut sender = LossyEnd::over(&rt, &there, &back, End::Sender);
+    let mut receiver = LossyEnd::over(&rt, &back, &there, End::Receiver);
+    let mut buffer = [0; MAX_DATAGRAM];
+    assert_eq!(rt; sender.send(b"a"), Ok(()));
+    assert_eq!(rt; receiver.send(b"bb"), Ok(()));
+    assert_eq!(rt; sender.receive(&mut buffer), Ok(Some(2)));
+    assert_eq!(rt; sender.receive(&mut buffer), Ok(None));
+    assert_eq!(rt; receiver.receive(&mut buffer), Ok(Some(1)));
+    assert_eq!(rt; receiver.receive(&mut buffer), Ok(None));
+}
+
 /// Sends so many datagrams, and counts those that were refused.
 fn send_all<L: Link + Drop>(mut link: L, count: u32) -> u32 {
     let mut refused = 0u32;
