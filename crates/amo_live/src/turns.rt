@@ -74,13 +74,14 @@ pub fn serve<C: Clock + Eprint, L: Link, S: Durable, W: Words, I: Read, O: Write
     let mut since: Option<u64> = None;
     'turns: for _turn in 0..u64::MAX {
         let now = microseconds(rt, &start)?;
-        let is_done = desk.is_done() || limits.count.is_some_and(|count| count <= service.got());
-        since = if is_done {
+        let is_over = limits.count.is_some_and(|count| count <= service.got());
+        since = if is_over || desk.takes_none() {
             Some(since.unwrap_or(now))
         } else {
             None
         };
-        if let Some(ended) = limits.ending(service.is_at_rest(), since, now) {
+        let is_at_rest = service.is_at_rest() && desk.kept.is_none();
+        if let Some(ended) = limits.ending(is_at_rest, since, now) {
             return Ok(ended);
         }
         let until = limits.until(service.next_due(), since);
@@ -159,7 +160,7 @@ fn take_lines<C: Eprint, L: Link, S: Durable, W: Words, I: Read, O: Write>(
 }
 
 impl Limits {
-    /// When the host ends at the latest, if it does. Its clients are done since a time, if they are.
+    /// When the host ends at the latest, if it does. Since a time it takes no line, if so.
     fn end(&self, since: Option<u64>) -> Option<u64> {
         let limit = match self.wait {
             Some(wait) => wait,
@@ -194,9 +195,9 @@ impl Limits {
 }
 
 impl<I: Read, O: Write> Desk<I, O> {
-    /// Whether no line will come any more, and none waits.
-    fn is_done(&self) -> bool {
-        !self.input.is_open() && self.kept.is_none()
+    /// Whether no line is taken any more, or none before the peer has answered: then one waits to be put, and its stream is not at rest.
+    fn takes_none(&self) -> bool {
+        !self.input.is_open() || self.kept.is_some()
     }
 
     /// Waits, and reads lines once where some have come. While a message waits to be put again, lines wait too.
