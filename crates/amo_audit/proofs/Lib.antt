@@ -17,3 +17,4 @@ pub mod Pieces
 pub mod Explained
 pub mod Together
 pub mod Marked
+pub mod Entries

@@ -4,6 +4,7 @@ use Rattle.std.specs.Prelude.{◌↔◌, is_some}
 use Rattle.std.proofs.lemmas.List.{append-nil}
 use Rattle.amo_text.proofs.Lines.{no_line, one_line}
 use Rattle.amo_world.specs.declared.event.Event.{Event}
+use Rattle.amo_world.specs.History.{DeliversEmitted}
 use Rattle.amo_audit.specs.declared.numbered.Numbered.{Numbered}
 use Rattle.amo_audit.specs.declared.both.Both.{Both}
 use Rattle.amo_audit.specs.declared.verdict.Verdict.{Verdict}
@@ -70,82 +71,119 @@ here (x ∷ es) (suc i) e more is =
     let after : suc i + 1 ≡ suc (i + 1) = omega arith in
     (omega (arith, rest.0), rest.1, rest.2 ∙ ap (λ n. drop n (x ∷ es)) (sym after))
 
--- how far both have come
-pub record Going (first second : List ℕ) (both : Both) (left : Option Event) (left_rest : List ℕ) (right : Option Event) (right_rest : List ℕ) : Type 0 where
+-- how far both have come, after this history
+pub record Going (first second : List ℕ) (past : List Event) (left : Option Event) (left_rest : List ℕ) (right : Option Event) (right_rest : List ℕ) : Type 0 where
   pub x : List Event
   pub y : List Event
   pub i : ℕ
   pub j : ℕ
-  pub past : List Event
   pub x_is : IsJournal x first
   pub y_is : IsJournal y second
   pub reached : Reached x y i j past
-  pub follows : Follows both past
   pub left_is : AreComing (drop i x) left left_rest
   pub right_is : AreComing (drop j y) right right_rest
 
 -- both begin
-pub begin : (first second : List ℕ) (both : Both) (left : Option Event) (left_rest : List ℕ) (right : Option Event) (right_rest : List ℕ) (x y : List Event) → IsJournal x first → IsJournal y second → AreApart x y
-    → Follows both [] → AreComing x left left_rest → AreComing y right right_rest → Going first second both left left_rest right right_rest
-begin first second both left left_rest right right_rest x y p q apart follows coming coming' = record {
+pub begin : (first second : List ℕ) (left : Option Event) (left_rest : List ℕ) (right : Option Event) (right_rest : List ℕ) (x y : List Event) → IsJournal x first → IsJournal y second → AreApart x y
+    → AreComing x left left_rest → AreComing y right right_rest → Going first second [] left left_rest right right_rest
+begin first second left left_rest right right_rest x y p q apart coming coming' = record {
   x = x;
   y = y;
   i = 0;
   j = 0;
-  past = [];
   x_is = p;
   y_is = q;
   reached = nothing_taken x y apart;
-  follows = follows;
   left_is = coming;
   right_is = coming';
 }
 
+-- the events behind the next one
+tail_of : (events : List Event) (e : Event) (next : Option Event) (rest : List ℕ) → AreComing events next rest → next ≡ Some e → (more : List Event) × (events ≡ e ∷ more)
+tail_of [] e next rest coming is = let no : None ≡ Some e = sym coming ∙ is in cc
+tail_of (d ∷ events) e next rest coming is =
+    let same : d ≡ e = cc in
+    (events, ap (λ (f : Event). f ∷ events) same)
+
 -- one event more was taken
-module _ (first second : List ℕ) (both now : Both) (left : Option Event) (left_rest : List ℕ) (right : Option Event) (right_rest : List ℕ) (going : Going first second both left left_rest right right_rest) where
-  pub left_taken : (left' : Option Event) (left_rest' : List ℕ) → NextMayGo going.past left
-      → ((past more : List Event) (e : Event) → Follows both past → AreComing (e ∷ more) left left_rest → Follows now (e ∷ past) × AreComing more left' left_rest')
-      → Going first second now left' left_rest' right right_rest
-  left_taken left' left_rest' may takes =
-      let goes = (next_may_go going.past (drop going.i going.x) left left_rest going.left_is).0 may in
-      let (e, more, is) = first_of_these going.past (drop going.i going.x) goes in
+module _ (first second : List ℕ) (past : List Event) (left : Option Event) (left_rest : List ℕ) (right : Option Event) (right_rest : List ℕ) (going : Going first second past left left_rest right right_rest) (e : Event) where
+  pub left_goes : (left' : Option Event) (left_rest' : List ℕ) → left ≡ Some e → DeliversEmitted past e
+      → ((more : List Event) → AreComing (e ∷ more) left left_rest → AreComing more left' left_rest')
+      → Going first second (e ∷ past) left' left_rest' right right_rest
+  left_goes left' left_rest' next may comes_next =
+      let (more, is) = tail_of (drop going.i going.x) e left left_rest going.left_is next in
       let at = here going.x going.i e more is in
-      let took = takes going.past more e going.follows (subst (λ (es : List Event). AreComing es left left_rest) is going.left_is) in
       record {
         x = going.x;
         y = going.y;
         i = going.i + 1;
         j = going.j;
-        past = e ∷ going.past;
         x_is = going.x_is;
         y_is = going.y_is;
-        reached = first_taken going.x going.y going.i going.j going.past e at.0 at.1 goes going.reached;
-        follows = took.0;
-        left_is = subst (λ (es : List Event). AreComing es left' left_rest') at.2 took.1;
+        reached = first_taken going.x going.y going.i going.j past e at.0 at.1 (subst (MayGo past) (sym is) may) going.reached;
+        left_is = subst (λ (es : List Event). AreComing es left' left_rest') at.2 (comes_next more (subst (λ (es : List Event). AreComing es left left_rest) is going.left_is));
         right_is = going.right_is;
       }
 
-  pub right_taken : (right' : Option Event) (right_rest' : List ℕ) → (NextMayGo going.past left → ⊥) → NextMayGo going.past right
-      → ((past more : List Event) (e : Event) → Follows both past → AreComing (e ∷ more) right right_rest → Follows now (e ∷ past) × AreComing more right' right_rest')
-      → Going first second now left left_rest right' right_rest'
-  right_taken right' right_rest' not may takes =
-      let goes = (next_may_go going.past (drop going.j going.y) right right_rest going.right_is).0 may in
-      let (e, more, is) = first_of_these going.past (drop going.j going.y) goes in
+  pub right_goes : (right' : Option Event) (right_rest' : List ℕ) → (NextMayGo past left → ⊥) → right ≡ Some e → DeliversEmitted past e
+      → ((more : List Event) → AreComing (e ∷ more) right right_rest → AreComing more right' right_rest')
+      → Going first second (e ∷ past) left left_rest right' right_rest'
+  right_goes right' right_rest' not next may comes_next =
+      let (more, is) = tail_of (drop going.j going.y) e right right_rest going.right_is next in
       let at = here going.y going.j e more is in
-      let took = takes going.past more e going.follows (subst (λ (es : List Event). AreComing es right right_rest) is going.right_is) in
       record {
         x = going.x;
         y = going.y;
         i = going.i;
         j = going.j + 1;
-        past = e ∷ going.past;
         x_is = going.x_is;
         y_is = going.y_is;
-        reached = second_taken going.x going.y going.i going.j going.past e at.0 at.1 goes
-            (λ first_goes. not ((next_may_go going.past (drop going.i going.x) left left_rest going.left_is).1 first_goes)) going.reached;
-        follows = took.0;
+        reached = second_taken going.x going.y going.i going.j past e at.0 at.1 (subst (MayGo past) (sym is) may)
+            (λ first_goes. not ((next_may_go past (drop going.i going.x) left left_rest going.left_is).1 first_goes)) going.reached;
         left_is = going.left_is;
-        right_is = subst (λ (es : List Event). AreComing es right' right_rest') at.2 took.1;
+        right_is = subst (λ (es : List Event). AreComing es right' right_rest') at.2 (comes_next more (subst (λ (es : List Event). AreComing es right right_rest) is going.right_is));
+      }
+
+-- an event that may go is there
+pub there_is : (past : List Event) (next : Option Event) → NextMayGo past next → (e : Event) × (next ≡ Some e) × DeliversEmitted past e
+there_is past None may = absurd may
+there_is past (Some e) may = (e, refl, may)
+
+-- how far both have come, followed by what judges them on the way
+pub record Followed (first second : List ℕ) (both : Both) (left : Option Event) (left_rest : List ℕ) (right : Option Event) (right_rest : List ℕ) : Type 0 where
+  pub past : List Event
+  pub follows : Follows both past
+  pub going : Going first second past left left_rest right right_rest
+
+-- one event more was judged
+abbrev Takes : Both → Both → Option Event → List ℕ → Option Event → List ℕ → Type 0
+Takes both now next rest next' rest' = (past more : List Event) (e : Event) → Follows both past → AreComing (e ∷ more) next rest → Follows now (e ∷ past) × AreComing more next' rest'
+
+-- what comes where the next event is known
+coming_now : (e : Event) (events more : List Event) (next : Option Event) (rest : List ℕ) → AreComing events next rest → events ≡ e ∷ more → AreComing (e ∷ more) next rest
+coming_now e events more next rest coming is = subst (λ (es : List Event). AreComing es next rest) is coming
+
+module _ (first second : List ℕ) (both now : Both) (left : Option Event) (left_rest : List ℕ) (right : Option Event) (right_rest : List ℕ) (followed : Followed first second both left left_rest right right_rest) where
+  pub left_taken : (left' : Option Event) (left_rest' : List ℕ) → NextMayGo followed.past left → Takes both now left left_rest left' left_rest' → Followed first second now left' left_rest' right right_rest
+  left_taken left' left_rest' may takes =
+      let going = followed.going in
+      let (e, next, may_go) = there_is followed.past left may in
+      let (more, is) = tail_of (drop going.i going.x) e left left_rest going.left_is next in
+      record {
+        past = e ∷ followed.past;
+        follows = (takes followed.past more e followed.follows (coming_now e (drop going.i going.x) more left left_rest going.left_is is)).0;
+        going = left_goes first second followed.past left left_rest right right_rest going e left' left_rest' next may_go (λ more coming. (takes followed.past more e followed.follows coming).1);
+      }
+
+  pub right_taken : (right' : Option Event) (right_rest' : List ℕ) → (NextMayGo followed.past left → ⊥) → NextMayGo followed.past right → Takes both now right right_rest right' right_rest' → Followed first second now left left_rest right' right_rest'
+  right_taken right' right_rest' not may takes =
+      let going = followed.going in
+      let (e, next, may_go) = there_is followed.past right may in
+      let (more, is) = tail_of (drop going.j going.y) e right right_rest going.right_is next in
+      record {
+        past = e ∷ followed.past;
+        follows = (takes followed.past more e followed.follows (coming_now e (drop going.j going.y) more right right_rest going.right_is is)).0;
+        going = right_goes first second followed.past left left_rest right right_rest going e right' right_rest' not next may_go (λ more coming. (takes followed.past more e followed.follows coming).1);
       }
 
 apart_of : (x y : List Event) (i j : ℕ) (past : List Event) → Reached x y i j past → AreApart x y
@@ -161,30 +199,30 @@ none_next : (events : List Event) (next : Option Event) (rest : List ℕ) → Ar
 none_next [] next rest coming is = coming
 none_next (e ∷ events) next rest coming is = cc
 
-module _ (first second : List ℕ) (both : Both) (left : Option Event) (left_rest : List ℕ) (right : Option Event) (right_rest : List ℕ) (going : Going first second both left left_rest right right_rest) where
+module _ (first second : List ℕ) (past : List Event) (left : Option Event) (left_rest : List ℕ) (right : Option Event) (right_rest : List ℕ) (going : Going first second past left left_rest right right_rest) where
   -- neither may go
-  pub stuck : (left ≡ None → right ≡ None → ⊥) → (NextMayGo going.past left → ⊥) → (NextMayGo going.past right → ⊥) → JudgesBoth first second Stuck
+  pub stuck : (left ≡ None → right ≡ None → ⊥) → (NextMayGo past left → ⊥) → (NextMayGo past right → ⊥) → JudgesBoth first second Stuck
   stuck some not not' = (
     going.x,
     going.y,
     going.x_is,
     going.y_is,
     (
-      apart_of going.x going.y going.i going.j going.past going.reached,
-      none_honest going.x going.y going.i going.j going.past
+      apart_of going.x going.y going.i going.j past going.reached,
+      none_honest going.x going.y going.i going.j past
           (λ p q. some (none_next (drop going.i going.x) left left_rest going.left_is (past_end going.x going.i p)) (none_next (drop going.j going.y) right right_rest going.right_is (past_end going.y going.j q)))
-          (λ goes. not ((next_may_go going.past (drop going.i going.x) left left_rest going.left_is).1 goes))
-          (λ goes. not' ((next_may_go going.past (drop going.j going.y) right right_rest going.right_is).1 goes))
+          (λ goes. not ((next_may_go past (drop going.i going.x) left left_rest going.left_is).1 goes))
+          (λ goes. not' ((next_may_go past (drop going.j going.y) right right_rest going.right_is).1 goes))
           going.reached,
     ),
   )
 
   -- all was taken
-  pub all_judged : (v : Verdict) → left ≡ None → right ≡ None → ((past : List Event) → Follows both past → JudgesEvents (reverse past) v) → JudgesBoth first second (Whole v)
-  all_judged v none none' judges =
+  pub all_judged : (v : Verdict) → left ≡ None → right ≡ None → JudgesEvents (reverse past) v → JudgesBoth first second (Whole v)
+  all_judged v none none' judged =
       let p = none_left (drop going.i going.x) left_rest (subst (λ (n : Option Event). AreComing (drop going.i going.x) n left_rest) none going.left_is) in
       let q = none_left (drop going.j going.y) right_rest (subst (λ (n : Option Event). AreComing (drop going.j going.y) n right_rest) none' going.right_is) in
-      merge_judged first second going.x going.y (reverse going.past) v going.x_is going.y_is
-      (apart_of going.x going.y going.i going.j going.past going.reached)
-      (subst (Prefers [] going.x going.y) (append-nil (reverse going.past)) (going.reached.on [] (p, q)))
-      (judges going.past going.follows)
+      merge_judged first second going.x going.y (reverse past) v going.x_is going.y_is
+      (apart_of going.x going.y going.i going.j past going.reached)
+      (subst (Prefers [] going.x going.y) (append-nil (reverse past)) (going.reached.on [] (p, q)))
+      judged

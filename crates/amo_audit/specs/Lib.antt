@@ -8,6 +8,7 @@ pub mod Sides
 pub mod Hosts
 pub mod Coming
 pub mod Both
+pub mod Entering
 pub mod Marks
 pub mod Merge
 pub mod MergeFault

@@ -7,6 +7,7 @@ ghost use Rattle.amo_audit.specs.Judgement.{AreApart, IsNoJournal, JudgesBoth, J
 
 use crate::both::Both;
 use crate::coming::Coming;
+use crate::entering::enter_both;
 use crate::judgement::Judgement;
 use crate::marking::{mark_journal, meet};
 use crate::shares::SIDES;
@@ -46,8 +47,19 @@ fn judge_both(alloc: Global, first: &[u8], second: &[u8]) -> Judgement
     }
 }
 
-/// Merges the events of two journals and judges them on the way.
+/// Merges the events of two journals and judges them. Only where an event is at fault is more kept than a world.
 fn judge_merged(alloc: Global, first: &[u8], second: &[u8]) -> Result<Judgement, NoMemory>
+    requires { OfBoth first.now second.now AreApart }
+    ensures { IfOk result (JudgesBoth first.now second.now) }
+{
+    match enter_both(alloc, first, second)? {
+        Some(judgement) => Ok(judgement),
+        None => judge_at_fault(alloc, first, second),
+    }
+}
+
+/// Merges the events of two journals, also past one at fault, and judges them on the way.
+fn judge_at_fault(alloc: Global, first: &[u8], second: &[u8]) -> Result<Judgement, NoMemory>
     requires { OfBoth first.now second.now AreApart }
     ensures { IfOk result (JudgesBoth first.now second.now) }
 {

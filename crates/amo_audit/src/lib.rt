@@ -21,7 +21,8 @@
 //!   preferred interleaving, wherever any is honest.
 //!
 //! An audit keeps a world, which holds no event, and three numbers; it reads each line once and keeps no line. Of two journals it reads
-//! each line twice, and keeps one event of each, a world, and what a merge keeps of the sides.
+//! each line twice, and keeps one event of each and a world, which knows what was emitted. Only where an event is at fault does it begin
+//! anew, with what a merge keeps of the sides: a world does not go on past that.
 //!
 //! A merge reads each list twice, and keeps what it took and, of each side, its automaton and a set of what it emitted.
 //!
@@ -35,6 +36,7 @@ mod auditing;
 mod auditor;
 mod both;
 mod coming;
+mod entering;
 #[cfg(test)]
 mod explain_tests;
 mod explaining;
