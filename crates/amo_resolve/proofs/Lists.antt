@@ -1,13 +1,13 @@
 -- Lists step by step.
-use Rattle.std.proofs.Common.{◌≡◌, ◌↔◌, ℕ, zero, suc, ◌+◌, ◌-◌, ◌<◌, ◌≤◌, ◌||◌, Bool, true, false, Option, Some, None, List, [], ◌∷◌, ◌++◌, length, map, take, drop, remove, get_or, refl, sym, ◌∙◌, ap, subst, inl, inr, append_assoc, arith}
-use Rattle.std.proofs.lemmas.List.{append-nil, take_more, drop_more, drop_all, take_all, get_or-drop, length-drop}
+use Rattle.std.proofs.Common.{◌≡◌, ◌↔◌, ℕ, zero, suc, ◌+◌, ◌-◌, ◌<◌, ◌≤◌, ◌||◌, Bool, true, false, Option, Some, None, List, [], ◌∷◌, ◌++◌, length, map, take, drop, remove, reverse, get_or, if◌then◌else◌, refl, sym, ◌∙◌, ap, subst, inl, inr, append_assoc, arith}
+use Rattle.std.proofs.lemmas.List.{append-nil, take_more, drop_more, drop_all, take_all, get_or-drop, length-drop, reverse-append}
 use Rattle.std.proofs.lemmas.List.Elements.{filter_map-append}
 use Rattle.std.specs.Option.{option_to_list}
 use Rattle.amo_object.specs.declared.step.Step.{Step}
 use Rattle.amo_object.specs.declared.step.Step.TheVariants.{Put, Get, Ack, Crash, Recover, DownReply, Lose, LoseAck}
 use Rattle.amo_object.specs.Delivery.{message_got, messages_got, IsSubsequence}
 use Rattle.amo_resolve.specs.declared.plan.Note.{Note}
-use Rattle.amo_resolve.specs.Plan.{last, MarksDown, sender_after, receiver_after}
+use Rattle.amo_resolve.specs.Plan.{last, MarksDown, downs, noted_down, sender_after, receiver_after}
 use Rattle.amo_resolve.proofs.Subsequences.{subsequence-refl, subsequence-trans, subsequence-after, subsequence-longer, subsequence-last, subsequence-nil, last-push}
 
 pub map_remove : {X Y : Type 0} (f : X → Y) (xs : List X) (i : ℕ) → map f (remove xs i) ≡ remove (map f xs) i
@@ -42,16 +42,28 @@ got_pushed calls i call m got within is by so_far =
     ∙ ap (λ (ys : List (List ℕ)). messages_got (take i calls) ++ ys) (sym (got_of call m by) ∙ ap (λ (x : Step). messages_got (x ∷ [])) is)
     ∙ sym (got_more calls i call within)
 
--- notes that mark the rest, with one more
-pub marks_more : (calls : List Step) (place : ℕ) (call : Step) (sender receiver : Bool) (items : List Note) (note : Note)
-    → place < length calls → call ≡ get_or calls place call
-    → note.is_down ≡ sender_after sender call || receiver_after receiver call
-    → ((more : List Note) → MarksDown sender receiver (drop place calls) more → MarksDown false false calls (items ++ more))
-    → (more : List Note) → MarksDown (sender_after sender call) (receiver_after receiver call) (drop (place + 1) calls) more
-    → MarksDown false false calls ((items ++ note ∷ []) ++ more)
-marks_more calls place call sender receiver items note within is down marks more rest =
-    subst (λ (notes : List Note). MarksDown false false calls notes) (sym (append_assoc items (note ∷ []) more))
-    (marks (note ∷ more) (subst (λ (steps : List Step). MarksDown sender receiver steps (note ∷ more)) (sym (drop_more calls place call within ∙ ap (λ (x : Step). x ∷ drop (place + 1) calls) (sym is))) (down, rest)))
+-- one of two flags
+pub either_first : (a b p : Bool) → a ≡ true → p ≡ true → p ≡ (a || b)
+either_first a b p first is = is ∙ ap (λ (x : Bool). x || b) (sym first)
+
+pub either_second : (a b p : Bool) → a ≡ false → p ≡ b → p ≡ (a || b)
+either_second a b p second is = is ∙ ap (λ (x : Bool). x || b) (sym second)
+
+-- whether a side is down after the calls so far, with one more
+pub downs_more : (calls : List Step) (place : ℕ) (call : Step) (sender receiver s r down : Bool) (items all : List Bool)
+    → place < length calls → call ≡ get_or calls place call → s ≡ sender_after sender call → r ≡ receiver_after receiver call → down ≡ (s || r)
+    → items ++ downs sender receiver (drop place calls) ≡ all
+    → (items ++ down ∷ []) ++ downs s r (drop (place + 1) calls) ≡ all
+downs_more calls place call sender receiver s r down items all within is is_s is_r is_down so_far =
+    let rest : List Step = drop (place + 1) calls in
+    let s2 : Bool = sender_after sender call in
+    let r2 : Bool = receiver_after receiver call in
+    ap (λ (b : Bool). (items ++ b ∷ []) ++ downs s r rest) is_down
+    ∙ ap (λ (b : Bool). (items ++ (b || r) ∷ []) ++ downs b r rest) is_s
+    ∙ ap (λ (b : Bool). (items ++ (s2 || b) ∷ []) ++ downs s2 b rest) is_r
+    ∙ append_assoc items ((s2 || r2) ∷ []) (downs s2 r2 rest)
+    ∙ ap (λ (steps : List Step). items ++ downs sender receiver steps) (sym (drop_more calls place call within ∙ ap (λ (x : Step). x ∷ drop (place + 1) calls) (sym is)))
+    ∙ so_far
 
 -- looking for a part of a list from the end on
 pub same_last : {X : Type 0} (xs ys : List X) (x : X) → IsSubsequence (xs ++ x ∷ []) (ys ++ x ∷ []) ↔ IsSubsequence xs ys
@@ -82,12 +94,45 @@ part_more got first end x some within is =
     let count : end - first ≡ end - 1 - first + 1 = omega arith in
     ap (λ (n : ℕ). take n (drop first got)) count ∙ take_more (drop first got) (end - 1 - first) x inside ∙ ap (λ (y : List ℕ). take (end - 1 - first) (drop first got) ++ y ∷ []) at
 
--- notes that mark no calls more
-pub marks_all : (calls : List Step) (place : ℕ) (sender receiver : Bool) (items : List Note) → length calls ≤ place
-    → ((more : List Note) → MarksDown sender receiver (drop place calls) more → MarksDown false false calls (items ++ more)) → MarksDown false false calls items
-marks_all calls place sender receiver items end marks =
-    subst (λ (notes : List Note). MarksDown false false calls notes) (append-nil items)
-    (marks [] (subst (λ (steps : List Step). MarksDown sender receiver steps []) (sym (drop_all place calls end)) tt))
+-- and with no more
+pub downs_all : (calls : List Step) (place : ℕ) (sender receiver : Bool) (items all : List Bool) → length calls ≤ place
+    → items ++ downs sender receiver (drop place calls) ≡ all → items ≡ all
+downs_all calls place sender receiver items all end so_far =
+    sym (append-nil items) ∙ ap (λ (steps : List Step). items ++ downs sender receiver steps) (sym (drop_all place calls end)) ∙ so_far
+
+pub length-downs : (sender receiver : Bool) (calls : List Step) → length (downs sender receiver calls) ≡ length calls
+length-downs sender receiver [] = refl
+length-downs sender receiver (call ∷ calls) = omega (arith, length-downs (sender_after sender call) (receiver_after receiver call) calls)
+
+-- notes that say so mark the calls
+pub marks_downs : (sender receiver : Bool) (calls : List Step) (notes : List Note) → map (λ (n : Note). n.is_down) notes ≡ downs sender receiver calls
+    → MarksDown sender receiver calls notes × (length notes ≡ length calls)
+marks_downs sender receiver [] [] is = (tt, refl)
+marks_downs sender receiver [] (note ∷ notes) is = absurd cc
+marks_downs sender receiver (call ∷ calls) [] is = absurd cc
+marks_downs sender receiver (call ∷ calls) (note ∷ notes) is =
+    let here : note.is_down ≡ (sender_after sender call || receiver_after receiver call) = cc in
+    let rest : map (λ (n : Note). n.is_down) notes ≡ downs (sender_after sender call) (receiver_after receiver call) calls = cc in
+    let both = marks_downs (sender_after sender call) (receiver_after receiver call) calls notes rest in
+    ((here, both.0), omega (arith, both.1))
+
+-- a note more that is kept, or is not
+pub kept_more : (kept notes : List Note) (note : Note) (down : Bool) → note.is_down ≡ down → reverse kept ≡ noted_down notes
+    → reverse (if down then kept ++ note ∷ [] else kept) ≡ noted_down (note ∷ notes)
+kept_more kept notes note true down is = reverse-append kept (note ∷ []) ∙ ap (λ (ns : List Note). note ∷ ns) is ∙ ap (λ (b : Bool). if b then note ∷ noted_down notes else noted_down notes) (sym down)
+kept_more kept notes note false down is = is ∙ ap (λ (b : Bool). if b then note ∷ noted_down notes else noted_down notes) (sym down)
+
+-- the note that was kept last is taken
+pub kept_taken : (before after notes : List Note) (result : Option Note) (note : Note) → note.is_down ≡ true → before ≡ after ++ option_to_list result
+    → (result ≡ None → before ≡ []) → reverse before ≡ noted_down (note ∷ notes) → (result ≡ Some note) × (reverse after ≡ noted_down notes)
+kept_taken before after notes (Some taken) note down parts none is =
+    let all : taken ∷ reverse after ≡ note ∷ noted_down notes =
+    sym (reverse-append after (taken ∷ [])) ∙ ap reverse (sym parts) ∙ is ∙ ap (λ (b : Bool). if b then note ∷ noted_down notes else noted_down notes) down in
+    let here : taken ≡ note = cc in
+    (ap (λ (n : Note). Some n) here, cc)
+kept_taken before after notes None note down parts none is =
+    let all : [] ≡ note ∷ noted_down notes = ap reverse (sym (none refl)) ∙ is ∙ ap (λ (b : Bool). if b then note ∷ noted_down notes else noted_down notes) down in
+    absurd cc
 
 -- how one call from the end is looked for
 pub none_left : (got self : List (List ℕ)) (first end place : ℕ) → first ≡ end

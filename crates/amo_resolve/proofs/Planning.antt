@@ -1,15 +1,15 @@
 -- The steps of making a plan.
-use Rattle.std.proofs.Common.{◌≡◌, ℕ, zero, suc, ◌+◌, ◌-◌, ◌<◌, ◌≤◌, Bool, true, false, if◌then◌else◌, nat_eq, List, [], ◌∷◌, ◌++◌, length, take, drop, set, get_or, sym, ◌∙◌, ap, subst, arith}
+use Rattle.std.proofs.Common.{◌≡◌, ℕ, ◌+◌, ◌-◌, ◌<◌, ◌≤◌, Bool, true, false, if◌then◌else◌, nat_eq, List, [], ◌∷◌, ◌++◌, length, map, take, drop, reverse, get_or, sym, ◌∙◌, ap, subst, arith}
 use Rattle.std.proofs.lemmas.Bool.{eqb-true, eq-eqb}
-use Rattle.std.proofs.lemmas.List.{drop-set, drop_at, take-append-drop, length-append, drop_more, drop-drop}
+use Rattle.std.proofs.lemmas.List.{drop_all, drop_at, take-append-drop, length-append, drop_more, drop-drop}
 use Rattle.amo_object.specs.declared.step.Step.{Step}
 use Rattle.amo_object.specs.declared.step.Step.TheVariants.{Put, Get, Ack, Crash, Recover, DownReply, Lose, LoseAck}
 use Rattle.std.proofs.lemmas.List.Elements.{filter_map-append}
 use Rattle.amo_object.specs.Delivery.{message_got, messages_got, IsSubsequence}
-use Rattle.amo_resolve.proofs.Lists.{got_more}
+use Rattle.amo_resolve.proofs.Lists.{got_more, marks_downs}
 use Rattle.amo_resolve.specs.declared.plan.Note.{Note}
 use Rattle.amo_resolve.specs.declared.plan.Ahead.{Ahead}
-use Rattle.amo_resolve.specs.Plan.{Leaves, is_told_yes, is_told_no, got_before_answer, Choose, wanted_of, GoesOn, GoesAfter, IsLeast, IsNoted, IsPlan, Asks, IsAhead, IsAfter, MarksDown}
+use Rattle.amo_resolve.specs.Plan.{Leaves, is_told_yes, is_told_no, got_before_answer, Choose, wanted_of, GoesOn, GoesAfter, IsLeast, IsNoted, IsPlan, Asks, IsAhead, IsAfter, IsPlanned, downs, noted_down}
 use Rattle.amo_resolve.proofs.Asking.{asks_down, asks_least}
 use Rattle.amo_resolve.proofs.Answered.{goes_on_told}
 
@@ -123,31 +123,55 @@ asks_noted settled calls notes note down noted when unless = by note.is_down dow
     by true is = asked
     by false is = absurd cc
 
--- a note that is put at its place
-pub marks_set : (sender receiver : Bool) (calls : List Step) (notes : List Note) (place : ℕ) (note there : Note)
-    → MarksDown sender receiver calls notes → note.is_down ≡ there.is_down → there ≡ get_or notes place there
-    → MarksDown sender receiver calls (set notes place note)
-marks_set sender receiver [] notes place note there marks same is = tt
-marks_set sender receiver (call ∷ calls) [] place note there marks same is = absurd marks
-marks_set sender receiver (call ∷ calls) (n ∷ notes) zero note there marks same is = (same ∙ ap (λ (x : Note). x.is_down) is ∙ marks.0, marks.1)
-marks_set sender receiver (call ∷ calls) (n ∷ notes) (suc place) note there marks same is = (marks.0, marks_set _ _ calls notes place note there marks.1 same is)
+-- the calls from a place on are planned
+pub record IsPlannedFrom (calls : List Step) (marks : List Bool) (those : List Note) (next : Ahead) (place : ℕ) : Type 0 where
+  pub notes : List Note
+  pub marked : map (λ (n : Note). n.is_down) notes ≡ drop place marks
+  pub plan : IsPlan (drop place calls) notes
+  pub ahead : IsAhead next (drop place calls) notes
+  pub kept : reverse those ≡ noted_down notes
 
-pub plan_set : (calls : List Step) (notes : List Note) (place next : ℕ) (call : Step) (note : Note) → next ≡ place + 1
-    → place < length calls → length notes ≡ length calls → call ≡ get_or calls place call
-    → IsNoted (drop next calls) (drop next notes) note → IsPlan (drop next calls) (drop next notes)
-    → IsPlan (drop place calls) (drop place (set notes place note))
-plan_set calls notes place next call note is within counted is_call noted plan =
-    subst (λ (ns : List Note). IsPlan (drop place calls) ns) (sym (drop-set notes place note (omega (arith, within, counted)) ∙ ap (λ (n : ℕ). note ∷ drop n notes) (sym is)))
-    (subst (λ (steps : List Step). IsPlan steps (note ∷ drop next notes)) (sym (drop_more calls place call within ∙ ap (λ (x : Step). x ∷ drop (place + 1) calls) (sym is_call) ∙ ap (λ (n : ℕ). call ∷ drop n calls) (sym is)))
-    (noted, plan))
+-- none of them is
+pub planned_none : (calls : List Step) (marks : List Bool) (kept : List Note) (ahead : Ahead) (place : ℕ) → length calls ≤ place → length marks ≤ place
+    → kept ≡ [] → IsAhead ahead [] [] → IsPlannedFrom calls marks kept ahead place
+planned_none calls marks kept ahead place end marks_end none known =
+    let no : drop place calls ≡ [] = drop_all place calls end in
+    record {
+      notes = [];
+      marked = sym (drop_all place marks marks_end);
+      plan = subst (λ (steps : List Step). IsPlan steps []) (sym no) tt;
+      ahead = subst (λ (steps : List Step). IsAhead ahead steps []) (sym no) known;
+      kept = ap reverse none;
+    }
 
-pub ahead_set : (ahead : Ahead) (calls : List Step) (notes : List Note) (place next : ℕ) (call : Step) (note : Note) → next ≡ place + 1
-    → place < length calls → length notes ≡ length calls → call ≡ get_or calls place call
-    → IsAhead ahead (call ∷ drop next calls) (note ∷ drop next notes) → IsAhead ahead (drop place calls) (drop place (set notes place note))
-ahead_set ahead calls notes place next call note is within counted is_call known =
-    subst (λ (ns : List Note). IsAhead ahead (drop place calls) ns) (sym (drop-set notes place note (omega (arith, within, counted)) ∙ ap (λ (n : ℕ). note ∷ drop n notes) (sym is)))
-    (subst (λ (steps : List Step). IsAhead ahead steps (note ∷ drop next notes)) (sym (drop_more calls place call within ∙ ap (λ (x : Step). x ∷ drop (place + 1) calls) (sym is_call) ∙ ap (λ (n : ℕ). call ∷ drop n calls) (sym is)))
-    known)
+-- one call more is
+pub planned_more : (calls : List Step) (marks : List Bool) (kept longer : List Note) (ahead before : Ahead) (place next : ℕ) (call : Step) (note : Note)
+    → next ≡ place + 1 → place < length calls → place < length marks → call ≡ get_or calls place call → note.is_down ≡ get_or marks place note.is_down
+    → (p : IsPlannedFrom calls marks kept ahead next) → IsNoted (drop next calls) p.notes note → IsAhead before (call ∷ drop next calls) (note ∷ p.notes)
+    → reverse longer ≡ noted_down (note ∷ p.notes) → IsPlannedFrom calls marks longer before place
+planned_more calls marks kept longer ahead before place next call note is within inside is_call is_down p noted known more =
+    let split : drop place calls ≡ call ∷ drop next calls =
+    drop_more calls place call within ∙ ap (λ (x : Step). x ∷ drop (place + 1) calls) (sym is_call) ∙ ap (λ (n : ℕ). call ∷ drop n calls) (sym is) in
+    record {
+      notes = note ∷ p.notes;
+      marked = ap (λ (bs : List Bool). note.is_down ∷ bs) (p.marked ∙ ap (λ (n : ℕ). drop n marks) is)
+          ∙ ap (λ (b : Bool). b ∷ drop (place + 1) marks) is_down ∙ sym (drop_more marks place note.is_down inside);
+      plan = subst (λ (steps : List Step). IsPlan steps (note ∷ p.notes)) (sym split) (noted, p.plan);
+      ahead = subst (λ (steps : List Step). IsAhead before steps (note ∷ p.notes)) (sym split) known;
+      kept = more;
+    }
+
+-- and all are
+pub planned_all : (calls : List Step) (marks : List Bool) (kept : List Note) (ahead : Ahead) (place : ℕ) → place ≡ 0 → marks ≡ downs false false calls
+    → IsPlannedFrom calls marks kept ahead place → IsPlanned calls kept
+planned_all calls marks kept ahead place start are p =
+    let both = marks_downs false false calls p.notes (p.marked ∙ ap (λ (n : ℕ). drop n marks) start ∙ are) in
+    record {
+      notes = p.notes;
+      marked = both;
+      plan = subst (λ (n : ℕ). IsPlan (drop n calls) p.notes) start p.plan;
+      kept = p.kept;
+    }
 
 -- how many were got before a call
 pub got_so_far : (calls : List Step) (place next : ℕ) (call : Step) → next ≡ place + 1 → place < length calls → call ≡ get_or calls place call

@@ -1,6 +1,6 @@
 -- The calls of a list, told one after another.
-use Rattle.std.proofs.Common.{◌≡◌, ℕ, ◌+◌, ◌-◌, ◌<◌, ◌≤◌, Bool, true, false, List, [], ◌∷◌, ◌++◌, length, take, drop, get_or, refl, sym, ◌∙◌, ap, subst, inl, inr, append_assoc, arith}
-use Rattle.std.proofs.lemmas.List.{drop_more, append-nil, length-append, length-take}
+use Rattle.std.proofs.Common.{◌≡◌, ℕ, ◌+◌, ◌-◌, ◌<◌, ◌≤◌, Bool, true, false, List, [], ◌∷◌, ◌++◌, length, take, drop, reverse, get_or, if◌then◌else◌, refl, sym, ◌∙◌, ap, subst, inl, inr, append_assoc, arith}
+use Rattle.std.proofs.lemmas.List.{drop_more, append-nil, length-append, length-take, take_all, get_or_default}
 use Rattle.amo_object.specs.declared.step.Step.{Step}
 use Rattle.amo_object.specs.declared.step.Step.TheVariants.{Put, Get, Ack, Crash, Recover, DownReply, Lose, LoseAck}
 use Rattle.amo_object.specs.Queue.{QueueState, Allows, after, is_any_down}
@@ -10,9 +10,9 @@ use Rattle.amo_resolve.specs.declared.draft.Draft.{Draft}
 use Rattle.amo_resolve.specs.declared.plan.Note.{Note}
 use Rattle.amo_resolve.specs.declared.replica.Replica.{Replica}
 use Rattle.amo_resolve.specs.Explanation.{IsExplained}
-use Rattle.amo_resolve.specs.Plan.{Leaves, is_told_yes, wanted_of, Choose, GoesOn, GoesAfter}
+use Rattle.amo_resolve.specs.Plan.{Leaves, is_told_yes, wanted_of, Choose, GoesOn, GoesAfter, noted_down}
 use Rattle.amo_resolve.specs.Telling.{Settles, Moves, IsNeeded, known_of, state_of}
-use Rattle.amo_resolve.specs.Weaving.{LeadsTo}
+use Rattle.amo_resolve.specs.Weaving.{LeadsTo, IsDraft}
 use Rattle.amo_resolve.proofs.Following.{Ready, Called, called, can_leave, ready_down, ready_up}
 use Rattle.amo_resolve.proofs.Serving.{marks_after}
 use Rattle.amo_resolve.proofs.Subsequences.{leaves-part, length-subsequence}
@@ -32,6 +32,35 @@ pub record IsSoFar (calls : List Step) (notes : List Note) (got : List (List ℕ
   pub later : drop replica.first got ≡ messages_got (drop place calls)
   pub ready : IsExplained calls → Ready (state_of got replica) (drop place calls) (drop place notes)
       × IsBound (known_of got replica) replica.others (GoesOn (drop place calls) (drop place notes))
+
+-- the same, with the notes that are kept for the other calls
+pub record IsTold (calls : List Step) (got : List (List ℕ)) (draft : Draft) (replica : Replica) (those : List Note) (place : ℕ) : Type 0 where
+  pub notes : List Note
+  pub counted : length notes ≡ length calls
+  pub so_far : IsSoFar calls notes got draft replica place
+  pub kept : IsExplained calls → reverse those ≡ noted_down (drop place notes)
+
+-- the note of a call
+abbrev pub note_of : List Note → ℕ → Note
+note_of notes place = get_or notes place (record { wanted = 0; is_down = false; is_told_yes = false; is_told_no = false })
+
+pub note_is : (notes : List Note) (place : ℕ) → place < length notes → note_of notes place ≡ get_or notes place (note_of notes place)
+note_is notes place within = get_or_default notes place (record { wanted = 0; is_down = false; is_told_yes = false; is_told_no = false }) (note_of notes place) within
+
+-- the notes that are kept, and that of the next call
+pub kept_next : (notes those : List Note) (place : ℕ) → place < length notes → reverse those ≡ noted_down (drop place notes)
+    → reverse those ≡ noted_down (note_of notes place ∷ drop (place + 1) notes)
+kept_next notes those place within is = is ∙ ap noted_down (drop_more notes place (record { wanted = 0; is_down = false; is_told_yes = false; is_told_no = false }) within)
+
+pub kept_passed : (notes those : List Note) (note : Note) → note.is_down ≡ false → reverse those ≡ noted_down (note ∷ notes) → reverse those ≡ noted_down notes
+kept_passed notes those note up is = is ∙ ap (λ (b : Bool). if b then note ∷ noted_down notes else noted_down notes) up
+
+-- all calls are told
+pub told_all : (calls : List Step) (got : List (List ℕ)) (draft : Draft) (replica : Replica) (those : List Note) (place : ℕ) → length calls ≤ place
+    → IsTold calls got draft replica those place → IsDraft draft calls
+told_all calls got draft replica those place end t =
+    let leads : LeadsTo draft calls (state_of got replica) = subst (λ (steps : List Step). LeadsTo draft steps (state_of got replica)) (take_all place calls end) t.so_far.leads in
+    record { explains = record { is_run = leads.is_run; seen = leads.seen }; counted = leads.counted }
 
 -- what holds of the next call, where the calls are ready
 pub record Next (q next : QueueState) (calls : List Step) (notes : List Note) (known others : List (List ℕ)) (call : Step) (note : Note) : Type 0 where

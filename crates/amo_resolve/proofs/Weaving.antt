@@ -1,6 +1,9 @@
 -- Losses among calls.
-use Rattle.std.proofs.Common.{◌≡◌, ℕ, zero, suc, ◌+◌, ◌≤◌, List, [], ◌∷◌, ◌++◌, length, take, drop, refl, sym, ◌∙◌, ap, append_assoc, arith}
-use Rattle.std.proofs.lemmas.List.{append-nil, length-append, length-drop, take_all, drop_all, take-append-le, drop-append-le}
+use Rattle.std.proofs.Common.{◌≡◌, ℕ, zero, suc, ◌+◌, ◌-◌, ◌<◌, ◌≤◌, List, [], ◌∷◌, ◌++◌, length, take, drop, set, get_or, replicate, refl, sym, ◌∙◌, ap, subst, append_assoc, arith}
+use Rattle.std.proofs.lemmas.List.{append-nil, length-append, length-drop, length-replicate, length-take-le, take_all, take_more, drop_all, take-append-le, drop-append-le, get_or-append_right, set-append_right}
+use Rattle.std.proofs.lemmas.List.Edits.{swap_is}
+use Rattle.std.proofs.Math.Seq.{set-append_seam}
+use Rattle.std.specs.List.{swap}
 use Rattle.amo_object.specs.declared.step.Step.{Step}
 use Rattle.amo_object.specs.declared.step.Step.TheVariants.{Put, Get, Ack, Crash, Recover, DownReply, Lose, LoseAck}
 use Rattle.amo_object.specs.Run.{without_losses}
@@ -75,34 +78,126 @@ told_on draft longer calls (Crash side) counted on = let both = told_called draf
 told_on draft longer calls (Recover side) counted on = let both = told_called draft longer calls (Recover side) counted on in record { steps = both.0; counted = both.1 }
 told_on draft longer calls (DownReply side) counted on = let both = told_called draft longer calls (DownReply side) counted on in record { steps = both.0; counted = both.1 }
 
--- one mark was woven, and the others are to be
-pub woven_on : (run calls : List Step) (marks : List Mark) (place : ℕ) (mark : Mark) (longer rest whole : List Step) → drop place marks ≡ mark ∷ drop (place + 1) marks
-    → longer ≡ run ++ take mark.calls calls → rest ≡ drop mark.calls calls → run ++ woven calls (drop place marks) ≡ whole
-    → (longer ++ step_of mark.loss ∷ []) ++ woven rest (drop (place + 1) marks) ≡ whole
-woven_on run calls marks place mark longer rest whole split moved left so_far =
-    append_assoc longer (step_of mark.loss ∷ []) (woven rest (drop (place + 1) marks))
-    ∙ ap (λ (them : List Step). longer ++ step_of mark.loss ∷ woven them (drop (place + 1) marks)) left
-    ∙ ap (λ (steps : List Step). steps ++ step_of mark.loss ∷ woven (drop mark.calls calls) (drop (place + 1) marks)) moved
-    ∙ append_assoc run (take mark.calls calls) (step_of mark.loss ∷ woven (drop mark.calls calls) (drop (place + 1) marks))
-    ∙ ap (λ (them : List Mark). run ++ woven calls them) (sym split)
-    ∙ so_far
-
 module _ {X : Type 0} where
-  -- the next of what is left of a list
-  pub next_of : (xs : List X) (k : ℕ) (x : X) (rest : List X) → drop k xs ≡ x ∷ rest → (take (k + 1) xs ≡ take k xs ++ x ∷ []) × (drop (k + 1) xs ≡ rest)
-  next_of xs k x rest is = let both = by xs k is in (
-    ap (λ (n : ℕ). take n xs) {x = k + 1} {y = suc k} (omega arith) ∙ both.0,
-    ap (λ (n : ℕ). drop n xs) {x = k + 1} {y = suc k} (omega arith) ∙ both.1,
-  )
-    where
-      by : (xs : List X) (k : ℕ) → drop k xs ≡ x ∷ rest → (take (suc k) xs ≡ take k xs ++ x ∷ []) × (drop (suc k) xs ≡ rest)
-      by [] zero is = absurd cc
-      by [] (suc k) is = absurd cc
-      by (y ∷ xs) zero is = (let same : y ≡ x = cc in ap (λ (z : X). z ∷ []) same, cc)
-      by (y ∷ xs) (suc k) is = let both = by xs k is in (ap (λ (zs : List X). y ∷ zs) both.0, both.1)
+  -- a step in the last place of the room
+  in_room : (k : ℕ) (e x : X) (done : List X) → set (e ∷ (replicate k e ++ done)) k x ≡ replicate k e ++ x ∷ done
+  in_room zero e x done = refl
+  in_room (suc k) e x done = ap (λ (ys : List X). e ∷ ys) (in_room k e x done)
 
-  -- nothing is left of it
-  pub none_of : (xs : List X) (k n : ℕ) → drop k xs ≡ [] → k ≤ n → (take k xs ≡ take n xs) × (drop n xs ≡ [])
-  none_of xs k n none less =
-      let short : length xs ≤ k = omega (arith, ap length none, length-drop k xs) in
-      (take_all k xs short ∙ sym (take_all n xs (omega (arith, short, less))), drop_all n xs (omega (arith, short, less)))
+  -- a step is put there
+  put_up : (ys : List X) (n k : ℕ) (e x : X) (done : List X) → length ys ≡ n → set (ys ++ e ∷ (replicate k e ++ done)) (n + k) x ≡ ys ++ (replicate k e ++ x ∷ done)
+  put_up ys n k e x done counted =
+      set-append_right ys (e ∷ (replicate k e ++ done)) n (n + k) x counted (omega arith)
+      ∙ ap (λ (i : ℕ). ys ++ set (e ∷ (replicate k e ++ done)) i x) {x = n + k - n} {y = k} (omega arith)
+      ∙ ap (λ (zs : List X). ys ++ zs) (in_room k e x done)
+
+  -- the last of some steps moves there
+  move_up : (ys : List X) (n k : ℕ) (c e : X) (done : List X) → length ys ≡ n
+      → swap (ys ++ c ∷ (replicate (suc k) e ++ done)) n (n + suc k) ≡ ys ++ (replicate (suc k) e ++ c ∷ done)
+  move_up ys n k c e done counted =
+      let run : List X = ys ++ c ∷ (replicate (suc k) e ++ done) in
+      let long : length run ≡ n + suc (suc k + length done) =
+      length-append ys (c ∷ (replicate (suc k) e ++ done)) ∙ omega (arith, counted, length-append (replicate (suc k) e) done, length-replicate (suc k) e) in
+      let here : get_or run n c ≡ c =
+      get_or-append_right ys (c ∷ (replicate (suc k) e ++ done)) n n c counted (omega arith)
+      ∙ ap (λ (i : ℕ). get_or (c ∷ (replicate (suc k) e ++ done)) i c) {x = n - n} {y = 0} (omega arith) in
+      let there : get_or run (n + suc k) c ≡ e =
+      get_or-append_right ys (c ∷ (replicate (suc k) e ++ done)) n (n + suc k) c counted (omega arith)
+      ∙ ap (λ (i : ℕ). get_or (c ∷ (replicate (suc k) e ++ done)) i c) {x = n + suc k - n} {y = suc k} (omega arith)
+      ∙ last_one k e c done in
+      let seam : set run n e ≡ ys ++ e ∷ (replicate (suc k) e ++ done) =
+      subst (λ (i : ℕ). set run i e ≡ ys ++ e ∷ (replicate (suc k) e ++ done)) counted (set-append_seam ys c (replicate (suc k) e ++ done) e) in
+      sym (swap_is run n (n + suc k) c (omega (arith, long)) (omega (arith, long)))
+      ∙ ap (λ (y : X). set (set run n (get_or run (n + suc k) c)) (n + suc k) y) here
+      ∙ ap (λ (y : X). set (set run n y) (n + suc k) c) there
+      ∙ ap (λ (zs : List X). set zs (n + suc k) c) seam
+      ∙ put_up ys n (suc k) e c done counted
+    where
+      last_one : (k : ℕ) (e d : X) (done : List X) → get_or (replicate (suc k) e ++ done) k d ≡ e
+      last_one zero e d done = refl
+      last_one (suc k) e d done = last_one k e d done
+
+-- the calls before a place are still to be woven, with the first losses; between them and the woven ones there is room for these
+pub record IsWoven (calls : List Step) (marks : List Mark) (place losses since : ℕ) (run : List Step) : Type 0 where
+  pub done : List Step
+  pub parts : run ≡ take place calls ++ (replicate losses LoseAck ++ done)
+  pub rest : woven (take place calls) (take losses marks) ++ done ≡ woven calls marks
+  pub counted : calls_before (take losses marks) + since ≡ place
+  pub within : place ≤ length calls
+  pub some : losses ≤ length marks
+
+pub woven_none : (calls : List Step) (marks : List Mark) (since place : ℕ) (run : List Step) → place ≡ length calls → calls_before marks + since ≡ length calls
+    → run ≡ calls ++ replicate (length marks) LoseAck → IsWoven calls marks place (length marks) since run
+woven_none calls marks since place run whole counted roomy =
+    let all : take place calls ≡ calls = take_all place calls (omega arith) in
+    let each : take (length marks) marks ≡ marks = take_all (length marks) marks (omega arith) in
+    record {
+      done = [];
+      parts = roomy ∙ ap (λ (them : List Step). them ++ replicate (length marks) LoseAck) (sym all)
+          ∙ ap (λ (them : List Step). take place calls ++ them) (sym (append-nil (replicate (length marks) LoseAck)));
+      rest = append-nil (woven (take place calls) (take (length marks) marks))
+          ∙ ap (λ (them : List Step). woven them (take (length marks) marks)) all ∙ ap (woven calls) each;
+      counted = ap (λ (them : List Mark). calls_before them + since) each ∙ omega (arith, counted, whole);
+      within = omega arith;
+      some = omega arith;
+    }
+
+-- a call moves up
+pub woven_call : (calls : List Step) (marks : List Mark) (place losses since before fewer : ℕ) (run : List Step) → IsWoven calls marks place losses since run
+    → since ≡ before + 1 → place ≡ fewer + 1 → 0 < losses → IsWoven calls marks fewer losses before (swap run fewer (fewer + losses))
+woven_call calls marks place losses since before fewer run w one next some =
+    by losses some w
+  where
+    by : (losses : ℕ) → 0 < losses → IsWoven calls marks place losses since run → IsWoven calls marks fewer losses before (swap run fewer (fewer + losses))
+    by zero some w = absurd (omega arith)
+    by (suc k) some w =
+        let inside : fewer < length calls = omega (arith, w.within) in
+        let call : Step = get_or calls fewer LoseAck in
+        let marked : List Mark = take (suc k) marks in
+        let split : take place calls ≡ take fewer calls ++ call ∷ [] = ap (λ (n : ℕ). take n calls) next ∙ take_more calls fewer LoseAck inside in
+        let long : length (take fewer calls) ≡ fewer = length-take-le fewer calls (omega arith) in
+        let whole : run ≡ take fewer calls ++ call ∷ (replicate (suc k) LoseAck ++ w.done) =
+        w.parts ∙ ap (λ (them : List Step). them ++ (replicate (suc k) LoseAck ++ w.done)) split
+        ∙ append_assoc (take fewer calls) (call ∷ []) (replicate (suc k) LoseAck ++ w.done) in
+        record {
+          done = call ∷ w.done;
+          parts = ap (λ (them : List Step). swap them fewer (fewer + suc k)) whole ∙ move_up (take fewer calls) fewer k call LoseAck w.done long;
+          rest = sym (append_assoc (woven (take fewer calls) marked) (call ∷ []) w.done)
+              ∙ ap (λ (them : List Step). them ++ w.done) (sym (woven_called (take fewer calls) marked call (omega (arith, w.counted, long))))
+              ∙ ap (λ (them : List Step). woven them marked ++ w.done) (sym split)
+              ∙ w.rest;
+          counted = omega (arith, w.counted);
+          within = omega (arith, w.within);
+          some = w.some;
+        }
+
+-- a loss takes the last place of the room
+pub woven_loss : (calls : List Step) (marks : List Mark) (place losses since fewer : ℕ) (mark : Mark) (run : List Step) → IsWoven calls marks place losses since run
+    → since ≡ 0 → losses ≡ fewer + 1 → mark ≡ get_or marks fewer mark → IsWoven calls marks place fewer mark.calls (set run (place + fewer) (step_of mark.loss))
+woven_loss calls marks place losses since fewer mark run w none next here =
+    let inside : fewer < length marks = omega (arith, w.some) in
+    let split : take losses marks ≡ take fewer marks ++ mark ∷ [] =
+    ap (λ (n : ℕ). take n marks) next ∙ take_more marks fewer mark inside ∙ ap (λ (m : Mark). take fewer marks ++ m ∷ []) (sym here) in
+    let long : length (take place calls) ≡ place = length-take-le place calls w.within in
+    let counted : calls_before (take fewer marks) + mark.calls ≡ place =
+    omega (arith, w.counted, ap calls_before split, before_pushed (take fewer marks) mark) in
+    let whole : run ≡ take place calls ++ LoseAck ∷ (replicate fewer LoseAck ++ w.done) =
+    w.parts ∙ ap (λ (n : ℕ). take place calls ++ (replicate n LoseAck ++ w.done)) {x = losses} {y = suc fewer} (omega arith) in
+    record {
+      done = step_of mark.loss ∷ w.done;
+      parts = ap (λ (them : List Step). set them (place + fewer) (step_of mark.loss)) whole
+          ∙ put_up (take place calls) place fewer LoseAck (step_of mark.loss) w.done long;
+      rest = sym (append_assoc (woven (take place calls) (take fewer marks)) (step_of mark.loss ∷ []) w.done)
+          ∙ ap (λ (them : List Step). them ++ w.done) (sym (woven_lost (take place calls) (take fewer marks) mark (omega (arith, counted, long))))
+          ∙ ap (λ (them : List Mark). woven (take place calls) them ++ w.done) (sym split)
+          ∙ w.rest;
+      counted = counted;
+      within = w.within;
+      some = omega (arith, w.some);
+    }
+
+-- where no loss is left all is woven
+pub woven_all : (calls : List Step) (marks : List Mark) (place losses since : ℕ) (run : List Step) → IsWoven calls marks place losses since run → losses ≡ 0 → run ≡ woven calls marks
+woven_all calls marks place losses since run w none =
+    w.parts ∙ ap (λ (n : ℕ). take place calls ++ (replicate n LoseAck ++ w.done)) none
+    ∙ ap (λ (n : ℕ). woven (take place calls) (take n marks) ++ w.done) (sym none) ∙ w.rest

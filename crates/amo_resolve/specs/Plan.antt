@@ -1,5 +1,5 @@
 -- A plan for a list of calls: what must wait in the queue after each call that leaves a side down.
-use Rattle.std.specs.Prelude.{◌≡◌, ℕ, suc, ◌+◌, ◌-◌, ◌<◌, ◌≤◌, ◌⊎◌, ◌||◌, Bool, true, false, not, if◌then◌else◌, Option, Some, None, List, [], ◌∷◌, ◌++◌, length, take, drop, get_or}
+use Rattle.std.specs.Prelude.{◌≡◌, ℕ, suc, ◌+◌, ◌-◌, ◌<◌, ◌≤◌, ◌⊎◌, ◌||◌, Bool, true, false, not, if◌then◌else◌, Option, Some, None, List, [], ◌∷◌, ◌++◌, length, take, drop, reverse, get_or}
 use Rattle.amo_object.specs.declared.step.End.TheVariants.{Sender, Receiver}
 use Rattle.amo_object.specs.declared.step.Step.{Step}
 use Rattle.amo_object.specs.declared.step.Step.TheVariants.{Put, Get, Ack, Crash, Recover}
@@ -106,6 +106,24 @@ MarksDown sender receiver (call ∷ calls) (note ∷ notes) = (note.is_down ≡ 
 -- there is a note for each call, which says whether a side is down after it, as at first none is
 abbrev pub IsMarked : List Step → List Note → Type 0
 IsMarked calls notes = MarksDown false false calls notes × (length notes ≡ length calls)
+
+-- whether a side is down after each call, where these are down before
+abbrev pub downs : Bool → Bool → List Step → List Bool
+downs sender receiver [] = []
+downs sender receiver (call ∷ calls) = (sender_after sender call || receiver_after receiver call)
+    ∷ downs (sender_after sender call) (receiver_after receiver call) calls
+
+-- of notes those of calls that leave a side down
+abbrev pub noted_down : List Note → List Note
+noted_down [] = []
+noted_down (note ∷ notes) = if note.is_down then note ∷ noted_down notes else noted_down notes
+
+-- these are the notes that a plan has of the calls that leave a side down, the last call's first
+pub record IsPlanned (calls : List Step) (those : List Note) : Type 0 where
+  pub notes : List Note
+  pub marked : IsMarked calls notes
+  pub plan : IsPlan calls notes
+  pub kept : reverse those ≡ noted_down notes
 
 -- the first `few` of the last `many` messages before a place are the last ones before it too
 pub record IsBorder (got : List (List ℕ)) (end few many : ℕ) : Type 0 where

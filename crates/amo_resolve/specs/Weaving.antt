@@ -8,6 +8,7 @@ use Rattle.amo_resolve.specs.declared.draft.Draft.{Draft}
 use Rattle.amo_resolve.specs.declared.draft.Loss.{Loss}
 use Rattle.amo_resolve.specs.declared.draft.Loss.TheVariants.{Message, Answer}
 use Rattle.amo_resolve.specs.declared.draft.Mark.{Mark}
+use Rattle.amo_resolve.specs.Explanation.{Explains}
 
 -- the step that a loss is
 abbrev pub step_of : Loss → Step
@@ -40,4 +41,9 @@ pub record LeadsTo (draft : Draft) (calls : List Step) (queue : QueueState) : Ty
   pub is_run : IsRun (woven calls draft.marks.items)
   pub seen : without_losses (woven calls draft.marks.items) ≡ calls
   pub reached : after_all start (woven calls draft.marks.items) ≡ queue
+  pub counted : calls_before draft.marks.items + draft.since ≡ length calls
+
+-- a draft of which the losses, among these calls, make a run that explains them
+pub record IsDraft (draft : Draft) (calls : List Step) : Type 0 where
+  pub explains : Explains (woven calls draft.marks.items) calls
   pub counted : calls_before draft.marks.items + draft.since ≡ length calls

@@ -39,7 +39,7 @@ pub(crate) struct Draft {
     /// Its losses, each with the calls that come between the loss before and it.
     pub(crate) marks: Vec<Mark>,
     /// How many calls come after the last loss.
-    since: usize,
+    pub(crate) since: usize,
 }
 
 impl Draft {

@@ -1,9 +1,9 @@
 //! A run that explains calls.
-ghost use Rattle.std.specs.Prelude.{◌≡◌, IfOk, IfSome, IfNone};
+ghost use Rattle.std.specs.Prelude.{◌≡◌, true, IfOk, IfSome, IfNone};
 ghost use Rattle.amo_resolve.specs.Explanation.{Explains, IsExplained};
-ghost use Rattle.amo_resolve.specs.Weaving.{woven};
+ghost use Rattle.amo_resolve.specs.Weaving.{IsDraft};
 
-use crate::draft::Mark;
+use crate::draft::Draft;
 use crate::plan::plan;
 use crate::tell::tell;
 use crate::waiting::Got;
@@ -22,8 +22,8 @@ pub fn explain(alloc: Global, calls: &[Step]) -> Result<Option<Vec<Step>>, NoMem
     ensures explains { IfOk result (λ run. IfSome run (λ steps. Explains steps.items calls.now)) }
     ensures none { IfOk result (λ run. IfNone run (¬ (IsExplained calls.now))) }
 {
-    match losses(alloc, calls)? {
-        Some(marks) => Ok(Some(woven(alloc, copied(alloc, calls)?, marks.as_slice())?)),
+    match losses(alloc, calls, false)? {
+        Some(draft) => Ok(Some(woven(copied(alloc, calls, draft.marks.len())?, &draft)?)),
         None => Ok(None),
     }
 }
@@ -33,27 +33,28 @@ pub(crate) fn explained(alloc: Global, calls: Vec<Step>) -> Result<Vec<Step>, No
     requires { IsExplained calls.items }
     ensures { IfOk result (λ run. Explains run.items calls.items) }
 {
-    match losses(alloc, calls.as_slice())? {
-        Some(marks) => Ok(woven(alloc, calls, marks.as_slice())?),
+    match losses(alloc, calls.as_slice(), true)? {
+        Some(draft) => Ok(woven(calls, &draft)?),
         None => unreachable!(),
     }
 }
 
-/// The losses of a run that explains these calls; none where no run has them.
-fn losses(alloc: Global, calls: &[Step]) -> Result<Option<Vec<Mark>>, AllocError>
-    ensures explains { IfOk result (λ marks. IfSome marks (λ them. Explains (woven calls.now them.items) calls.now)) }
-    ensures none { IfOk result (λ marks. IfNone marks (¬ (IsExplained calls.now))) }
+/// The losses of a run that explains these calls; none where no run has them. It is quicker where some run is known to have them.
+fn losses(alloc: Global, calls: &[Step], is_known: bool) -> Result<Option<Draft>, AllocError>
+    requires { is_known ≡ true → IsExplained calls.now }
+    ensures explains { IfOk result (λ draft. IfSome draft (λ losses. IsDraft losses calls.now)) }
+    ensures none { IfOk result (λ draft. IfNone draft (¬ (IsExplained calls.now))) }
 {
     let got = Got::by(alloc, calls)?;
     let notes = plan(alloc, calls, &got)?;
-    tell(alloc, calls, notes.as_slice(), &got)
+    tell(alloc, calls, notes, &got, is_known)
 }
 
-/// Equal calls.
-fn copied(alloc: Global, calls: &[Step]) -> Result<Vec<Step>, AllocError>
+/// Equal calls, with room for so many steps more.
+fn copied(alloc: Global, calls: &[Step], more: usize) -> Result<Vec<Step>, AllocError>
     ensures { IfOk result (λ copies. copies.items ≡ calls.now) }
 {
-    let mut copies = Vec::with_capacity(alloc, calls.len())?;
+    let mut copies = Vec::with_capacity(alloc, calls.len().saturating_add(more))?;
     for call in calls {
         copies.push(copy_of(alloc, call)?)?;
     }

@@ -1,10 +1,10 @@
 //! Which messages are wanted.
-ghost use Rattle.std.specs.Prelude.{◌≡◌, ◌+◌, ◌<◌, ◌≤◌, ◌^◌, ◌-◌, ℕ, [], ◌∷◌, ◌++◌, drop, length, slice_index_or, List, IfOk, if◌then◌else◌, true, false};
+ghost use Rattle.std.specs.Prelude.{◌≡◌, ◌+◌, ◌<◌, ◌≤◌, ◌^◌, ◌-◌, ℕ, [], ◌∷◌, ◌++◌, drop, length, reverse, List, Some, IfOk, if◌then◌else◌, true, false};
 ghost use Rattle.amo_object.specs.declared.step.Step.{Step};
 ghost use Rattle.amo_object.specs.declared.step.Step.TheVariants.{Ack};
 ghost use Rattle.amo_object.specs.Delivery.{messages_got};
 ghost use Rattle.amo_resolve.specs.declared.plan.Note.{Note};
-ghost use Rattle.amo_resolve.specs.Plan.{IsPlan, IsMarked, IsNoted, AreBorders, Asks, IsAhead, GoesAfter, IsAfter, gets_here, sender_after, receiver_after};
+ghost use Rattle.amo_resolve.specs.Plan.{IsPlan, IsPlanned, IsNoted, AreBorders, Asks, IsAhead, GoesAfter, IsAfter, downs, noted_down, gets_here, sender_after, receiver_after};
 
 use crate::Step;
 use crate::borders::Borders;
@@ -212,54 +212,60 @@ fn receiver_after(down: bool, call: &Step) -> bool
     }
 }
 
-/// Notes where a side is down.
-fn mark_down(alloc: Global, calls: &[Step]) -> Result<Vec<Note>, AllocError>
-    ensures { IfOk result (λ notes. IsMarked calls.now notes.items) }
+/// Whether a side is down after each call.
+fn mark_down(alloc: Global, calls: &[Step]) -> Result<Vec<bool>, AllocError>
+    ensures downs { IfOk result (λ marks. marks.items ≡ downs false false calls.now) }
+    ensures count { IfOk result (λ marks. length marks.items ≡ length calls.now) }
 {
-    let mut notes = Vec::with_capacity(alloc, calls.len())?;
+    let mut marks = Vec::with_capacity(alloc, calls.len())?;
     let mut sender_down = false;
     let mut receiver_down = false;
     for call in calls {
         sender_down = sender_after(sender_down, call);
         receiver_down = receiver_after(receiver_down, call);
-        notes.push(Note {
-            is_down: sender_down || receiver_down,
-            wanted: 0,
-            is_told_yes: false,
-            is_told_no: false,
-        })?;
+        marks.push(sender_down || receiver_down)?;
     }
-    Ok(notes)
+    Ok(marks)
 }
 
-/// The note at a place.
-pub(crate) fn note_at(notes: &[Note], place: usize) -> Note
-    requires { place < length notes.now }
-    ensures { result ≡ slice_index_or notes.now place result }
+/// Keeps the note of a call before those of which notes are kept, if it leaves a side down.
+fn keep(kept: &mut Vec<Note>, note: Note) -> Result<(), AllocError>
+    ensures { IfOk result (λ _. (notes : List Note) → reverse kept.old.items ≡ noted_down notes → reverse kept.new.items ≡ noted_down (note ∷ notes)) }
 {
-    notes[place]
+    if note.is_down {
+        kept.push(note)?;
+    }
+    Ok(())
 }
 
-/// A note for each call.
+/// Takes the note of the next call that leaves a side down out of those that are kept.
+pub(crate) fn next_note(kept: &mut Vec<Note>) -> Option<Note>
+    ensures { (note : Note) (notes : List Note) → note.is_down ≡ true → reverse kept.old.items ≡ noted_down (note ∷ notes)
+        → (result ≡ Some note) × (reverse kept.new.items ≡ noted_down notes) }
+{
+    kept.pop()
+}
+
+/// A note for each call that leaves a side down, the last call's first: of the other calls, of which there are many more, none is kept.
 pub(crate) fn plan(alloc: Global, calls: &[Step], got: &Got<'_>) -> Result<Vec<Note>, AllocError>
     requires { got.now ≡ messages_got calls.now }
-    ensures { IfOk result (λ notes. IsMarked calls.now notes.items × IsPlan calls.now notes.items) }
+    ensures { IfOk result (λ kept. IsPlanned calls.now kept.items) }
 {
-    let mut notes = mark_down(alloc, calls)?;
+    let marks = mark_down(alloc, calls)?;
+    let mut kept = Vec::new(alloc);
     let mut borders = Borders::nothing(alloc)?;
     let mut ahead = Ahead::nothing();
     let mut first = got.len();
     let mut place = calls.len();
     while place > 0 {
         place -= 1;
-        let is_down = notes[place].is_down;
-        let note = ahead.note(is_down);
         let call = &calls[place];
-        notes[place] = note;
+        let note = ahead.note(marks[place]);
+        keep(&mut kept, note)?;
         ahead = before(ahead, call, note, got, first, &mut borders)?;
         first = got_before(first, call);
     }
-    Ok(notes)
+    Ok(kept)
 }
 
 /// What calls ask with one call more before them, which has this note. The borders are those of the stretch that begins here.

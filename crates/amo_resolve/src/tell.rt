@@ -4,14 +4,14 @@ ghost use Rattle.amo_object.specs.declared.step.Step.{Step};
 ghost use Rattle.amo_object.specs.Queue.{start, Allows, is_any_down};
 ghost use Rattle.amo_object.specs.Run.{is_loss};
 ghost use Rattle.amo_object.specs.Delivery.{messages_got};
-ghost use Rattle.amo_resolve.specs.Explanation.{Explains, IsExplained};
-ghost use Rattle.amo_resolve.specs.Plan.{IsMarked, IsPlan, Leaves};
+ghost use Rattle.amo_resolve.specs.Explanation.{IsExplained};
+ghost use Rattle.amo_resolve.specs.Plan.{IsPlanned, Leaves};
 ghost use Rattle.amo_resolve.specs.Telling.{IsPushed, OnlyLost, Settles, Moves, Looked, IsNeeded, part, known_of, state_of, state_before};
-ghost use Rattle.amo_resolve.specs.Weaving.{LeadsTo, woven};
+ghost use Rattle.amo_resolve.specs.Weaving.{LeadsTo, IsDraft};
 
 use crate::Step;
-use crate::draft::{Draft, Loss, Mark};
-use crate::plan::{Note, note_at};
+use crate::draft::{Draft, Loss};
+use crate::plan::{Note, next_note};
 use crate::replica::Replica;
 use crate::waiting::Got;
 use amo_object::Status;
@@ -37,10 +37,17 @@ impl<'a> Told<'a> {
         }
     }
 
-    /// The call that comes next, if the queue allows it and it is no loss.
-    fn push_call(&mut self, got: &Got<'a>, call: &'a Step) -> Result<bool, AllocError>
+    /// The call that comes next, if the queue allows it and it is no loss. Where that is known it is not looked at: a message that is got
+    /// is then compared with none.
+    fn push_call(
+        &mut self,
+        got: &Got<'a>,
+        call: &'a Step,
+        is_known: bool,
+    ) -> Result<bool, AllocError>
         requires within { self.old.queue.first < self.old.queue.known → self.old.queue.known ≤ length got.now }
         requires count { self.old.draft.since + 1 < 2 ^ 64 }
+        requires known { is_known ≡ true → Allows (state_of got.now self.old.queue) call.now × (is_loss call.now ≡ false) }
         ensures pushed { IfOk result (λ is. is ≡ true
             → IsPushed self.old.draft (state_of got.now self.old.queue) call.now self.new.draft (state_of got.now self.new.queue)) }
         ensures seen { IfOk result (λ is. is ≡ true → is_loss call.now ≡ false) }
@@ -51,7 +58,7 @@ impl<'a> Told<'a> {
             → drop self.new.queue.first got.now ≡ messages_got later) }
         ensures refused { IfOk result (λ is. is ≡ false → Allows (state_of got.now self.old.queue) call.now → is_loss call.now ≡ false → ⊥) }
     {
-        if !self.queue.allows(got, call) {
+        if !is_known && !self.queue.allows(got, call) {
             return Ok(false);
         }
         self.queue.take(got, call)?;
@@ -122,31 +129,36 @@ impl<'a> Told<'a> {
     }
 }
 
-/// The losses of a run that has these calls and follows their plan, or none where no run has them.
+/// The losses of a run that has these calls and follows their plan, or none where no run has them. Where some run is known to have
+/// them, no message is compared.
 pub(crate) fn tell<'a>(
     alloc: Global,
     calls: &'a [Step],
-    notes: &[Note],
+    notes: Vec<Note>,
     got: &Got<'a>,
-) -> Result<Option<Vec<Mark>>, AllocError>
-    requires marked { IsMarked calls.now notes.now }
-    requires plan { IsPlan calls.now notes.now }
+    is_known: bool,
+) -> Result<Option<Draft>, AllocError>
+    requires plan { IsPlanned calls.now notes.items }
     requires got { got.now ≡ messages_got calls.now }
-    ensures explains { IfOk result (λ marks. IfSome marks (λ them. Explains (woven calls.now them.items) calls.now)) }
-    ensures none { IfOk result (λ marks. IfNone marks (¬ (IsExplained calls.now))) }
+    requires known { is_known ≡ true → IsExplained calls.now }
+    ensures explains { IfOk result (λ draft. IfSome draft (λ losses. IsDraft losses calls.now)) }
+    ensures none { IfOk result (λ draft. IfNone draft (¬ (IsExplained calls.now))) }
 {
     let mut told = Told::new(alloc);
+    let mut later = notes;
     for place in 0..calls.len() {
         let call = &calls[place];
-        let note = note_at(notes, place);
-        if !told.push_call(got, call)? {
+        if !told.push_call(got, call, is_known)? {
             return Ok(None);
         }
         if told.queue.is_any_down() {
+            let Some(note) = next_note(&mut later) else {
+                return Ok(None);
+            };
             if !told.lose_to(got, note.wanted, note.is_told_no)? {
                 return Ok(None);
             }
         }
     }
-    Ok(Some(told.draft.marks))
+    Ok(Some(told.draft))
 }

@@ -1,45 +1,44 @@
 //! Runs of calls and of the losses that are marked among them.
-ghost use Rattle.std.specs.Prelude.{◌≡◌, ◌++◌, take, drop, IfOk, OnOk};
-ghost use Rattle.std.specs.Vec.Iter.{into_iter_items};
-ghost use Rattle.amo_resolve.specs.Weaving.{woven};
+ghost use Rattle.std.specs.Prelude.{◌≡◌, ◌+◌, ◌++◌, length, replicate, IfOk};
+ghost use Rattle.amo_object.specs.declared.step.Step.TheVariants.{LoseAck};
+ghost use Rattle.amo_resolve.specs.Weaving.{woven, calls_before};
 
 use crate::Step;
-use crate::draft::Mark;
-use std::alloc::{AllocError, Global};
-use std::vec::IntoIter;
+use crate::draft::Draft;
+use std::alloc::AllocError;
 
-/// The run of these calls and of the losses among them. Each call is moved into it once, with its message.
-pub(crate) fn woven(
-    alloc: Global,
-    calls: Vec<Step>,
-    marks: &[Mark],
-) -> Result<Vec<Step>, AllocError>
-    ensures { IfOk result (λ run. run.items ≡ woven calls.items marks.now) }
+/// The run of these calls and of a draft's losses among them. It is made where the calls stand: room is made behind them, and from
+/// the last one on each moves up past the losses that come before it. Those before the first loss stay.
+pub(crate) fn woven(calls: Vec<Step>, draft: &Draft) -> Result<Vec<Step>, AllocError>
+    requires { calls_before draft.now.marks.items + draft.now.since ≡ length calls.items }
+    ensures { IfOk result (λ run. run.items ≡ woven calls.items draft.now.marks.items) }
 {
-    if marks.is_empty() {
-        return Ok(calls);
+    let mut run = calls;
+    let mut place = run.len();
+    let mut losses = draft.marks.len();
+    make_room(&mut run, losses)?;
+    let mut since = draft.since;
+    while losses > 0 {
+        if since > 0 {
+            since -= 1;
+            place -= 1;
+            run.swap(place, place + losses);
+        } else {
+            losses -= 1;
+            let mark = draft.marks[losses];
+            since = mark.calls;
+            run[place + losses] = mark.loss.step();
+        }
     }
-    let mut run = Vec::with_capacity(alloc, calls.len() + marks.len())?;
-    let mut rest = calls.into_iter();
-    for mark in marks {
-        advance(&mut run, &mut rest, mark.calls)?;
-        run.push(mark.loss.step())?;
-    }
-    let left = rest.len();
-    advance(&mut run, &mut rest, left)?;
     Ok(run)
 }
 
-/// The next calls move into a run: so many, or all that are left.
-fn advance(run: &mut Vec<Step>, rest: &mut IntoIter<Step>, count: usize) -> Result<(), AllocError>
-    ensures run { OnOk result (run.new.items ≡ run.old.items ++ take count (into_iter_items rest.old)) }
-    ensures rest { OnOk result (into_iter_items rest.new ≡ drop count (into_iter_items rest.old)) }
+/// Room for so many losses, behind all calls.
+fn make_room(run: &mut Vec<Step>, losses: usize) -> Result<(), AllocError>
+    ensures { IfOk result (λ _. run.new.items ≡ run.old.items ++ replicate losses LoseAck) }
 {
-    for _ in 0..count {
-        let Some(call) = rest.next() else {
-            return Ok(());
-        };
-        run.push(call)?;
+    for _ in 0..losses {
+        run.push(Step::LoseAck)?;
     }
     Ok(())
 }

@@ -1,27 +1,20 @@
-use Rattle.std.proofs.Common.{◌≡◌, ◌<◌, ◌≤◌, ◌+◌, ◌-◌, ℕ, [], ◌∷◌, List, drop, take, length, sym, ◌∙◌, ap, subst, arith, rules}
-use Rattle.std.proofs.lemmas.List.{drop_all, take_all, length-drop, length-set}
-use Rattle.amo_object.specs.declared.step.Step.{Step}
+use Rattle.std.proofs.Common.{◌≡◌, ◌<◌, ◌≤◌, ◌+◌, ◌-◌, ℕ, Bool, [], ◌∷◌, drop, take, length, get_or, sym, ◌∙◌, ap, subst, arith, rules}
+use Rattle.std.proofs.lemmas.List.{take_all, length-drop}
 use Rattle.amo_object.specs.Delivery.{messages_got}
-use Rattle.amo_resolve.specs.Plan.{IsPlan, IsNoted, IsAhead, AreBorders}
+use Rattle.amo_resolve.specs.Plan.{IsNoted, AreBorders}
 use Rattle.amo_resolve.proofs.Bordering.{borders_none}
-use Rattle.amo_resolve.proofs.Planning.{marks_set, plan_set, ahead_set, got_so_far, got_there, got_in_all, got_small, got_length}
+use Rattle.amo_resolve.proofs.Planning.{planned_none, planned_more, planned_all, got_so_far, got_there, got_in_all, got_small, got_length}
 use Rattle.amo_resolve.proofs.plan.plan.Goals as goal
 
 pub loop-place-init : goal.loop-place-init
 loop-place-init c =
     let calls = c.args.calls.now in
-    let notes = c.in_ok-notes.notes.items in
-    let none : drop (length calls) calls ≡ [] = drop_all (length calls) calls (omega arith) in
-    let planned : IsPlan (drop (length calls) calls) (drop (length calls) notes) = subst (λ (steps : List Step). IsPlan steps (drop (length calls) notes)) (sym none) tt in
-    let ahead : IsAhead c.nothing-ahead.result (drop (length calls) calls) (drop (length calls) notes) =
-    subst (λ (steps : List Step). IsAhead c.nothing-ahead.result steps (drop (length calls) notes)) (sym none) (c.nothing-ahead.ensures.ahead (drop (length calls) notes)) in
     let first : c.len-first.result ≡ length (messages_got (take (length calls) calls)) =
     c.len-first.ensures.length ∙ ap length (c.requires ∙ ap messages_got (sym (take_all (length calls) calls (omega arith)))) in
     record {
       within = omega arith;
-      marked = c.in_ok-notes.ensures;
-      plan = planned;
-      ahead = ahead;
+      planned = planned_none calls c.in_ok-marks.marks.items c.new-kept.result.items c.nothing-ahead.result (length calls)
+          (omega arith) (omega (arith, c.in_ok-marks.ensures.count)) (search rules) (c.nothing-ahead.ensures.ahead []);
       got = got_there calls c.args.got.now (length calls) c.len-first.result c.requires first;
       first = first;
       borders = borders_none c.args.got.now (c.len-first.result + c.nothing-ahead.result.here) c.in_ok-borders.borders.lengths.items (ap length c.in_ok-borders.ensures);
@@ -37,24 +30,29 @@ before-requires-clause-first c =
 
 pub before-requires-clause-counts : goal.before-requires-clause-counts
 before-requires-clause-counts c =
-    let asks = c.loop-place.invariant.ahead.asks in
+    let p = c.loop-place.invariant.planned in
+    let asks = p.ahead.asks in
     let all = got_in_all c.args.calls.now c.args.got.now c.loop-place.place c.loop-place.first c.requires c.loop-place.invariant.first in
-    let noted = c.note-note.ensures.noted (drop c.loop-place.place c.args.calls.now) (drop c.loop-place.place c.loop-place.notes.items) c.loop-place.invariant.plan c.loop-place.invariant.ahead in
+    let noted = c.note-note.ensures.noted (drop c.loop-place.place c.args.calls.now) p.notes p.plan p.ahead in
     (asks.spared_here, omega (arith, asks.enough, all), omega (arith, asks.enough_most, all), omega (arith, noted.4, all))
 
 pub before-requires-clause-numbers : goal.before-requires-clause-numbers
 before-requires-clause-numbers c =
     let calls = c.args.calls.now in
-    let asks = c.loop-place.invariant.ahead.asks in
-    let noted = c.note-note.ensures.noted (drop c.loop-place.place calls) (drop c.loop-place.place c.loop-place.notes.items) c.loop-place.invariant.plan c.loop-place.invariant.ahead in
+    let p = c.loop-place.invariant.planned in
+    let asks = p.ahead.asks in
+    let noted = c.note-note.ensures.noted (drop c.loop-place.place calls) p.notes p.plan p.ahead in
     let short : length (messages_got (drop c.loop-place.place calls)) + c.loop-place.place ≤ length calls =
     omega (arith, got_length (drop c.loop-place.place calls), length-drop c.loop-place.place calls, c.loop-place.invariant.within) in
     let wanted : c.note-note.result.wanted + c.loop-place.place ≤ length calls = omega (arith, noted.4, short) in
     let here : c.loop-place.ahead.here + c.loop-place.place ≤ length calls = omega (arith, asks.enough, short) in
     let most : c.loop-place.ahead.most + c.loop-place.place ≤ length calls = omega (arith, asks.enough_most, short) in
     let got : c.loop-place.ahead.got + c.loop-place.place ≤ length calls =
-    omega (arith, c.loop-place.invariant.ahead.got, got_small (drop c.loop-place.place calls), length-drop c.loop-place.place calls, c.loop-place.invariant.within) in
+    omega (arith, p.ahead.got, got_small (drop c.loop-place.place calls), length-drop c.loop-place.place calls, c.loop-place.invariant.within) in
     search rules
+
+pub note-note-requires : goal.note-note-requires
+note-note-requires c = c.loop-place.invariant.planned.ahead.asks.spared_most
 
 pub got_before-first-requires : goal.got_before-first-requires
 got_before-first-requires c =
@@ -66,27 +64,30 @@ got_before-first-requires c =
 pub loop-place-preserved : goal.loop-place-preserved
 loop-place-preserved c =
     let calls = c.args.calls.now in
-    let notes = c.loop-place.notes.items in
+    let marks = c.in_ok-marks.marks.items in
     let place = c.loop-place.place - 1 in
     let note = c.note-note.result in
     let call = c.index-calls-place.result in
-    let next_calls = drop c.loop-place.place calls in
-    let next_notes = drop c.loop-place.place notes in
+    let p = c.loop-place.invariant.planned in
+    let later = drop c.loop-place.place calls in
     let within : place < length calls = omega (arith, c.loop-place.invariant.within, c.loop-place-test.true) in
     let next : c.loop-place.place ≡ place + 1 = omega (arith, c.loop-place-test.true) in
-    let counted : length notes ≡ length calls = c.loop-place.invariant.marked.1 in
-    let noted : IsNoted next_calls next_notes note = c.note-note.ensures.noted next_calls next_notes c.loop-place.invariant.plan c.loop-place.invariant.ahead in
+    let noted : IsNoted later p.notes note = c.note-note.ensures.noted later p.notes p.plan p.ahead in
     let so_far = got_so_far calls place c.loop-place.place call next within c.index-calls-place.is in
     let before : c.got_before-first.result ≡ c.loop-place.first - length (messages_got (call ∷ [])) = omega (arith, c.got_before-first.ensures) in
     let first : c.got_before-first.result ≡ length (messages_got (take place calls)) = omega (arith, so_far, c.loop-place.invariant.first, c.got_before-first.ensures) in
+    let down = c.note-note.ensures.down ∙ c.index.ensures ∙ ap (λ (b : Bool). get_or marks place b) (sym c.note-note.ensures.down) in
     record {
       within = omega (arith, within);
-      marked = (marks_set _ _ calls notes place note c.index.result.now c.loop-place.invariant.marked.0 c.note-note.ensures.down c.index.ensures, length-set notes place note ∙ counted);
-      plan = plan_set calls notes place c.loop-place.place call note next within counted c.index-calls-place.is noted c.loop-place.invariant.plan;
-      ahead = ahead_set c.in_ok-ahead.ahead calls notes place c.loop-place.place call note next within counted c.index-calls-place.is
-          (c.in_ok-ahead.ensures.ahead next_calls next_notes c.loop-place.invariant.got c.loop-place.invariant.ahead noted);
+      planned = planned_more calls marks c.loop-place.kept.items c.keep.new.kept.items c.loop-place.ahead c.in_ok-ahead.ahead place c.loop-place.place call note
+          next within (omega (arith, within, c.in_ok-marks.ensures.count)) c.index-calls-place.is down p noted
+          (c.in_ok-ahead.ensures.ahead later p.notes c.loop-place.invariant.got p.ahead noted) (c.in_ok-keep.ensures p.notes p.kept);
       got = got_there calls c.args.got.now place c.got_before-first.result c.requires first;
       first = first;
       borders = subst (λ (n : ℕ). AreBorders c.args.got.now (n + c.in_ok-ahead.ahead.here) c.before-in-loop-place.new.borders.lengths.items) (sym before) c.in_ok-ahead.ensures.borders.0;
       counted = c.in_ok-ahead.ensures.borders.1;
     }
+
+pub returns : goal.returns
+returns c = planned_all c.args.calls.now c.in_ok-marks.marks.items c.loop-place.kept.items c.loop-place.ahead c.loop-place.place
+    (omega (arith, c.loop-place-test.false)) c.in_ok-marks.ensures.downs c.loop-place.invariant.planned

@@ -1,15 +1,14 @@
 use Rattle.std.proofs.Common.{◌≡◌, ◌≤◌, ◌+◌, drop, take, length}
 use Rattle.amo_object.specs.Delivery.{messages_got}
-use Rattle.amo_resolve.specs.Plan.{IsMarked, IsPlan, IsAhead, AreBorders}
+use Rattle.amo_resolve.specs.Plan.{AreBorders}
+use Rattle.amo_resolve.proofs.Planning.{IsPlannedFrom}
 use Rattle.amo_resolve.proofs.plan.plan.Given as goal
 
 -- the calls from here on are planned
 abbrev pub invariant-loop-place : goal.invariant-loop-place
 invariant-loop-place l = record {
   within : l.place ≤ length l.calls;
-  marked : IsMarked l.calls l.notes.items;
-  plan : IsPlan (drop l.place l.calls) (drop l.place l.notes.items);
-  ahead : IsAhead l.ahead (drop l.place l.calls) (drop l.place l.notes.items);
+  planned : IsPlannedFrom l.calls l.marks.items l.kept.items l.ahead l.place;
   got : drop l.first l.got ≡ messages_got (drop l.place l.calls);
   first : l.first ≡ length (messages_got (take l.place l.calls));
   borders : AreBorders l.got (l.first + l.ahead.here) l.borders.lengths.items;
