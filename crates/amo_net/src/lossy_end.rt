@@ -1,20 +1,21 @@
 //! One end of a channel that two threads share.
-ghost use Rattle.std.specs.Prelude.{◌≡◌, ◌≤◌, IfSome};
+ghost use Rattle.std.specs.Prelude.{◌≡◌, IfErr};
 
+use crate::batch::Batch;
 use crate::{Link, LinkFault, Lossy, MAX_DATAGRAM};
 use amo_object::End;
 use amo_word::Words;
 use std::marker::Model;
 use std::sync::{Mutex, Wait};
 
-/// How many datagrams a receive takes out of the channel at most. The next receives hand out the rest, without the channel.
-const TAKEN_AT_ONCE: usize = 16;
-
 /// One end of a locked channel. It holds the permission to wait for the lock, and its device never fails.
 ///
-/// A send waits for the lock. A receive does not: while the other end is at the channel, nothing has come. A receive that has the lock takes
-/// out up to sixteen datagrams, one after another as [`Lossy::receive`] does, since each change of the lock's holder takes longer than that.
-/// What was taken out and not handed out when an end is dropped is lost.
+/// A receive that has the lock takes out up to sixteen datagrams, one after another as [`Lossy::receive`] does, and the next receives hand
+/// them out. Until the last of them is handed out, sends are kept back, up to sixteen; then they go, one after another as [`Lossy::send`]
+/// does. For each change of the lock's holder takes longer than all of that. What goes waits for the lock. A look for what has come does not:
+/// while the other end is at the channel, nothing has come.
+///
+/// What was taken out and not handed out when an end is dropped is lost, and so is what was kept back.
 ///
 /// Contracts see which end it is. What it does to the channel [`Lossy`] says, of whatever lies there once it has the lock.
 #[derive(Drop)]
@@ -25,7 +26,10 @@ pub struct LossyEnd<'a, W, R: Wait> {
     /// Where receives come from.
     into: &'a Mutex<Lossy<W>>,
     end: End,
-    taken: Taken,
+    /// What was taken out, and is to be handed out.
+    taken: Batch,
+    /// What was kept back, and is to go.
+    kept_back: Batch,
 }
 
 impl<'a, W, R: Wait> Model for LossyEnd<'a, W, R> {
@@ -59,7 +63,22 @@ impl<'a, W, R: Wait> LossyEnd<'a, W, R> {
             out,
             into,
             end,
-            taken: Taken::new(),
+            taken: Batch::new(),
+            kept_back: Batch::new(),
+        }
+    }
+}
+
+impl<'a, W: Words, R: Wait> LossyEnd<'a, W, R> {
+    /// Sends what was kept back, and then these bytes. Where memory is refused, the rest is kept back still.
+    fn let_go(&mut self, bytes: Option<&[u8]>) -> Result<(), LinkFault>
+        ensures memory { IfErr result (λ f. f ≡ LinkFault.NoMemory) }
+    {
+        let mut channel = self.out.lock(self.rt);
+        self.kept_back.send_all(&mut channel, self.end)?;
+        match bytes {
+            Some(bytes) => channel.send(self.end, bytes),
+            None => Ok(()),
         }
     }
 }
@@ -68,78 +87,21 @@ impl<'a, W: Words, R: Wait> Link for LossyEnd<'a, W, R> {
     ghost failures = { λ _. 0 };
 
     fn send(&mut self, bytes: &[u8]) -> Result<(), LinkFault> {
-        self.out.lock(self.rt).send(self.end, bytes)
+        if !self.taken.is_over() && self.kept_back.push(bytes) {
+            return Ok(());
+        }
+        self.let_go(Some(bytes))
     }
 
     fn receive(&mut self, buffer: &mut [u8; MAX_DATAGRAM]) -> Result<Option<usize>, LinkFault> {
         if self.taken.is_over() {
+            if !self.kept_back.is_over() {
+                let _ = self.let_go(None);
+            }
             if let Some(mut channel) = self.into.try_lock() {
                 self.taken.refill(&mut channel, self.end);
             }
         }
         Ok(self.taken.hand_out(buffer))
-    }
-}
-
-/// A datagram that was taken out: its length, and its bytes at the front of a buffer.
-#[derive(Clone, Copy)]
-struct Received {
-    length: usize,
-    buffer: [u8; MAX_DATAGRAM],
-}
-
-/// Datagrams that were taken out of a channel, in that order.
-#[derive(Drop)]
-struct Taken {
-    datagrams: [Received; TAKEN_AT_ONCE],
-    /// How many of them there are.
-    count: usize,
-    /// How many were handed out.
-    handed_out: usize,
-}
-
-impl Taken {
-    fn new() -> Taken {
-        let none = Received {
-            length: 0,
-            buffer: [0; MAX_DATAGRAM],
-        };
-        Taken {
-            datagrams: [none; TAKEN_AT_ONCE],
-            count: 0,
-            handed_out: 0,
-        }
-    }
-
-    /// Whether all of them were handed out.
-    fn is_over(&self) -> bool {
-        self.handed_out >= self.count
-    }
-
-    /// Takes out what has come at this end, in place of what was there.
-    fn refill<W: Words>(&mut self, channel: &mut Lossy<W>, at: End) {
-        self.count = 0;
-        self.handed_out = 0;
-        'places: for place in &mut self.datagrams {
-            let Some(length) = channel.receive(at, &mut place.buffer) else {
-                break;
-            };
-            place.length = length;
-            self.count = self.count.saturating_add(1);
-        }
-    }
-
-    /// The length of the next one, which now stands at the front of the buffer.
-    fn hand_out(&mut self, buffer: &mut [u8; MAX_DATAGRAM]) -> Option<usize>
-        ensures { IfSome result (λ n. n ≤ MAX_DATAGRAM) }
-    {
-        if self.is_over() {
-            return None;
-        }
-        let next = self.datagrams.get(self.handed_out)?;
-        let length = MAX_DATAGRAM.min(next.length);
-        buffer[..length].copy_from_slice(&next.buffer[..length]);
-        self.handed_out = self.handed_out.saturating_add(1);
-        Some(length)
     }
 }

@@ -215,6 +215,29 @@ fn ends_share_two_channels(rt: HostRuntime) {
     assert_eq!(rt; receiver.receive(&mut buffer), Ok(None));
 }
 
+/// An end that has more to hand out keeps its sends back. They go with the last datagram or the next look, in their order.
+#[test]
+fn an_end_keeps_sends_back(rt: HostRuntime) {
+    let channel = Mutex::new(calm_channel(rt.alloc()));
+    let mut here = LossyEnd::new(&rt, &channel, End::Sender);
+    let mut there = LossyEnd::new(&rt, &channel, End::Receiver);
+    let mut buffer = [0; MAX_DATAGRAM];
+    for number in 0..2u8 {
+        assert_eq!(rt; here.send(&[number]), Ok(()));
+    }
+    assert_eq!(rt; there.receive(&mut buffer), Ok(Some(1)));
+    for number in 0..20u8 {
+        assert_eq!(rt; there.send(&[number]), Ok(()));
+    }
+    assert_eq!(rt; there.receive(&mut buffer), Ok(Some(1)));
+    assert_eq!(rt; there.receive(&mut buffer), Ok(None));
+    for number in 0..20u8 {
+        assert_eq!(rt; here.receive(&mut buffer), Ok(Some(1)));
+        assert_eq!(rt; buffer[0], number);
+    }
+    assert_eq!(rt; here.receive(&mut buffer), Ok(None));
+}
+
 /// Sends so many datagrams, and counts those that were refused.
 fn send_all<L: Link + Drop>(mut link: L, count: u32) -> u32 {
     let mut refused = 0u32;
@@ -367,6 +390,37 @@ fn outlives_a_closed_peer<L: Ledger, R: Net>(rt: &R, blank: Blank) -> Result<boo
 #[test]
 fn sockets_outlive_a_closed_peer(rt: HostRuntime) -> Result<(), Fail> {
     assert!(rt; outlives_a_closed_peer::<Brand, HostRuntime>(&rt, Blank::new(1))?);
+    Ok(())
+}
+
+/// Whether a link tells that its device failed, and goes on, where the system refuses a datagram of these bytes at once.
+fn outlives_a_refused_send<L: Ledger, R: Net>(rt: &R, long: &[u8], blank: Blank) -> io::Result<bool>
+    requires name { blank.name ≡ L.name }
+    requires parts { blank.parts ≡ L.parts }
+    requires some { 0 < L.parts }
+{
+    let peer = UdpSocket::bind(rt, any_port())?;
+    let Ok(port) = UdpPort::open(rt, any_port()) else {
+        return Ok(false);
+    };
+    let Ok(mut link) = port.connect::<L>(peer.local_addr()?, blank) else {
+        return Ok(false);
+    };
+    if link.send(long) != Err(LinkFault::Device) || link.send(NEEDUID) != Ok(()) {
+        return Ok(false);
+    }
+    let mut buffer = [0; MAX_DATAGRAM];
+    let length = peer.recv(buffer.as_mut_slice())?;
+    Ok(buffer.get(..length) == Some(NEEDUID))
+}
+
+/// No datagram of IPv4 carries 65,508 bytes.
+#[test]
+fn sockets_outlive_a_refused_send(rt: HostRuntime) -> Result<(), Fail> {
+    let long = vec![in rt.alloc(); 0x61; 65_508]?;
+    assert!(rt;
+        outlives_a_refused_send::<Brand, HostRuntime>(&rt, long.as_slice(), Blank::new(1))?
+    );
     Ok(())
 }
 
