@@ -32,6 +32,7 @@ impl Home {
         ensures count { length self.new.passes.items ≡ length self.old.passes.items + 1 }
         ensures room { vec_capacity self.new.passes ≡ vec_capacity self.old.passes }
         ensures charges { (self.new.charges ≡ self.old.charges) × (self.new.is_short ≡ false → self.old.is_short ≡ false) }
+        ensures counts { (self.new.is_cut_off ≡ self.old.is_cut_off) × (self.new.link_faults ≡ self.old.link_faults) × (self.new.busy ≡ self.old.busy) }
     {
         let _ = book;
         let is_kept = add_events(&mut self.events, made);
@@ -43,6 +44,7 @@ impl Home {
     pub fn take_charges(&mut self, charges: Vec<Charge>)
         ensures passes { (self.new.passes ≡ self.old.passes) × (self.new.events ≡ self.old.events) }
         ensures kept { self.new.is_short ≡ false → (self.old.is_short ≡ false) × (self.new.charges.items ≡ self.old.charges.items ++ charges.items) }
+        ensures counts { (self.new.is_cut_off ≡ self.old.is_cut_off) × (self.new.link_faults ≡ self.old.link_faults) × (self.new.busy ≡ self.old.busy) }
     {
         let mut charges = charges;
         let is_kept = self.charges.append(&mut charges).is_ok();

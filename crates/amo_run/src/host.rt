@@ -35,6 +35,7 @@ impl Host {
     /// The host of this side.
     pub fn of(settings: &RunSettings, side: End) -> Host
         requires { AreWithin settings.now }
+        ensures host { (result.seed ≡ settings.now.seed) × (result.side ≡ side) × (result.streams ≡ settings.now.streams) }
         ensures count { result.pumps ≡ pumps_of settings.now }
         ensures few { (1 ≤ result.pumps) × (result.pumps ≤ 4) × (result.pumps ≤ settings.now.streams) }
     {
