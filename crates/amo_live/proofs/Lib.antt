@@ -1,3 +1,5 @@
+pub mod Clients
+pub mod Conserving
 pub mod Onwards
 pub mod Opens
 pub mod Scans

@@ -1,5 +1,5 @@
 -- A journal that goes on by one line.
-use Rattle.std.proofs.Common.{◌≡◌, ℕ, ◌+◌, Option, List, [], ◌∷◌, ◌++◌, length, None, Some, sym, ap, subst, arith}
+use Rattle.std.proofs.Common.{◌≡◌, ℕ, ◌+◌, Option, List, ◌∷◌, ◌++◌, length, None, Some, sym, ap, subst, arith}
 use Rattle.std.specs.Io.KnownBytes.{Appends, Keeps}
 use Rattle.amo_text.specs.Sink.{AppendsFront}
 use Rattle.amo_text.proofs.Written.{Appends-append, Appends-Keeps, AppendsFront-Appends, AppendsFront-append}

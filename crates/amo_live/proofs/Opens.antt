@@ -1,9 +1,8 @@
 -- How a host opens.
-use Rattle.std.proofs.Common.{◌≡◌, ℕ, zero, suc, ◌+◌, ◌<◌, ◌≤◌, List, [], ◌∷◌, ◌++◌, Option, Some, length, map, slice_get, refl, sym, ap, ◌∙◌, subst, arith}
+use Rattle.std.proofs.Common.{◌≡◌, ℕ, zero, suc, ◌+◌, ◌<◌, ◌≤◌, List, [], ◌∷◌, ◌++◌, Some, length, map, slice_get, refl, sym, ap, ◌∙◌, subst, arith}
 use Rattle.std.proofs.lemmas.Option.{same_Some}
 use Rattle.atomic_table.specs.Seated.{TableId}
 use Rattle.amo_object.specs.declared.step.End.{End}
-use Rattle.amo_world.specs.Stream.{IsStream}
 use Rattle.amo_book.specs.Book.{AreFirstCharges, AreLawful, IsLawful, Lists, first_charge}
 use Rattle.amo_book.specs.Charge.{ChargeState}
 use Rattle.amo_live.specs.Host.{side_of, sides_from}

@@ -1,5 +1,5 @@
 -- A host comes back: side after side crashes and is up again.
-use Rattle.std.proofs.Common.{◌≡◌, ℕ, zero, suc, List, [], ◌∷◌, ◌++◌, ◌<◌, Option, Some, length, map, set, slice_get, take, refl, sym, ap, subst, ◌∙◌, arith}
+use Rattle.std.proofs.Common.{◌≡◌, ℕ, zero, suc, List, [], ◌∷◌, ◌++◌, ◌<◌, Some, length, map, set, slice_get, take, refl, sym, ap, subst, ◌∙◌, arith}
 use Rattle.std.proofs.lemmas.Option.{same_Some}
 use Rattle.amo_object.specs.declared.step.End.{End}
 use Rattle.amo_core.specs.declared.act.Act.TheVariants as act

@@ -1,11 +1,11 @@
 -- A journal that is read in pieces.
-use Rattle.std.proofs.Common.{◌≡◌, ℕ, zero, ◌+◌, List, [], ◌∷◌, ◌++◌, length, refl, sym, ap, ◌∙◌, subst, append_assoc, append-nil, arith}
+use Rattle.std.proofs.Common.{◌≡◌, ℕ, ◌+◌, List, [], ◌∷◌, ◌++◌, length, refl, sym, ap, ◌∙◌, subst, append_assoc, append-nil, arith}
 use Rattle.std.specs.List.{AllByRecursion, flat_map}
 use Rattle.std.proofs.lemmas.Grind.{flat_map-append}
 use Rattle.std.proofs.lemmas.List.{length-append}
 use Rattle.amo_text.specs.Line.{Lacks, text_of}
 use Rattle.amo_world.specs.declared.event.Event.{Event}
-use Rattle.amo_audit.specs.Journal.{InRange, IsJournal, fields_of, line_text, numbered}
+use Rattle.amo_audit.specs.Journal.{InRange, fields_of, line_text, numbered}
 use Rattle.amo_live.specs.Scan.{ScanState, Scanned}
 
 both_lack : (byte : ℕ) (xs ys : List ℕ) → Lacks byte xs → Lacks byte ys → Lacks byte (xs ++ ys)

@@ -1,3 +1,5 @@
+pub mod Client
 pub mod Host
 pub mod Noted
 pub mod Scan
+pub mod Service

@@ -1,6 +1,5 @@
 -- A journal that is read in pieces, to go on where it ends.
 use Rattle.std.specs.Prelude.{◌≡◌, ℕ, List, ◌++◌, length}
-use Rattle.amo_object.specs.declared.step.End.{End}
 use Rattle.amo_text.specs.Line.{Lacks}
 use Rattle.amo_world.specs.declared.event.Event.{Event}
 use Rattle.amo_audit.specs.Journal.{IsJournal}

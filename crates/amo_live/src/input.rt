@@ -1,10 +1,16 @@
 //! A client's lines, as a reader brings them.
+ghost use Rattle.std.specs.Prelude.{◌≡◌, List, ℕ, [], ◌∷◌, ◌++◌, IfOk, OnOk, true, false, if◌then◌else◌};
+ghost use Rattle.std.specs.Io.KnownBytes.{Consumes};
+ghost use Rattle.amo_text.specs.Line.{Lacks};
+ghost use Rattle.amo_live.specs.Client.{Fills, IsGone, IsPending, Takes, missing_end, put_of};
+
 use crate::lines::{Spelling, read_put};
 use amo_packet::Message;
 use amo_text::next_line;
 use std::alloc::{AllocError, Global};
 use std::io;
 use std::io::Read;
+use std::marker::Model;
 
 /// How many bytes are read at once.
 const PIECE: usize = 65536;
@@ -21,7 +27,8 @@ pub enum Line {
     Unread,
 }
 
-/// What a reader has brought, and not been taken.
+/// What a reader has brought, and not been taken. Contracts see these bytes, whether a line in front of them was too long, how many
+/// lines were taken, and whether more may come.
 #[derive(Drop)]
 pub struct Input {
     alloc: Global,
@@ -36,9 +43,20 @@ pub struct Input {
     is_open: bool,
 }
 
+impl Model for Input {
+    ghost use Rattle.std.specs.Prelude.{drop};
+    ghost use Rattle.amo_live.specs.Client.{InputState};
+
+    ghost Value = { InputState };
+
+    ghost view = { λ i. record { rest = drop i.taken i.bytes.items; skips = i.skips; taken = i.lines; is_open = i.is_open } };
+}
+
 impl Input {
     /// Nothing has come.
-    pub fn new(alloc: Global) -> Result<Input, AllocError> {
+    pub fn new(alloc: Global) -> Result<Input, AllocError>
+        ensures { IfOk result (λ input. input ≡ record { rest = []; skips = false; taken = 0; is_open = true }) }
+    {
         Ok(Input {
             alloc,
             piece: vec![in alloc; 0u8; PIECE]?,
@@ -51,68 +69,97 @@ impl Input {
     }
 
     /// Whether more may come.
-    pub fn is_open(&self) -> bool {
+    pub fn is_open(&self) -> bool
+        ensures { result ≡ self.now.is_open }
+    {
         self.is_open
     }
 
     /// How many lines were taken.
-    pub fn lines(&self) -> u64 {
+    pub fn lines(&self) -> u64
+        ensures { result ≡ self.now.taken }
+    {
         self.lines
     }
 
-    /// Reads once.
-    pub fn fill<R: Read>(&mut self, reader: &mut R) -> io::Result<()> {
+    /// Reads once. At the reader's end the last line gets its end, where it has none.
+    pub fn fill<R: Read>(&mut self, reader: &mut R) -> io::Result<()>
+        ensures filled { OnOk result ((bytes : List ℕ) × Consumes (R.remaining reader.old) (R.remaining reader.new) bytes × Fills self.old self.new bytes) }
+        ensures taken { self.new.taken ≡ self.old.taken }
+    {
         self.bytes.drain(..self.taken.min(self.bytes.len()));
         self.taken = 0;
         let count = reader.read(self.piece.as_mut_slice())?;
-        self.is_open = count > 0;
         self.bytes.extend_from_slice(&self.piece[..count])?;
+        self.is_open = count > 0;
+        if self.is_open {
+            return Ok(());
+        }
+        self.bytes
+            .extend_from_slice(missing_end(self.skips, self.bytes.as_slice()))?;
         Ok(())
     }
 
-    /// Takes the next line, if it has come whole; at the end of the input also one that has no end.
-    pub fn next(&mut self, spelling: Spelling) -> Result<Option<Line>, AllocError> {
+    /// Takes the next line, if it has come whole.
+    pub fn next(&mut self, spelling: Spelling) -> Result<Option<Line>, AllocError>
+        ensures takes { IfOk result (Takes spelling self.old self.new) }
+        ensures stays { self.new.is_open ≡ self.old.is_open }
+    {
         let Some((text, rest)) = next_line(self.rest()) else {
-            return self.last(spelling);
+            self.skip_if_long();
+            return Ok(None);
         };
-        let read = read_put(self.alloc, text, spelling)?;
+        let line = line_of(read_put(self.alloc, text, spelling)?, self.skips);
         self.taken = self.bytes.len().saturating_sub(rest.len());
-        Ok(Some(self.numbered(read)))
+        self.lines = self.lines.saturating_add(1);
+        self.skips = false;
+        Ok(Some(line))
     }
 
     /// What has come, and not been taken.
-    fn rest(&self) -> &[u8] {
+    fn rest(&self) -> &[u8]
+        ensures { result.now ≡ self.now.rest }
+    {
         self.bytes.get(self.taken..).unwrap_or(&[])
     }
 
-    /// All that has come is taken.
-    fn clear(&mut self) {
-        self.bytes.clear();
-        self.taken = 0;
-    }
-
-    /// What stands behind the last line's end.
-    fn last(&mut self, spelling: Spelling) -> Result<Option<Line>, AllocError> {
+    /// What has come of a line that is too long goes.
+    fn skip_if_long(&mut self)
+        requires { Lacks 10 self.old.rest }
+        ensures pending { (text : List ℕ) → IsPending self.old text → IsPending self.new text }
+        ensures stays { self.new.is_open ≡ self.old.is_open }
+    {
         if self.rest().len() > LONGEST_LINE {
-            self.clear();
+            self.bytes.clear();
+            self.taken = 0;
             self.skips = true;
         }
-        if self.is_open || (self.rest().is_empty() && !self.skips) {
-            return Ok(None);
-        }
-        let read = read_put(self.alloc, self.rest(), spelling)?;
-        self.clear();
-        Ok(Some(self.numbered(read)))
     }
+}
 
-    /// A line that was read, or not.
-    fn numbered(&mut self, read: Option<(u32, Message)>) -> Line {
-        self.lines = self.lines.saturating_add(1);
-        let skips = self.skips;
-        self.skips = false;
-        match read {
-            Some((stream, message)) if !skips => Line::Put(stream, message),
-            _ => Line::Unread,
-        }
+/// The line that was read so, if it was not too long.
+fn line_of(read: Option<(u32, Message)>, skips: bool) -> Line
+    ensures { put_of result ≡ (if skips then None else read) }
+{
+    match read {
+        Some((stream, message)) if !skips => Line::Put(stream, message),
+        _ => Line::Unread,
     }
+}
+
+/// The end that the last line of a text lacks, if it does. Where it skips, something is gone in front.
+fn missing_end(skips: bool, text: &[u8]) -> &'static [u8]
+    ensures { (gone : List ℕ) → IsGone skips gone → missing_end (gone ++ text.now) ≡ result.now }
+{
+    match text.last() {
+        None => end_if(skips),
+        Some(byte) => end_if(*byte != b'\n'),
+    }
+}
+
+/// A line's end, if it is lacking.
+fn end_if(is_lacking: bool) -> &'static [u8]
+    ensures { result.now ≡ (if is_lacking then (10 ∷ []) else []) }
+{
+    if is_lacking { b"\n" } else { b"" }
 }

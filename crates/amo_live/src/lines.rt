@@ -1,4 +1,7 @@
 //! The lines of a host's clients.
+ghost use Rattle.std.specs.Prelude.{IfOk};
+ghost use Rattle.amo_live.specs.Client.{ReadsAs};
+
 use amo_packet::{Message, MessageFault};
 use amo_text::{next_field, push_decimal, push_hex, read_message, read_stream};
 use std::alloc::{AllocError, Global};
@@ -39,7 +42,9 @@ pub fn read_put(
     alloc: Global,
     line: &[u8],
     spelling: Spelling,
-) -> Result<Option<(u32, Message)>, AllocError> {
+) -> Result<Option<(u32, Message)>, AllocError>
+    ensures { IfOk result (ReadsAs spelling line.now) }
+{
     let Some((field, text)) = next_field(line) else {
         return Ok(None);
     };

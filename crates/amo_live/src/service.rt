@@ -1,7 +1,8 @@
 //! What a live host does with datagrams, times and its clients' messages.
-ghost use Rattle.std.specs.Prelude.{◌≡◌, IfOk, OnOk};
-ghost use Rattle.amo_book.specs.Pass.{mine};
-ghost use Rattle.amo_live.specs.Host.{IsNoted, Puts, puts_in};
+ghost use Rattle.std.specs.Prelude.{◌≡◌, IfOk, OnOk, is_some, length};
+ghost use Rattle.amo_live.specs.Client.{has};
+ghost use Rattle.amo_live.specs.Host.{IsNoted, Puts};
+ghost use Rattle.amo_live.specs.Service.{PutsNone, streams_of};
 
 use crate::lines::{Spelling, Word, push_message, push_word};
 use crate::timer::Timer;
@@ -96,7 +97,8 @@ impl<L: Link + Drop, S: Sink + Drop, W: Words + Drop> Service<L, S, W> {
         setup: Setup,
     ) -> Result<Service<L, S, W>, AllocError>
         requires { IsNoted S.written host }
-        ensures { IfOk result (λ service. service.host ≡ host) }
+        ensures host { IfOk result (λ service. service.host ≡ host) }
+        ensures streams { IfOk result (λ service. streams_of service ≡ setup.streams) }
     {
         let mode = match setup.side {
             End::Sender => Mode::Quiet,
@@ -116,9 +118,11 @@ impl<L: Link + Drop, S: Sink + Drop, W: Words + Drop> Service<L, S, W> {
 }
 
 /// What is known of so many streams at first.
-fn lanes_of(alloc: Global, streams: u32, mode: Mode) -> Result<Vec<Lane>, AllocError> {
+fn lanes_of(alloc: Global, streams: u32, mode: Mode) -> Result<Vec<Lane>, AllocError>
+    ensures { IfOk result (λ lanes. length lanes.items ≡ streams) }
+{
     let mut lanes = Vec::new(alloc);
-    for _stream in 0..streams {
+    'streams: for _stream in 0..streams {
         lanes.push(Lane::new(mode))?;
     }
     Ok(lanes)
@@ -132,13 +136,16 @@ impl<L: Link, S: Sink, W: Words> Service<L, S, W> {
 
     /// All of it was shown.
     pub fn clear_shown(&mut self)
-        ensures { self.new.host ≡ self.old.host }
+        ensures host { self.new.host ≡ self.old.host }
+        ensures streams { streams_of self.new ≡ streams_of self.old }
     {
         self.shown.clear();
     }
 
     /// Whether it has this stream.
-    pub fn has(&self, stream: u32) -> bool {
+    pub fn has(&self, stream: u32) -> bool
+        ensures { result ≡ has (streams_of self.now) stream }
+    {
         self.lane(stream).is_some()
     }
 
@@ -166,14 +173,17 @@ impl<L: Link, S: Sink, W: Words> Service<L, S, W> {
     }
 
     /// What is known of a stream.
-    fn lane(&self, stream: u32) -> Option<Lane> {
+    fn lane(&self, stream: u32) -> Option<Lane>
+        ensures { is_some result ≡ has (streams_of self.now) stream }
+    {
         let place = (stream as usize).checked_sub(1)?;
         self.lanes.get(place).copied()
     }
 
     /// From now on this is known of a stream.
     fn set_lane(&mut self, stream: u32, lane: Lane)
-        ensures { self.new.host ≡ self.old.host }
+        ensures host { self.new.host ≡ self.old.host }
+        ensures streams { streams_of self.new ≡ streams_of self.old }
     {
         let Some(place) = (stream as usize).checked_sub(1) else {
             return;
@@ -185,7 +195,8 @@ impl<L: Link, S: Sink, W: Words> Service<L, S, W> {
 
     /// The stream's side is in this mode now.
     fn enter(&mut self, stream: u32, mode: Mode, resent: bool, now: u64)
-        ensures { self.new.host ≡ self.old.host }
+        ensures host { self.new.host ≡ self.old.host }
+        ensures streams { streams_of self.new ≡ streams_of self.old }
     {
         if let Some(lane) = self.lane(stream) {
             let mut lane = lane;
@@ -206,6 +217,7 @@ impl<L: Link, S: Sink, W: Words> Service<L, S, W> {
         requires { IsNoted S.written self.old.host }
         ensures noted { OnOk result (IsNoted S.written self.new.host) }
         ensures put { IfOk result (Puts self.old.host.pass self.new.host.pass stream message) }
+        ensures streams { streams_of self.new ≡ streams_of self.old }
     {
         let Some(lane) = self.lane(stream) else {
             return Ok(Some(message));
@@ -226,7 +238,8 @@ impl<L: Link, S: Sink, W: Words> Service<L, S, W> {
 
     /// A message more of this stream has no answer.
     fn owe(&mut self, stream: u32, lane: Lane)
-        ensures { self.new.host ≡ self.old.host }
+        ensures host { self.new.host ≡ self.old.host }
+        ensures streams { streams_of self.new ≡ streams_of self.old }
     {
         if !lane.owed {
             self.owed = self.owed.saturating_add(1);
@@ -247,7 +260,8 @@ impl<L: Link, S: Sink, W: Words> Service<L, S, W> {
     fn begin(&mut self, stream: u32, now: u64) -> Result<(), LiveFault>
         requires { IsNoted S.written self.old.host }
         ensures noted { OnOk result (IsNoted S.written self.new.host) }
-        ensures none_put { OnOk result (puts_in (mine self.new.host.pass) ≡ puts_in (mine self.old.host.pass)) }
+        ensures none_put { OnOk result (PutsNone self.old.host.pass self.new.host.pass) }
+        ensures streams { streams_of self.new ≡ streams_of self.old }
     {
         let Some(lane) = self.lane(stream) else {
             return Ok(());
@@ -272,7 +286,9 @@ impl<L: Link, S: Sink, W: Words> Service<L, S, W> {
     /// Takes the datagrams that have come, up to a bound.
     pub fn hear(&mut self, now: u64) -> Result<(), LiveFault>
         requires { IsNoted S.written self.old.host }
-        ensures { OnOk result (IsNoted S.written self.new.host) }
+        ensures noted { OnOk result (IsNoted S.written self.new.host) }
+        ensures none_put { OnOk result (PutsNone self.old.host.pass self.new.host.pass) }
+        ensures streams { streams_of self.new ≡ streams_of self.old }
     {
         let mut buffer = [0; MAX_DATAGRAM];
         'datagrams: for _datagram in 0..MOST_DATAGRAMS {
@@ -287,7 +303,9 @@ impl<L: Link, S: Sink, W: Words> Service<L, S, W> {
     /// Delivers a datagram.
     fn deliver(&mut self, bytes: &[u8], now: u64) -> Result<(), LiveFault>
         requires { IsNoted S.written self.old.host }
-        ensures { OnOk result (IsNoted S.written self.new.host) }
+        ensures noted { OnOk result (IsNoted S.written self.new.host) }
+        ensures none_put { OnOk result (PutsNone self.old.host.pass self.new.host.pass) }
+        ensures streams { streams_of self.new ≡ streams_of self.old }
     {
         let Some(word) = self.word_for(bytes) else {
             return Ok(());
@@ -321,7 +339,9 @@ impl<L: Link, S: Sink, W: Words> Service<L, S, W> {
     /// Gets the message that has come to a stream, and acknowledges it.
     fn get(&mut self, stream: u32, now: u64) -> Result<(), LiveFault>
         requires { IsNoted S.written self.old.host }
-        ensures { OnOk result (IsNoted S.written self.new.host) }
+        ensures noted { OnOk result (IsNoted S.written self.new.host) }
+        ensures none_put { OnOk result (PutsNone self.old.host.pass self.new.host.pass) }
+        ensures streams { streams_of self.new ≡ streams_of self.old }
     {
         if self.got >= self.setup.most {
             return Ok(());
@@ -339,7 +359,9 @@ impl<L: Link, S: Sink, W: Words> Service<L, S, W> {
     /// A handshake is over: the stream's next one begins, or its client is told what became of the last message.
     fn settle(&mut self, stream: u32, now: u64) -> Result<(), LiveFault>
         requires { IsNoted S.written self.old.host }
-        ensures { OnOk result (IsNoted S.written self.new.host) }
+        ensures noted { OnOk result (IsNoted S.written self.new.host) }
+        ensures none_put { OnOk result (PutsNone self.old.host.pass self.new.host.pass) }
+        ensures streams { streams_of self.new ≡ streams_of self.old }
     {
         let Some(lane) = self.lane(stream) else {
             return Ok(());
@@ -366,7 +388,9 @@ impl<L: Link, S: Sink, W: Words> Service<L, S, W> {
     /// Sends again what is due.
     pub fn resend(&mut self, now: u64) -> Result<(), LiveFault>
         requires { IsNoted S.written self.old.host }
-        ensures { OnOk result (IsNoted S.written self.new.host) }
+        ensures noted { OnOk result (IsNoted S.written self.new.host) }
+        ensures none_put { OnOk result (PutsNone self.old.host.pass self.new.host.pass) }
+        ensures streams { streams_of self.new ≡ streams_of self.old }
     {
         let streams = self.setup.streams;
         'streams: for place in 0..streams {

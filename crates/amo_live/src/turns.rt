@@ -1,9 +1,12 @@
 //! A live host's turns: it waits for its socket and its clients' lines, and does what has come.
-ghost use Rattle.std.specs.Prelude.{OnOk};
+ghost use Rattle.std.specs.Prelude.{◌≡◌, ℕ, List, [], ◌∷◌, None, IfOk, OnOk};
+ghost use Rattle.std.specs.Io.KnownBytes.{Consumes};
+ghost use Rattle.amo_live.specs.Client.{Moves, Serves, Waits, message_of, moment};
 ghost use Rattle.amo_live.specs.Host.{IsNoted};
+ghost use Rattle.amo_live.specs.Service.{streams_of};
 
 use crate::ready::wait;
-use crate::{Durable, Input, Line, ServeFault, Service, Spelling};
+use crate::{Durable, Input, Line, LiveFault, ServeFault, Service, Spelling};
 use amo_net::Link;
 use amo_packet::Message;
 use amo_word::Words;
@@ -68,7 +71,11 @@ pub fn serve<C: Clock + Eprint, L: Link, S: Durable, W: Words, I: Read, O: Write
     limits: Limits,
 ) -> Result<Ended, ServeFault>
     requires { IsNoted S.written service.old.host }
-    ensures { OnOk result (IsNoted S.written service.new.host) }
+    ensures noted { OnOk result (IsNoted S.written service.new.host) }
+    // Each line was taken once, and its message put once or kept; a message that was refused was the next to be put again.
+    ensures serves { OnOk result ((bytes : List ℕ) × Consumes (I.remaining desk.old.reader) (I.remaining desk.new.reader) bytes
+        × Serves desk.old.spelling desk.old.puts (streams_of service.old) bytes
+        (moment desk.old.input desk.old.kept service.old.host.pass) (moment desk.new.input desk.new.kept service.new.host.pass)) }
 {
     let start = Instant::now(rt)?;
     let mut since: Option<u64> = None;
@@ -107,7 +114,13 @@ fn turn<C: Clock + Eprint, L: Link, S: Durable, W: Words, I: Read, O: Write>(
     limit: i32,
 ) -> Result<(), ServeFault>
     requires { IsNoted S.written service.old.host }
-    ensures { OnOk result (IsNoted S.written service.new.host) }
+    ensures noted { OnOk result (IsNoted S.written service.new.host) }
+    ensures serves { OnOk result ((bytes : List ℕ) × Consumes (I.remaining desk.old.reader) (I.remaining desk.new.reader) bytes
+        × Serves desk.old.spelling desk.old.puts (streams_of service.old) bytes
+        (moment desk.old.input desk.old.kept service.old.host.pass) (moment desk.new.input desk.new.kept service.new.host.pass)) }
+    ensures streams { streams_of service.new ≡ streams_of service.old }
+    ensures spelling { desk.new.spelling ≡ desk.old.spelling }
+    ensures puts { desk.new.puts ≡ desk.old.puts }
 {
     desk.wait(limit)?;
     let now = microseconds(rt, start)?;
@@ -132,13 +145,13 @@ fn take_lines<C: Eprint, L: Link, S: Durable, W: Words, I: Read, O: Write>(
     now: u64,
 ) -> Result<(), ServeFault>
     requires { IsNoted S.written service.old.host }
-    ensures { OnOk result (IsNoted S.written service.new.host) }
+    ensures noted { OnOk result (IsNoted S.written service.new.host) }
+    ensures serves { OnOk result (Serves desk.old.spelling desk.old.puts (streams_of service.old) []
+        (moment desk.old.input desk.old.kept service.old.host.pass) (moment desk.new.input desk.new.kept service.new.host.pass)) }
+    ensures streams { streams_of service.new ≡ streams_of service.old }
+    ensures same { desk.new ≡ record desk.old { input = desk.new.input; kept = desk.new.kept } }
 {
-    if let Some((stream, message)) = desk.kept.take() {
-        desk.kept = service
-            .put(stream, message, now)?
-            .map(|message| (stream, message));
-    }
+    put_kept(service, desk, now)?;
     'lines: for _line in 0..u64::MAX {
         if desk.kept.is_some() {
             break;
@@ -146,17 +159,69 @@ fn take_lines<C: Eprint, L: Link, S: Durable, W: Words, I: Read, O: Write>(
         let Some(line) = desk.input.next(desk.spelling)? else {
             break;
         };
-        match line {
-            Line::Put(stream, message) if desk.puts && service.has(stream) => {
-                desk.kept = service
-                    .put(stream, message, now)?
-                    .map(|message| (stream, message));
-            }
-            Line::Put(_, _) => desk.refuse(rt),
-            Line::Unread => desk.refuse(rt),
-        }
+        put_line(rt, service, desk, line, now)?;
     }
     Ok(())
+}
+
+/// Puts the message that was kept, if there is one.
+fn put_kept<L: Link, S: Durable, W: Words, I: Read, O: Write>(
+    service: &mut Service<L, S, W>,
+    desk: &mut Desk<I, O>,
+    now: u64,
+) -> Result<(), ServeFault>
+    requires { IsNoted S.written service.old.host }
+    ensures noted { OnOk result (IsNoted S.written service.new.host) }
+    ensures moves { OnOk result (Moves [] desk.old.kept desk.new.kept service.old.host.pass service.new.host.pass) }
+    ensures streams { streams_of service.new ≡ streams_of service.old }
+    ensures same { desk.new ≡ record desk.old { kept = desk.new.kept } }
+{
+    if let Some((stream, message)) = desk.kept.take() {
+        desk.kept = put_or_keep(service, stream, message, now)?;
+    }
+    Ok(())
+}
+
+/// Puts the message of a line, if it is one for a stream of this host.
+fn put_line<C: Eprint, L: Link, S: Durable, W: Words, I: Read, O: Write>(
+    rt: &C,
+    service: &mut Service<L, S, W>,
+    desk: &mut Desk<I, O>,
+    line: Line,
+    now: u64,
+) -> Result<(), ServeFault>
+    requires noted { IsNoted S.written service.old.host }
+    requires none_kept { desk.old.kept ≡ None }
+    ensures noted { OnOk result (IsNoted S.written service.new.host) }
+    ensures moves { OnOk result (Moves (message_of desk.old.puts (streams_of service.old) line) None desk.new.kept service.old.host.pass service.new.host.pass) }
+    ensures streams { streams_of service.new ≡ streams_of service.old }
+    ensures same { desk.new ≡ record desk.old { kept = desk.new.kept } }
+{
+    match line {
+        Line::Put(stream, message) if desk.puts && service.has(stream) => {
+            desk.kept = put_or_keep(service, stream, message, now)?;
+        }
+        _ => desk.refuse(rt),
+    }
+    Ok(())
+}
+
+/// Puts a message. One that is not taken is to be kept, with its stream.
+fn put_or_keep<L: Link, S: Durable, W: Words>(
+    service: &mut Service<L, S, W>,
+    stream: u32,
+    message: Message,
+    now: u64,
+) -> Result<Option<(u32, Message)>, LiveFault>
+    requires { IsNoted S.written service.old.host }
+    ensures noted { OnOk result (IsNoted S.written service.new.host) }
+    ensures moves { IfOk result (λ kept. Moves ((stream, message) ∷ []) None kept service.old.host.pass service.new.host.pass) }
+    ensures streams { streams_of service.new ≡ streams_of service.old }
+{
+    match service.put(stream, message, now)? {
+        Some(message) => Ok(Some((stream, message))),
+        None => Ok(None),
+    }
 }
 
 impl Limits {
@@ -201,17 +266,22 @@ impl<I: Read, O: Write> Desk<I, O> {
     }
 
     /// Waits, and reads lines once where some have come. While a message waits to be put again, lines wait too.
-    fn wait(&mut self, limit: i32) -> Result<(), ServeFault> {
+    fn wait(&mut self, limit: i32) -> Result<(), ServeFault>
+        ensures waits { OnOk result ((bytes : List ℕ) × Consumes (I.remaining self.old.reader) (I.remaining self.new.reader) bytes × Waits self.old.input self.new.input bytes) }
+        ensures same { self.new ≡ record self.old { reader = self.new.reader; input = self.new.input } }
+    {
         let reads = self.input.is_open() && self.kept.is_none();
         let number = if reads { self.reader_number } else { -1 };
-        if wait(number, self.socket_number, limit) {
+        if wait(number, self.socket_number, limit) && reads {
             self.input.fill(&mut self.reader)?;
         }
         Ok(())
     }
 
     /// Shows these lines to the clients.
-    fn show(&mut self, shown: &[u8]) -> Result<(), ServeFault> {
+    fn show(&mut self, shown: &[u8]) -> Result<(), ServeFault>
+        ensures { self.new ≡ record self.old { output = self.new.output } }
+    {
         if !shown.is_empty() {
             self.output.write_all(shown)?;
             self.output.flush()?;

@@ -12,11 +12,11 @@ returns-clause-back g c =
     elim c.if-lines-gt0.branch [
       | then-lines-gt0+in_ok-come_back w ↦
           let some : 0 < c.args.scan.lines = omega (arith, w.if-lines-gt0.true) in
-          subst (λ (t : HostState g.row.L.Denot g.row.S.Denot). mine t.pass ≡ first_events t.pass.number sides c.args.scan.lines) (sym (c.in_ok-new.ensures ∙ w.host-is))
+          subst (λ (t : HostState g.row.L.Denot g.row.S.Denot). mine t.pass ≡ first_events t.pass.number sides c.args.scan.lines) (sym (c.in_ok-new.ensures.host ∙ w.host-is))
           (first_back c.in_ok-host.host w.come_back.new.self c.args.setup.side c.args.setup.streams c.args.link c.new-journal.result c.args.scan.lines c.in_ok-host.ensures.opened w.in_ok-come_back.ensures.stays some w.in_ok-come_back.ensures.back)
       | else-lines-gt0 w ↦
           let none : 0 ≡ c.args.scan.lines = omega (arith, w.if-lines-gt0.false) in
           let h = c.in_ok-host.host in
-          subst (λ (t : HostState g.row.L.Denot g.row.S.Denot). mine t.pass ≡ first_events t.pass.number sides c.args.scan.lines) (sym (c.in_ok-new.ensures ∙ w.host-is))
+          subst (λ (t : HostState g.row.L.Denot g.row.S.Denot). mine t.pass ≡ first_events t.pass.number sides c.args.scan.lines) (sym (c.in_ok-new.ensures.host ∙ w.host-is))
           (none_made h c.args.setup.side c.args.setup.streams c.args.link c.new-journal.result c.in_ok-host.ensures.opened ∙ ap (λ (n : ℕ). first_events h.pass.number sides n) none)
     ]

@@ -1,6 +1,18 @@
+use Rattle.std.specs.Prelude.{◌≡◌, ℕ, List}
+use Rattle.std.specs.Io.KnownBytes.{Consumes}
+use Rattle.amo_live.specs.Client.{Serves, moment}
 use Rattle.amo_live.specs.Host.{IsNoted}
+use Rattle.amo_live.specs.Service.{streams_of}
 use Rattle.amo_live.proofs.turns.serve.Given as goal
 
--- the journal has all lines so far
+-- the journal has all lines so far, and the messages of the client's lines were put so far
 abbrev pub invariant-turns : goal.invariant-turns
-invariant-turns g l = IsNoted g.S.Sink.written l.service.host
+invariant-turns g l = record {
+  noted : IsNoted g.S.Sink.written l.service.host;
+  bytes : List ℕ;
+  read : Consumes (g.I.Read.remaining l.fn.desk.reader) (g.I.Read.remaining l.desk.reader) bytes;
+  serves : Serves l.fn.desk.spelling l.fn.desk.puts (streams_of l.fn.service) bytes (moment l.fn.desk.input l.fn.desk.kept l.fn.service.host.pass) (moment l.desk.input l.desk.kept l.service.host.pass);
+  streams : streams_of l.service ≡ streams_of l.fn.service;
+  spelling : l.desk.spelling ≡ l.fn.desk.spelling;
+  puts : l.desk.puts ≡ l.fn.desk.puts;
+}

@@ -1,0 +1,181 @@
+-- Lines are taken, and their messages put, from one moment to a later one.
+use Rattle.std.proofs.Common.{◌≡◌, ℕ, Bool, true, false, List, [], ◌∷◌, ◌++◌, Option, Some, None, is_some, reverse, refl, sym, ap, ◌∙◌, subst, append_assoc, append-nil}
+use Rattle.std.specs.Option.{option_to_list}
+use Rattle.std.proofs.lemmas.Bool.{true≢false}
+use Rattle.std.proofs.lemmas.List.{reverse-append}
+use Rattle.amo_book.specs.Pass.{PassState, mine}
+use Rattle.amo_live.specs.declared.input.Line.{Line}
+use Rattle.amo_live.specs.declared.lines.Spelling.{Spelling}
+use Rattle.amo_live.specs.Client.{Addressed, AreLines, Fills, InputState, IsPending, Moment, Moves, Serves, Takes, Waits, ended, message_of, messages_of, missing_end, moment}
+use Rattle.amo_live.specs.Host.{puts_in}
+use Rattle.amo_live.proofs.Clients.{missing_behind_lines}
+
+-- no message, and none was put
+pub none_moved : (kept kept' : Option Addressed) (v w : PassState) → kept' ≡ kept → puts_in (mine w) ≡ puts_in (mine v) → Moves [] kept kept' v w
+none_moved kept kept' v w still same = record { put = []; mine_is = same; order = append-nil (option_to_list kept) ∙ ap option_to_list (sym still) }
+
+-- one message, which was put or is kept
+pub one_moved : (v w : PassState) (stream : ℕ) (message : List ℕ) → puts_in (mine w) ≡ (stream, message) ∷ puts_in (mine v) → Moves ((stream, message) ∷ []) None None v w
+one_moved v w stream message put = record { put = (stream, message) ∷ []; mine_is = put; order = refl }
+
+pub one_kept : (v w : PassState) (stream : ℕ) (message back : List ℕ) → back ≡ message → puts_in (mine w) ≡ puts_in (mine v) → Moves ((stream, message) ∷ []) None (Some (stream, back)) v w
+one_kept v w stream message back is same = record { put = []; mine_is = same; order = ap (λ (m : List ℕ). (stream, m) ∷ []) (sym is) }
+
+-- the message that was kept is the first
+pub kept_moved : (v w : PassState) (one : Addressed) (kept : Option Addressed) → Moves (one ∷ []) None kept v w → Moves [] (Some one) kept v w
+kept_moved v w one kept m = record { put = m.put; mine_is = m.mine_is; order = m.order }
+
+-- more messages
+pub moves_on : (u v w : PassState) (some more : List Addressed) (first second third : Option Addressed) → Moves some first second u v → Moves more second third v w → Moves (some ++ more) first third u w
+moves_on u v w some more first second third one two = record {
+  put = one.put ++ two.put;
+  mine_is = two.mine_is ∙ (ap (λ (l : List Addressed). reverse two.put ++ l) one.mine_is ∙ (sym (append_assoc (reverse two.put) (reverse one.put) (puts_in (mine u))) ∙ ap (λ (l : List Addressed). l ++ puts_in (mine u)) (sym (reverse-append one.put two.put))));
+  order = sym (append_assoc (option_to_list first) some more) ∙ (ap (λ (l : List Addressed). l ++ more) one.order ∙ (append_assoc one.put (option_to_list second) more ∙ (ap (λ (l : List Addressed). one.put ++ l) two.order ∙ sym (append_assoc one.put two.put (option_to_list third)))));
+}
+
+messages_append : (puts : Bool) (streams : ℕ) (some more : List Line) → messages_of puts streams (some ++ more) ≡ messages_of puts streams some ++ messages_of puts streams more
+messages_append puts streams [] more = refl
+messages_append puts streams (line ∷ some) more = ap (λ (l : List Addressed). message_of puts streams line ++ l) (messages_append puts streams some more) ∙ sym (append_assoc (message_of puts streams line) (messages_of puts streams some) (messages_of puts streams more))
+
+lines_append : (spelling : Spelling) (front behind : List ℕ) (some more : List Line) → AreLines spelling front some → AreLines spelling behind more → AreLines spelling (front ++ behind) (some ++ more)
+lines_append spelling front behind [] more are next = subst (λ (f : List ℕ). AreLines spelling (f ++ behind) more) (sym are) next
+lines_append spelling front behind (line ∷ some) more are next =
+    let (f, m, is, lacks, reads, rest) = are in
+    (f, m ++ behind, ap (λ (l : List ℕ). l ++ behind) is ∙ append_assoc f (10 ∷ m) behind, lacks, reads, lines_append spelling m behind some more rest next)
+
+ended_itself : (was : Bool) (text : List ℕ) → ended was was text ≡ text
+ended_itself true text = refl
+ended_itself false text = refl
+
+ended_behind_lines : (spelling : Spelling) (was is : Bool) (front : List ℕ) (lines : List Line) → AreLines spelling front lines → (more : List ℕ) → ended was is (front ++ more) ≡ front ++ ended was is more
+ended_behind_lines spelling true true front lines are more = refl
+ended_behind_lines spelling true false front lines are more = append_assoc front more (missing_end (front ++ more)) ∙ ap (λ (l : List ℕ). front ++ (more ++ l)) (missing_behind_lines spelling front lines are more)
+ended_behind_lines spelling false is front lines are more = refl
+
+-- the text of two times
+text_on : (spelling : Spelling) (first second third : Bool) (text some more front middle rest : List ℕ) (lines : List Line) → AreLines spelling front lines
+    → (first ≡ false → (some ≡ []) × (second ≡ false)) → (second ≡ false → (more ≡ []) × (third ≡ false))
+    → ended first second (text ++ some) ≡ front ++ middle → ended second third (middle ++ more) ≡ rest → ended first third (text ++ (some ++ more)) ≡ front ++ rest
+text_on spelling true true third text some more front middle rest lines are closed shut one two =
+    ap (ended true third) (sym (append_assoc text some more) ∙ (ap (λ (l : List ℕ). l ++ more) one ∙ append_assoc front middle more))
+    ∙ (ended_behind_lines spelling true third front lines are (middle ++ more) ∙ ap (λ (l : List ℕ). front ++ l) two)
+text_on spelling true false true text some more front middle rest lines are closed shut one two = absurd (true≢false (shut refl).1)
+text_on spelling true false false text some more front middle rest lines are closed shut one two =
+    let none = (shut refl).0 in
+    let left : some ++ more ≡ some = ap (λ (l : List ℕ). some ++ l) none ∙ append-nil some in
+    let last : middle ≡ rest = sym (append-nil middle) ∙ (ap (λ (l : List ℕ). middle ++ l) (sym none) ∙ two) in
+    ap (λ (l : List ℕ). ended true false (text ++ l)) left ∙ (one ∙ ap (λ (l : List ℕ). front ++ l) last)
+text_on spelling false true third text some more front middle rest lines are closed shut one two = absurd (true≢false (closed refl).1)
+text_on spelling false false third text some more front middle rest lines are closed shut one two =
+    sym (append_assoc text some more) ∙ (ap (λ (l : List ℕ). l ++ more) one ∙ (append_assoc front middle more ∙ ap (λ (l : List ℕ). front ++ l) two))
+
+module _ (spelling : Spelling) (puts : Bool) (streams : ℕ) where
+  -- nothing came, and no line was taken
+  pub serves_none : (m n : Moment) → n.input ≡ m.input → Moves [] m.kept n.kept m.pass n.pass → Serves spelling puts streams [] m n
+  serves_none m n same moves = record {
+    lines = [];
+    closed = λ shut. (refl, ap (λ (i : InputState). i.is_open) same ∙ shut);
+    text = λ text p. ([], text, subst (λ (i : InputState). ended m.input.is_open i.is_open (text ++ []) ≡ text) (sym same) (ended_itself m.input.is_open (text ++ []) ∙ append-nil text), refl, subst (λ (i : InputState). IsPending i text) (sym same) p);
+    moves = moves;
+  }
+
+  -- a reader was asked
+  pub serves_bytes : (m n : Moment) (bytes : List ℕ) → Waits m.input n.input bytes → Moves [] m.kept n.kept m.pass n.pass → Serves spelling puts streams bytes m n
+  serves_bytes m n bytes waits moves = record {
+    lines = [];
+    closed = waits.closed;
+    text = λ text p. ([], ended m.input.is_open n.input.is_open (text ++ bytes), refl, refl, waits.text text p);
+    moves = moves;
+  }
+
+  -- a line was taken
+  pub serves_line : (m n : Moment) (line : Line) → Takes spelling m.input n.input (Some line) → n.input.is_open ≡ m.input.is_open → Moves (message_of puts streams line) m.kept n.kept m.pass n.pass → Serves spelling puts streams [] m n
+  serves_line m n line takes still moves = record {
+    lines = line ∷ [];
+    closed = λ shut. (refl, still ∙ shut);
+    text = λ text p.
+        let (f, more, is, lacks, reads, q) = takes text p in (
+          f ++ 10 ∷ [],
+          more,
+          subst (λ (b : Bool). ended m.input.is_open b (text ++ []) ≡ (f ++ 10 ∷ []) ++ more) (sym still) (ended_itself m.input.is_open (text ++ []) ∙ (append-nil text ∙ (is ∙ sym (append_assoc f (10 ∷ []) more)))),
+          (f, [], refl, lacks, reads, refl),
+          q,
+        );
+    moves = subst (λ (l : List Addressed). Moves l m.kept n.kept m.pass n.pass) (sym (append-nil (message_of puts streams line))) moves;
+  }
+
+  -- one time after another
+  pub serves_on : (m n o : Moment) (some more : List ℕ) → Serves spelling puts streams some m n → Serves spelling puts streams more n o → Serves spelling puts streams (some ++ more) m o
+  serves_on m n o some more one two = record {
+    lines = one.lines ++ two.lines;
+    closed = λ shut.
+        let was = one.closed shut in let then = two.closed was.1 in
+        (ap (λ (l : List ℕ). l ++ more) was.0 ∙ then.0, then.1);
+    text = λ text p.
+        let (f, middle, is, are, q) = one.text text p in
+        let (g, rest, next, too, r) = two.text middle q in (
+          f ++ g,
+          rest,
+          text_on spelling m.input.is_open n.input.is_open o.input.is_open text some more f middle (g ++ rest) one.lines are one.closed two.closed is next ∙ sym (append_assoc f g rest),
+          lines_append spelling f g one.lines two.lines are too,
+          r,
+        );
+    moves = subst (λ (l : List Addressed). Moves l m.kept o.kept m.pass o.pass) (sym (messages_append puts streams one.lines two.lines))
+        (moves_on m.pass n.pass o.pass (messages_of puts streams one.lines) (messages_of puts streams two.lines) m.kept n.kept o.kept one.moves two.moves);
+  }
+
+  -- the same, of values that are known under other names
+  pub serves_as : (other : Spelling) (were : Bool) (many : ℕ) (bytes : List ℕ) (m n : Moment) → other ≡ spelling → were ≡ puts → many ≡ streams → Serves other were many bytes m n → Serves spelling puts streams bytes m n
+  serves_as other were many bytes m n one two three h =
+      subst (λ (x : Spelling). Serves x puts streams bytes m n) one (subst (λ (b : Bool). Serves other b streams bytes m n) two (subst (λ (k : ℕ). Serves other were k bytes m n) three h))
+
+  pub serves_to : (bytes : List ℕ) (m : Moment) (i j : InputState) (k l : Option Addressed) (v w : PassState) → j ≡ i → l ≡ k → w ≡ v → Serves spelling puts streams bytes m (moment i k v) → Serves spelling puts streams bytes m (moment j l w)
+  serves_to bytes m i j k l v w one two three h =
+      subst (λ (x : InputState). Serves spelling puts streams bytes m (moment x l w)) (sym one) (subst (λ (x : Option Addressed). Serves spelling puts streams bytes m (moment i x w)) (sym two) (subst (λ (x : PassState). Serves spelling puts streams bytes m (moment i k x)) (sym three) h))
+
+  -- one line more
+  pub line_over : (other : Spelling) (were : Bool) (many : ℕ) (m : Moment) (i j at : InputState) (k l : Option Addressed) (v w : PassState) (line : Line) (read : Option Line)
+      → other ≡ spelling → were ≡ puts → many ≡ streams → Serves spelling puts streams [] m (moment i k v) → read ≡ Some line → Takes other i j read → j.is_open ≡ i.is_open → at ≡ j → k ≡ None
+      → Moves (message_of were many line) None l v w → Serves spelling puts streams [] m (moment at l w)
+  line_over other were many m i j at k l v w line read one two three h is takes still same none moves =
+      let taken : Takes spelling i j (Some line) = subst (λ (x : Spelling). Takes x i j (Some line)) one (subst (λ (r : Option Line). Takes other i j r) is takes) in
+      let here : Moves (message_of puts streams line) k l v w = subst (λ (x : Option Addressed). Moves (message_of puts streams line) x l v w) (sym none)
+      (subst (λ (b : Bool). Moves (message_of b streams line) None l v w) two (subst (λ (n : ℕ). Moves (message_of were n line) None l v w) three moves)) in
+      serves_to [] m j at l l w w same refl refl (serves_on m (moment i k v) (moment j l w) [] [] h (serves_line (moment i k v) (moment j l w) line taken still here))
+
+  -- no line more
+  pub none_over : (other : Spelling) (m : Moment) (i j : InputState) (k : Option Addressed) (v : PassState) (read : Option Line)
+      → Serves spelling puts streams [] m (moment i k v) → read ≡ None → Takes other i j read → j.is_open ≡ i.is_open → Serves spelling puts streams [] m (moment j k v)
+  none_over other m i j k v read h is takes still =
+      let none : Takes other i j None = subst (λ (r : Option Line). Takes other i j r) is takes in
+      let waits : Waits i j [] = record {
+        closed = λ shut. (refl, still ∙ shut);
+        text = λ text p. subst (λ (b : Bool). IsPending j (ended i.is_open b (text ++ []))) (sym still) (subst (IsPending j) (sym (ended_itself i.is_open (text ++ []) ∙ append-nil text)) (none text p).1);
+      } in
+      serves_on m (moment i k v) (moment j k v) [] [] h (serves_bytes (moment i k v) (moment j k v) [] waits (none_moved k k v v refl refl))
+
+  -- a turn: a reader was asked, nothing was put, and then lines were taken
+  pub turn_over : (bytes : List ℕ) (i j at to : InputState) (k l m n : Option Addressed) (v w x y : PassState) → Waits i j bytes → l ≡ k → puts_in (mine w) ≡ puts_in (mine v)
+      → Serves spelling puts streams [] (moment j l w) (moment at m x) → to ≡ at → n ≡ m → y ≡ x → Serves spelling puts streams bytes (moment i k v) (moment to n y)
+  turn_over bytes i j at to k l m n v w x y waits still quiet h one two three =
+      serves_to bytes (moment i k v) at to m n x y one two three
+      (subst (λ (b : List ℕ). Serves spelling puts streams b (moment i k v) (moment at m x)) (append-nil bytes)
+      (serves_on (moment i k v) (moment j l w) (moment at m x) bytes [] (serves_bytes (moment i k v) (moment j l w) bytes waits (none_moved k l v w still quiet)) h))
+
+-- nothing was read
+pub waits_none : (i j : InputState) → j ≡ i → Waits i j []
+waits_none i j same = subst (λ (x : InputState). Waits i x []) (sym same) (record {
+  closed = λ shut. (refl, shut);
+  text = λ text p. subst (IsPending i) (sym (ended_itself i.is_open (text ++ []) ∙ append-nil text)) p;
+})
+
+-- an open input was read
+pub waits_filled : (i j : InputState) (bytes : List ℕ) → i.is_open ≡ true → Fills i j bytes → Waits i j bytes
+waits_filled i j bytes opened fills = record {
+  closed = λ shut. let no : true ≡ false = sym opened ∙ shut in absurd (true≢false no);
+  text = subst (λ (b : Bool). (text : List ℕ) → IsPending i text → IsPending j (ended b j.is_open (text ++ bytes))) (sym opened) fills;
+}
+
+pub none_kept : (kept : Option Addressed) → is_some kept ≡ false → kept ≡ None
+none_kept None is = refl
+none_kept (Some m) is = absurd (true≢false is)

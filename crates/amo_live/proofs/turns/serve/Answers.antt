@@ -1,0 +1,36 @@
+use Rattle.std.proofs.Common.{[], ◌++◌, refl, ◌∙◌}
+use Rattle.amo_live.specs.Client.{moment}
+use Rattle.amo_live.specs.Service.{streams_of}
+use Rattle.amo_live.proofs.Conserving.{none_moved, serves_as, serves_none, serves_on}
+use Rattle.amo_live.proofs.Readers.{more_taken, none_taken}
+use Rattle.amo_live.proofs.turns.serve.Goals as goal
+
+pub turns-init : goal.turns-init
+turns-init g c =
+    let first = moment c.args.desk.now.input c.args.desk.now.kept c.args.service.now.host.pass in
+    record {
+      noted = c.requires;
+      bytes = [];
+      read = none_taken (g.I.Read.remaining c.args.desk.now.reader);
+      serves = serves_none c.args.desk.now.spelling c.args.desk.now.puts (streams_of c.args.service.now) first first refl (none_moved c.args.desk.now.kept c.args.desk.now.kept c.args.service.now.host.pass c.args.service.now.host.pass refl refl);
+      streams = refl;
+      spelling = refl;
+      puts = refl;
+    }
+
+pub turns-preserved : goal.turns-preserved
+turns-preserved g c =
+    let so_far = c.turns.invariant in let more = c.in_ok-turn.ensures.serves in
+    let first = moment c.args.desk.now.input c.args.desk.now.kept c.args.service.now.host.pass in
+    let before = moment c.turns.desk.input c.turns.desk.kept c.turns.service.host.pass in
+    let after = moment c.turn.new.desk.input c.turn.new.desk.kept c.turn.new.service.host.pass in
+    record {
+      noted = c.in_ok-turn.ensures.noted;
+      bytes = so_far.bytes ++ more.0;
+      read = more_taken _ _ _ so_far.bytes more.0 so_far.read more.1;
+      serves = serves_on c.args.desk.now.spelling c.args.desk.now.puts (streams_of c.args.service.now) first before after so_far.bytes more.0 so_far.serves
+          (serves_as c.args.desk.now.spelling c.args.desk.now.puts (streams_of c.args.service.now) c.turns.desk.spelling c.turns.desk.puts (streams_of c.turns.service) more.0 before after so_far.spelling so_far.puts so_far.streams more.2);
+      streams = c.in_ok-turn.ensures.streams ∙ so_far.streams;
+      spelling = c.in_ok-turn.ensures.spelling ∙ so_far.spelling;
+      puts = c.in_ok-turn.ensures.puts ∙ so_far.puts;
+    }

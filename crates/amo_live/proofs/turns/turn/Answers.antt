@@ -1,0 +1,27 @@
+use Rattle.std.proofs.Common.{◌≡◌, ◌∙◌, [], rules}
+use Rattle.amo_live.specs.Client.{moment}
+use Rattle.amo_live.specs.Service.{streams_of}
+use Rattle.amo_live.proofs.Conserving.{serves_as, turn_over}
+use Rattle.amo_live.proofs.turns.turn.Goals as goal
+use Rattle.amo_live.proofs.turns.turn.Goals.{then-sync+in_ok-sync, else-sync}
+
+pub returns-clause-serves : goal.returns-clause-serves
+returns-clause-serves g c =
+    let waits = c.in_ok-wait.ensures.waits in
+    let synced : c.if-sync.service.host.pass ≡ c.take_lines.new.service.host.pass = elim c.if-sync.branch [ then-sync+in_ok-sync w ↦ search rules | else-sync w ↦ search rules ] in
+    let cleared : c.send.new.self.pass ≡ c.if-sync.service.host.pass = search rules in
+    let spelling : c.wait.new.self.spelling ≡ c.args.desk.now.spelling = search rules in
+    let puts : c.wait.new.self.puts ≡ c.args.desk.now.puts = search rules in
+    let kept : c.wait.new.self.kept ≡ c.args.desk.now.kept = search rules in
+    let reader : c.show.new.self.reader ≡ c.wait.new.self.reader = search rules in
+    let input : c.show.new.self.input ≡ c.take_lines.new.desk.input = search rules in
+    let keeps : c.show.new.self.kept ≡ c.take_lines.new.desk.kept = search rules in
+    let streams : streams_of c.resend.new.self ≡ streams_of c.args.service.now = c.in_ok-resend.ensures.streams ∙ c.in_ok-hear.ensures.streams in
+    let lines = serves_as c.args.desk.now.spelling c.args.desk.now.puts (streams_of c.args.service.now) c.wait.new.self.spelling c.wait.new.self.puts (streams_of c.resend.new.self) []
+    (moment c.wait.new.self.input c.wait.new.self.kept c.resend.new.self.host.pass) (moment c.take_lines.new.desk.input c.take_lines.new.desk.kept c.take_lines.new.service.host.pass) spelling puts streams c.in_ok-take_lines.ensures.serves in (
+      waits.0,
+      rw reader waits.1,
+      turn_over c.args.desk.now.spelling c.args.desk.now.puts (streams_of c.args.service.now) waits.0 c.args.desk.now.input c.wait.new.self.input c.take_lines.new.desk.input c.show.new.self.input
+          c.args.desk.now.kept c.wait.new.self.kept c.take_lines.new.desk.kept c.show.new.self.kept c.args.service.now.host.pass c.resend.new.self.host.pass c.take_lines.new.service.host.pass c.send.new.self.pass
+          waits.2 kept (c.in_ok-resend.ensures.none_put ∙ c.in_ok-hear.ensures.none_put) lines input keeps (cleared ∙ synced),
+    )
