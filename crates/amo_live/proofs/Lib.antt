@@ -7,3 +7,4 @@ pub mod Suiting
 pub mod Readers
 pub mod Returning
 pub mod Putting
+pub mod UsedUp

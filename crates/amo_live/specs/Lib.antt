@@ -3,3 +3,4 @@ pub mod Host
 pub mod Noted
 pub mod Scan
 pub mod Service
+pub mod Words

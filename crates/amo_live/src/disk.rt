@@ -102,7 +102,8 @@ impl<L: Ledger> Durable for Disk<L> {
 
 /// Reads a journal to its end. Where the reader tells its bytes, what was read of it is they.
 pub fn scan_all<R: Read>(alloc: Global, reader: &mut R, side: End) -> Result<Scan, OpenFault>
-    ensures { IfOk result (λ scan. IfSome (R.remaining reader.old) (Scanned scan)) }
+    ensures side { IfOk result (λ scan. scan.side ≡ side) }
+    ensures scanned { IfOk result (λ scan. IfSome (R.remaining reader.old) (Scanned scan)) }
 {
     let mut scan = Scan::new(alloc, side);
     let mut piece = [0u8; PIECE];

@@ -2,6 +2,7 @@
 ghost use Rattle.std.specs.Prelude.{◌≡◌, ◌≤◌, IfOk};
 ghost use Rattle.amo_book.specs.Pass.{mine};
 ghost use Rattle.amo_live.specs.Host.{IsNoted, first_events, sides_from};
+ghost use Rattle.amo_live.specs.Service.{streams_of, words_of};
 
 use crate::{
     Desk, Durable, Ended, FreshWords, Host, Input, Journal, Limits, LiveFault, ProcessFault, Scan,
@@ -110,6 +111,9 @@ pub fn start<L: Link + Drop, S: Durable + Drop, W: Words + Drop>(
     // side and its recovery, where it has a line, and else of nothing.
     ensures noted { IfOk result (λ service. IsNoted S.written service.host) }
     ensures journal { IfOk result (λ service. (service.host.journal.opened ≡ sink) × (service.host.journal.first ≡ scan.lines)) }
+    // It has the streams that it was set up for, and none of the words that the journal tells of is used again.
+    ensures streams { IfOk result (λ service. streams_of service ≡ setup.streams) }
+    ensures words { IfOk result (λ service. words_of service ≡ scan.used) }
     ensures back { IfOk result (λ service. mine service.host.pass ≡ first_events service.host.pass.number (sides_from setup.side 1 setup.streams) scan.lines) }
 {
     let lines = scan.lines();

@@ -1,8 +1,8 @@
 //! What a live host does with datagrams, times and its clients' messages.
-ghost use Rattle.std.specs.Prelude.{◌≡◌, IfOk, OnOk, is_some, length};
+ghost use Rattle.std.specs.Prelude.{◌≡◌, [], IfOk, OnOk, is_some, length};
 ghost use Rattle.amo_live.specs.Client.{has};
 ghost use Rattle.amo_live.specs.Host.{IsNoted, Puts};
-ghost use Rattle.amo_live.specs.Service.{PutsNone, streams_of};
+ghost use Rattle.amo_live.specs.Service.{PutsNone, got_by, shown_by, streams_of, words_of};
 
 use crate::lines::{Spelling, Word, push_message, push_word};
 use crate::timer::Timer;
@@ -99,6 +99,7 @@ impl<L: Link + Drop, S: Sink + Drop, W: Words + Drop> Service<L, S, W> {
         requires { IsNoted S.written host }
         ensures host { IfOk result (λ service. service.host ≡ host) }
         ensures streams { IfOk result (λ service. streams_of service ≡ setup.streams) }
+        ensures words { IfOk result (λ service. words_of service ≡ words.used) }
     {
         let mode = match setup.side {
             End::Sender => Mode::Quiet,
@@ -130,12 +131,15 @@ fn lanes_of(alloc: Global, streams: u32, mode: Mode) -> Result<Vec<Lane>, AllocE
 
 impl<L: Link, S: Sink, W: Words> Service<L, S, W> {
     /// What is to be shown to the clients.
-    pub fn shown(&self) -> &[u8] {
+    pub fn shown(&self) -> &[u8]
+        ensures { result.now ≡ shown_by self.now }
+    {
         self.shown.as_slice()
     }
 
     /// All of it was shown.
     pub fn clear_shown(&mut self)
+        ensures shown { shown_by self.new ≡ [] }
         ensures host { self.new.host ≡ self.old.host }
         ensures streams { streams_of self.new ≡ streams_of self.old }
     {
@@ -150,7 +154,9 @@ impl<L: Link, S: Sink, W: Words> Service<L, S, W> {
     }
 
     /// How many messages were got.
-    pub fn got(&self) -> u64 {
+    pub fn got(&self) -> u64
+        ensures { result ≡ got_by self.now }
+    {
         self.got
     }
 
