@@ -1,5 +1,6 @@
 pub mod Clients
 pub mod Conserving
+pub mod Showing
 pub mod Onwards
 pub mod Opens
 pub mod Scans

@@ -3,4 +3,5 @@ pub mod Host
 pub mod Noted
 pub mod Scan
 pub mod Service
+pub mod Shown
 pub mod Words

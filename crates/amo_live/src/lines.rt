@@ -1,6 +1,8 @@
 //! The lines of a host's clients.
-ghost use Rattle.std.specs.Prelude.{IfOk};
+ghost use Rattle.std.specs.Prelude.{◌≡◌, ◌++◌, ℕ, List, IfOk, OnOk};
+ghost use Rattle.std.specs.List.{flat_map};
 ghost use Rattle.amo_live.specs.Client.{ReadsAs};
+ghost use Rattle.amo_live.specs.Shown.{IsMessageLine, escaped, hex_line, object_front, text_line, word_line, word_text};
 
 use amo_packet::{Message, MessageFault};
 use amo_text::{next_field, push_decimal, push_hex, read_message, read_stream};
@@ -28,7 +30,9 @@ pub enum Word {
 }
 
 impl Word {
-    fn text(self) -> &'static str {
+    fn text(self) -> &'static str
+        ensures { result.now ≡ word_text self }
+    {
         match self {
             Word::Ok => "ok",
             Word::Yes => "yes",
@@ -70,11 +74,11 @@ pub fn push_word(
     stream: u32,
     word: Word,
     spelling: Spelling,
-) -> Result<(), AllocError> {
+) -> Result<(), AllocError>
+    ensures { OnOk result (shown.new.items ≡ shown.old.items ++ word_line spelling stream word) }
+{
     if spelling.json {
-        shown.extend_from_slice(b"{\"stream\":")?;
-        push_decimal(shown, stream as u64)?;
-        shown.extend_from_slice(b",\"event\":\"")?;
+        push_object_front(shown, stream)?;
         shown.extend_from_slice(word.text().as_bytes())?;
         shown.extend_from_slice(b"\"}\n")
     } else {
@@ -91,39 +95,80 @@ pub fn push_message(
     stream: u32,
     message: &Message,
     spelling: Spelling,
-) -> Result<(), AllocError> {
+) -> Result<(), AllocError>
+    ensures { OnOk result ((line : List ℕ) × IsMessageLine spelling stream message.now line × (shown.new.items ≡ shown.old.items ++ line)) }
+{
+    if is_text(message.bytes()) {
+        push_text(shown, stream, message.bytes(), spelling)
+    } else {
+        push_bytes(shown, stream, message.bytes(), spelling)
+    }
+}
+
+/// Appends the line that shows a message as a text.
+fn push_text(
+    shown: &mut Vec<u8>,
+    stream: u32,
+    text: &[u8],
+    spelling: Spelling,
+) -> Result<(), AllocError>
+    ensures { OnOk result (shown.new.items ≡ shown.old.items ++ text_line spelling stream text.now) }
+{
     if spelling.json {
-        push_object(shown, stream, message)
+        push_object_front(shown, stream)?;
+        shown.extend_from_slice(b"got\",\"text\":\"")?;
+        push_escaped(shown, text)?;
+        shown.extend_from_slice(b"\"}\n")
     } else {
         push_decimal(shown, stream as u64)?;
         shown.extend_from_slice(b" ")?;
-        if is_text(message.bytes()) {
-            shown.extend_from_slice(message.bytes())?;
-        } else {
-            shown.extend_from_slice(b"0x")?;
-            push_hex(shown, message.bytes())?;
-        }
+        shown.extend_from_slice(text)?;
         shown.extend_from_slice(b"\n")
     }
 }
 
-/// The same as a JSON object.
-fn push_object(shown: &mut Vec<u8>, stream: u32, message: &Message) -> Result<(), AllocError> {
+/// Appends the line that shows a message in HEX.
+fn push_bytes(
+    shown: &mut Vec<u8>,
+    stream: u32,
+    bytes: &[u8],
+    spelling: Spelling,
+) -> Result<(), AllocError>
+    ensures { OnOk result (shown.new.items ≡ shown.old.items ++ hex_line spelling stream bytes.now) }
+{
+    if spelling.json {
+        push_object_front(shown, stream)?;
+        shown.extend_from_slice(b"got\",\"hex\":\"")?;
+        push_hex(shown, bytes)?;
+        shown.extend_from_slice(b"\"}\n")
+    } else {
+        push_decimal(shown, stream as u64)?;
+        shown.extend_from_slice(b" 0x")?;
+        push_hex(shown, bytes)?;
+        shown.extend_from_slice(b"\n")
+    }
+}
+
+/// Appends the front of an object about a stream, up to what happened.
+fn push_object_front(shown: &mut Vec<u8>, stream: u32) -> Result<(), AllocError>
+    ensures { OnOk result (shown.new.items ≡ shown.old.items ++ object_front stream) }
+{
     shown.extend_from_slice(b"{\"stream\":")?;
     push_decimal(shown, stream as u64)?;
-    if is_text(message.bytes()) {
-        shown.extend_from_slice(b",\"event\":\"got\",\"text\":\"")?;
-        for byte in message.bytes() {
-            if *byte == b'"' || *byte == b'\\' {
-                shown.push(b'\\')?;
-            }
-            shown.push(*byte)?;
+    shown.extend_from_slice(b",\"event\":\"")
+}
+
+/// Appends the bytes of a text, as an object spells them.
+fn push_escaped(shown: &mut Vec<u8>, text: &[u8]) -> Result<(), AllocError>
+    ensures { OnOk result (shown.new.items ≡ shown.old.items ++ flat_map escaped text.now) }
+{
+    for byte in text {
+        if *byte == b'"' || *byte == b'\\' {
+            shown.push(b'\\')?;
         }
-    } else {
-        shown.extend_from_slice(b",\"event\":\"got\",\"hex\":\"")?;
-        push_hex(shown, message.bytes())?;
+        shown.push(*byte)?;
     }
-    shown.extend_from_slice(b"\"}\n")
+    Ok(())
 }
 
 /// Whether the bytes are UTF-8, and none is a control character.

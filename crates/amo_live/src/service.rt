@@ -2,7 +2,8 @@
 ghost use Rattle.std.specs.Prelude.{◌≡◌, [], IfOk, OnOk, is_some, length};
 ghost use Rattle.amo_live.specs.Client.{has};
 ghost use Rattle.amo_live.specs.Host.{IsNoted, Puts};
-ghost use Rattle.amo_live.specs.Service.{PutsNone, got_by, shown_by, streams_of, words_of};
+ghost use Rattle.amo_live.specs.Service.{PutsNone, got_by, shown_by, spelling_of, streams_of, words_of};
+ghost use Rattle.amo_live.specs.Shown.{ShowsMore};
 
 use crate::lines::{Spelling, Word, push_message, push_word};
 use crate::timer::Timer;
@@ -100,6 +101,8 @@ impl<L: Link + Drop, S: Sink + Drop, W: Words + Drop> Service<L, S, W> {
         ensures host { IfOk result (λ service. service.host ≡ host) }
         ensures streams { IfOk result (λ service. streams_of service ≡ setup.streams) }
         ensures words { IfOk result (λ service. words_of service ≡ words.used) }
+        ensures shown { IfOk result (λ service. shown_by service ≡ []) }
+        ensures spelling { IfOk result (λ service. spelling_of service ≡ setup.spelling) }
     {
         let mode = match setup.side {
             End::Sender => Mode::Quiet,
@@ -139,9 +142,10 @@ impl<L: Link, S: Sink, W: Words> Service<L, S, W> {
 
     /// All of it was shown.
     pub fn clear_shown(&mut self)
-        ensures shown { shown_by self.new ≡ [] }
         ensures host { self.new.host ≡ self.old.host }
         ensures streams { streams_of self.new ≡ streams_of self.old }
+        ensures shown { shown_by self.new ≡ [] }
+        ensures spelling { spelling_of self.new ≡ spelling_of self.old }
     {
         self.shown.clear();
     }
@@ -190,6 +194,7 @@ impl<L: Link, S: Sink, W: Words> Service<L, S, W> {
     fn set_lane(&mut self, stream: u32, lane: Lane)
         ensures host { self.new.host ≡ self.old.host }
         ensures streams { streams_of self.new ≡ streams_of self.old }
+        ensures shown { (shown_by self.new ≡ shown_by self.old) × (self.new.setup ≡ self.old.setup) }
     {
         let Some(place) = (stream as usize).checked_sub(1) else {
             return;
@@ -203,6 +208,7 @@ impl<L: Link, S: Sink, W: Words> Service<L, S, W> {
     fn enter(&mut self, stream: u32, mode: Mode, resent: bool, now: u64)
         ensures host { self.new.host ≡ self.old.host }
         ensures streams { streams_of self.new ≡ streams_of self.old }
+        ensures shown { (shown_by self.new ≡ shown_by self.old) × (self.new.setup ≡ self.old.setup) }
     {
         if let Some(lane) = self.lane(stream) {
             let mut lane = lane;
@@ -224,6 +230,8 @@ impl<L: Link, S: Sink, W: Words> Service<L, S, W> {
         ensures noted { OnOk result (IsNoted S.written self.new.host) }
         ensures put { IfOk result (Puts self.old.host.pass self.new.host.pass stream message) }
         ensures streams { streams_of self.new ≡ streams_of self.old }
+        ensures shown { OnOk result (ShowsMore (spelling_of self.old) self.old.host.pass self.new.host.pass (shown_by self.old) (shown_by self.new)) }
+        ensures spelling { spelling_of self.new ≡ spelling_of self.old }
     {
         let Some(lane) = self.lane(stream) else {
             return Ok(Some(message));
@@ -246,6 +254,7 @@ impl<L: Link, S: Sink, W: Words> Service<L, S, W> {
     fn owe(&mut self, stream: u32, lane: Lane)
         ensures host { self.new.host ≡ self.old.host }
         ensures streams { streams_of self.new ≡ streams_of self.old }
+        ensures shown { (shown_by self.new ≡ shown_by self.old) × (self.new.setup ≡ self.old.setup) }
     {
         if !lane.owed {
             self.owed = self.owed.saturating_add(1);
@@ -268,6 +277,8 @@ impl<L: Link, S: Sink, W: Words> Service<L, S, W> {
         ensures noted { OnOk result (IsNoted S.written self.new.host) }
         ensures none_put { OnOk result (PutsNone self.old.host.pass self.new.host.pass) }
         ensures streams { streams_of self.new ≡ streams_of self.old }
+        ensures shown { OnOk result (ShowsMore (spelling_of self.old) self.old.host.pass self.new.host.pass (shown_by self.old) (shown_by self.new)) }
+        ensures spelling { spelling_of self.new ≡ spelling_of self.old }
     {
         let Some(lane) = self.lane(stream) else {
             return Ok(());
@@ -295,6 +306,8 @@ impl<L: Link, S: Sink, W: Words> Service<L, S, W> {
         ensures noted { OnOk result (IsNoted S.written self.new.host) }
         ensures none_put { OnOk result (PutsNone self.old.host.pass self.new.host.pass) }
         ensures streams { streams_of self.new ≡ streams_of self.old }
+        ensures shown { OnOk result (ShowsMore (spelling_of self.old) self.old.host.pass self.new.host.pass (shown_by self.old) (shown_by self.new)) }
+        ensures spelling { spelling_of self.new ≡ spelling_of self.old }
     {
         let mut buffer = [0; MAX_DATAGRAM];
         'datagrams: for _datagram in 0..MOST_DATAGRAMS {
@@ -312,6 +325,8 @@ impl<L: Link, S: Sink, W: Words> Service<L, S, W> {
         ensures noted { OnOk result (IsNoted S.written self.new.host) }
         ensures none_put { OnOk result (PutsNone self.old.host.pass self.new.host.pass) }
         ensures streams { streams_of self.new ≡ streams_of self.old }
+        ensures shown { OnOk result (ShowsMore (spelling_of self.old) self.old.host.pass self.new.host.pass (shown_by self.old) (shown_by self.new)) }
+        ensures spelling { spelling_of self.new ≡ spelling_of self.old }
     {
         let Some(word) = self.word_for(bytes) else {
             return Ok(());
@@ -326,9 +341,21 @@ impl<L: Link, S: Sink, W: Words> Service<L, S, W> {
             self.words.use_up()?;
         }
         self.enter(stream, mode, false, now);
-        match mode {
+        self.go_on(stream, lane.mode, mode, now)
+    }
+
+    /// Goes on where a packet was delivered on a stream, whose side went from one mode into another.
+    fn go_on(&mut self, stream: u32, before: Mode, after: Mode, now: u64) -> Result<(), LiveFault>
+        requires { IsNoted S.written self.old.host }
+        ensures noted { OnOk result (IsNoted S.written self.new.host) }
+        ensures none_put { OnOk result (PutsNone self.old.host.pass self.new.host.pass) }
+        ensures streams { streams_of self.new ≡ streams_of self.old }
+        ensures shown { OnOk result (ShowsMore (spelling_of self.old) self.old.host.pass self.new.host.pass (shown_by self.old) (shown_by self.new)) }
+        ensures spelling { spelling_of self.new ≡ spelling_of self.old }
+    {
+        match after {
             Mode::Rcvd => self.get(stream, now),
-            Mode::Quiet if lane.mode != Mode::Quiet => self.settle(stream, now),
+            Mode::Quiet if before != Mode::Quiet => self.settle(stream, now),
             _ => Ok(()),
         }
     }
@@ -348,6 +375,8 @@ impl<L: Link, S: Sink, W: Words> Service<L, S, W> {
         ensures noted { OnOk result (IsNoted S.written self.new.host) }
         ensures none_put { OnOk result (PutsNone self.old.host.pass self.new.host.pass) }
         ensures streams { streams_of self.new ≡ streams_of self.old }
+        ensures shown { OnOk result (ShowsMore (spelling_of self.old) self.old.host.pass self.new.host.pass (shown_by self.old) (shown_by self.new)) }
+        ensures spelling { spelling_of self.new ≡ spelling_of self.old }
     {
         if self.got >= self.setup.most {
             return Ok(());
@@ -368,6 +397,8 @@ impl<L: Link, S: Sink, W: Words> Service<L, S, W> {
         ensures noted { OnOk result (IsNoted S.written self.new.host) }
         ensures none_put { OnOk result (PutsNone self.old.host.pass self.new.host.pass) }
         ensures streams { streams_of self.new ≡ streams_of self.old }
+        ensures shown { OnOk result (ShowsMore (spelling_of self.old) self.old.host.pass self.new.host.pass (shown_by self.old) (shown_by self.new)) }
+        ensures spelling { spelling_of self.new ≡ spelling_of self.old }
     {
         let Some(lane) = self.lane(stream) else {
             return Ok(());
@@ -397,6 +428,8 @@ impl<L: Link, S: Sink, W: Words> Service<L, S, W> {
         ensures noted { OnOk result (IsNoted S.written self.new.host) }
         ensures none_put { OnOk result (PutsNone self.old.host.pass self.new.host.pass) }
         ensures streams { streams_of self.new ≡ streams_of self.old }
+        ensures shown { OnOk result (ShowsMore (spelling_of self.old) self.old.host.pass self.new.host.pass (shown_by self.old) (shown_by self.new)) }
+        ensures spelling { spelling_of self.new ≡ spelling_of self.old }
     {
         let streams = self.setup.streams;
         'streams: for place in 0..streams {

@@ -1,9 +1,10 @@
 //! A live host's turns: it waits for its socket and its clients' lines, and does what has come.
 ghost use Rattle.std.specs.Prelude.{◌≡◌, ℕ, List, [], ◌∷◌, None, IfOk, OnOk};
-ghost use Rattle.std.specs.Io.KnownBytes.{Consumes};
+ghost use Rattle.std.specs.Io.KnownBytes.{Appends, Consumes};
 ghost use Rattle.amo_live.specs.Client.{Moves, Serves, Waits, message_of, moment};
 ghost use Rattle.amo_live.specs.Host.{IsNoted};
-ghost use Rattle.amo_live.specs.Service.{streams_of};
+ghost use Rattle.amo_live.specs.Service.{shown_by, spelling_of, streams_of};
+ghost use Rattle.amo_live.specs.Shown.{IsShown, ShowsMore};
 
 use crate::ready::wait;
 use crate::{Durable, Input, Line, LiveFault, ServeFault, Service, Spelling};
@@ -76,6 +77,9 @@ pub fn serve<C: Clock + Eprint, L: Link, S: Durable, W: Words, I: Read, O: Write
     ensures serves { OnOk result ((bytes : List ℕ) × Consumes (I.remaining desk.old.reader) (I.remaining desk.new.reader) bytes
         × Serves desk.old.spelling desk.old.puts (streams_of service.old) bytes
         (moment desk.old.input desk.old.kept service.old.host.pass) (moment desk.new.input desk.new.kept service.new.host.pass)) }
+    // What clients are shown are the replies of the host's events, in the order in which they happened.
+    ensures shown { OnOk result (IsShown (spelling_of service.old) service.old.host.pass service.new.host.pass (shown_by service.old) (shown_by service.new)
+        (O.contents desk.old.output) (O.contents desk.new.output)) }
 {
     let start = Instant::now(rt)?;
     let mut since: Option<u64> = None;
@@ -119,6 +123,9 @@ fn turn<C: Clock + Eprint, L: Link, S: Durable, W: Words, I: Read, O: Write>(
         × Serves desk.old.spelling desk.old.puts (streams_of service.old) bytes
         (moment desk.old.input desk.old.kept service.old.host.pass) (moment desk.new.input desk.new.kept service.new.host.pass)) }
     ensures streams { streams_of service.new ≡ streams_of service.old }
+    ensures shown { OnOk result (IsShown (spelling_of service.old) service.old.host.pass service.new.host.pass (shown_by service.old) (shown_by service.new)
+        (O.contents desk.old.output) (O.contents desk.new.output)) }
+    ensures spells { spelling_of service.new ≡ spelling_of service.old }
     ensures spelling { desk.new.spelling ≡ desk.old.spelling }
     ensures puts { desk.new.puts ≡ desk.old.puts }
 {
@@ -149,6 +156,8 @@ fn take_lines<C: Eprint, L: Link, S: Durable, W: Words, I: Read, O: Write>(
     ensures serves { OnOk result (Serves desk.old.spelling desk.old.puts (streams_of service.old) []
         (moment desk.old.input desk.old.kept service.old.host.pass) (moment desk.new.input desk.new.kept service.new.host.pass)) }
     ensures streams { streams_of service.new ≡ streams_of service.old }
+    ensures shown { OnOk result (ShowsMore (spelling_of service.old) service.old.host.pass service.new.host.pass (shown_by service.old) (shown_by service.new)) }
+    ensures spells { spelling_of service.new ≡ spelling_of service.old }
     ensures same { desk.new ≡ record desk.old { input = desk.new.input; kept = desk.new.kept } }
 {
     put_kept(service, desk, now)?;
@@ -174,6 +183,8 @@ fn put_kept<L: Link, S: Durable, W: Words, I: Read, O: Write>(
     ensures noted { OnOk result (IsNoted S.written service.new.host) }
     ensures moves { OnOk result (Moves [] desk.old.kept desk.new.kept service.old.host.pass service.new.host.pass) }
     ensures streams { streams_of service.new ≡ streams_of service.old }
+    ensures shown { OnOk result (ShowsMore (spelling_of service.old) service.old.host.pass service.new.host.pass (shown_by service.old) (shown_by service.new)) }
+    ensures spells { spelling_of service.new ≡ spelling_of service.old }
     ensures same { desk.new ≡ record desk.old { kept = desk.new.kept } }
 {
     if let Some((stream, message)) = desk.kept.take() {
@@ -195,6 +206,8 @@ fn put_line<C: Eprint, L: Link, S: Durable, W: Words, I: Read, O: Write>(
     ensures noted { OnOk result (IsNoted S.written service.new.host) }
     ensures moves { OnOk result (Moves (message_of desk.old.puts (streams_of service.old) line) None desk.new.kept service.old.host.pass service.new.host.pass) }
     ensures streams { streams_of service.new ≡ streams_of service.old }
+    ensures shown { OnOk result (ShowsMore (spelling_of service.old) service.old.host.pass service.new.host.pass (shown_by service.old) (shown_by service.new)) }
+    ensures spells { spelling_of service.new ≡ spelling_of service.old }
     ensures same { desk.new ≡ record desk.old { kept = desk.new.kept } }
 {
     match line {
@@ -217,6 +230,8 @@ fn put_or_keep<L: Link, S: Durable, W: Words>(
     ensures noted { OnOk result (IsNoted S.written service.new.host) }
     ensures moves { IfOk result (λ kept. Moves ((stream, message) ∷ []) None kept service.old.host.pass service.new.host.pass) }
     ensures streams { streams_of service.new ≡ streams_of service.old }
+    ensures shown { OnOk result (ShowsMore (spelling_of service.old) service.old.host.pass service.new.host.pass (shown_by service.old) (shown_by service.new)) }
+    ensures spells { spelling_of service.new ≡ spelling_of service.old }
 {
     match service.put(stream, message, now)? {
         Some(message) => Ok(Some((stream, message))),
@@ -280,7 +295,8 @@ impl<I: Read, O: Write> Desk<I, O> {
 
     /// Shows these lines to the clients.
     fn show(&mut self, shown: &[u8]) -> Result<(), ServeFault>
-        ensures { self.new ≡ record self.old { output = self.new.output } }
+        ensures same { self.new ≡ record self.old { output = self.new.output } }
+        ensures shown { OnOk result (Appends (O.contents self.old.output) (O.contents self.new.output) shown.now) }
     {
         if !shown.is_empty() {
             self.output.write_all(shown)?;

@@ -1,6 +1,8 @@
 use Rattle.std.proofs.Common.{◌≡◌, ◌∙◌, [], rules}
+use Rattle.std.specs.Io.KnownBytes.{Appends}
 use Rattle.amo_live.specs.Client.{moment}
-use Rattle.amo_live.specs.Service.{streams_of}
+use Rattle.amo_live.specs.Service.{shown_by, spelling_of, streams_of}
+use Rattle.amo_live.proofs.Showing.{shown_whole, shows_after}
 use Rattle.amo_live.proofs.Conserving.{serves_as, turn_over}
 use Rattle.amo_live.proofs.turns.turn.Goals as goal
 use Rattle.amo_live.proofs.turns.turn.Goals.{then-sync+in_ok-sync, else-sync}
@@ -25,3 +27,21 @@ returns-clause-serves g c =
           c.args.desk.now.kept c.wait.new.self.kept c.take_lines.new.desk.kept c.show.new.self.kept c.args.service.now.host.pass c.resend.new.self.host.pass c.take_lines.new.service.host.pass c.send.new.self.pass
           waits.2 kept (c.in_ok-resend.ensures.none_put ∙ c.in_ok-hear.ensures.none_put) lines input keeps (cleared ∙ synced),
     )
+
+pub returns-clause-shown : goal.returns-clause-shown
+returns-clause-shown g c =
+    let spelling = spelling_of c.args.service.now in
+    let v = c.args.service.now.host.pass in
+    let old = shown_by c.args.service.now in
+    let heard = shown_by c.hear.new.self in
+    let resent = shown_by c.resend.new.self in
+    let taken = shown_by c.take_lines.new.service in
+    let spells : spelling_of c.resend.new.self ≡ spelling = c.in_ok-resend.ensures.spelling ∙ c.in_ok-hear.ensures.spelling in
+    let to_resend = shows_after spelling (spelling_of c.hear.new.self) v c.hear.new.self.host.pass c.resend.new.self.host.pass old heard resent c.in_ok-hear.ensures.spelling c.in_ok-hear.ensures.shown c.in_ok-resend.ensures.shown in
+    let to_lines = shows_after spelling (spelling_of c.resend.new.self) v c.resend.new.self.host.pass c.take_lines.new.service.host.pass old resent taken spells to_resend c.in_ok-take_lines.ensures.shown in
+    let synced : c.if-sync.service.host.pass ≡ c.take_lines.new.service.host.pass = elim c.if-sync.branch [ then-sync+in_ok-sync w ↦ search rules | else-sync w ↦ search rules ] in
+    let shown : shown_by c.if-sync.service ≡ taken = elim c.if-sync.branch [ then-sync+in_ok-sync w ↦ search rules | else-sync w ↦ search rules ] in
+    let sent : c.send.new.self.pass ≡ c.if-sync.service.host.pass = search rules in
+    let appends : Appends (g.O.Write.contents c.args.desk.now.output) (g.O.Write.contents c.show.new.self.output) taken = search rules in
+    shown_whole spelling v c.take_lines.new.service.host.pass c.send.new.self.pass old taken (shown_by c.clear_shown.new.self) (g.O.Write.contents c.args.desk.now.output) (g.O.Write.contents c.show.new.self.output)
+    (sent ∙ synced) to_lines appends c.clear_shown.ensures.shown

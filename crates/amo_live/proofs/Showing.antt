@@ -1,0 +1,176 @@
+-- What is shown, call by call.
+use Rattle.std.proofs.Common.{◌≡◌, ℕ, true, false, List, [], ◌∷◌, ◌++◌, Option, Some, None, Ok, Err, refl, sym, ap, ◌∙◌, subst, append_assoc, append-nil}
+use Rattle.std.specs.Prelude.{OnOk, Result}
+use Rattle.std.specs.Io.KnownBytes.{Appends}
+use Rattle.amo_text.proofs.Written.{Appends-append, Appends-nil}
+use Rattle.std.proofs.lemmas.Result.{on_ok_weaker}
+use Rattle.amo_object.specs.declared.step.End.{End}
+use Rattle.amo_object.specs.declared.step.End.TheVariants.{Sender, Receiver}
+use Rattle.amo_core.specs.declared.act.Act.{Act}
+use Rattle.amo_core.specs.declared.act.Act.TheVariants as act
+use Rattle.amo_core.specs.declared.mode.Mode.{Mode}
+use Rattle.amo_core.specs.declared.reply.Reply.TheVariants as reply
+use Rattle.amo_world.specs.declared.event.Event.{Event}
+use Rattle.amo_book.specs.declared.fault.PutFault.{PutFault}
+use Rattle.amo_book.specs.declared.fault.PutFault.TheVariants as put_fault
+use Rattle.amo_book.specs.declared.fault.AckFault.{AckFault}
+use Rattle.amo_book.specs.declared.fault.AckFault.TheVariants as ack_fault
+use Rattle.amo_book.specs.Calls.{put_answer, ack_answer}
+use Rattle.amo_book.specs.Pass.{PassState, Answer, Grown, event, mine}
+use Rattle.amo_live.specs.declared.fault.LiveFault.{LiveFault}
+use Rattle.amo_live.specs.declared.lines.Spelling.{Spelling}
+use Rattle.amo_live.specs.declared.lines.Word.TheVariants as word
+use Rattle.amo_live.specs.Host.{HostState, Did, Delivered, message_in}
+use Rattle.amo_live.specs.Shown.{IsMessageLine, IsShown, Shows, ShowsMore, Tells, word_line}
+
+-- no event, or one that shows nothing, or one that shows a line
+pub shows_none : (spelling : Spelling) (v w : PassState) (old new : List ℕ) → mine w ≡ mine v → new ≡ old → ShowsMore spelling v w old new
+shows_none spelling v w old new p q = record { events = []; text = []; mine_is = p; shown_is = q ∙ sym (append-nil old); shows = refl }
+
+pub shows_line : (spelling : Spelling) (v w : PassState) (old new : List ℕ) (e : Event) (line : List ℕ) → mine w ≡ e ∷ mine v → Tells spelling e line → new ≡ old ++ line → ShowsMore spelling v w old new
+shows_line spelling v w old new e line p tells q = record { events = e ∷ []; text = line; mine_is = p; shown_is = q; shows = ([], line, refl, tells, refl) }
+
+shows_quiet : (spelling : Spelling) (v w : PassState) (old new : List ℕ) (e : Event) → mine w ≡ e ∷ mine v → Tells spelling e [] → new ≡ old → ShowsMore spelling v w old new
+shows_quiet spelling v w old new e p tells q = shows_line spelling v w old new e [] p tells (q ∙ sym (append-nil old))
+
+-- more events
+shows_append : (spelling : Spelling) (more past : List Event) (text front : List ℕ) → Shows spelling more text → Shows spelling past front → Shows spelling (more ++ past) (front ++ text)
+shows_append spelling [] past text front none shows = subst (Shows spelling past) (sym (ap (λ (l : List ℕ). front ++ l) none ∙ append-nil front)) shows
+shows_append spelling (e ∷ more) past text front (f, line, is, tells, rest) shows =
+    (front ++ f, line, ap (λ (l : List ℕ). front ++ l) is ∙ sym (append_assoc front f line), tells, shows_append spelling more past f front rest shows)
+
+pub shows_on : (spelling : Spelling) (u v w : PassState) (first second third : List ℕ) → ShowsMore spelling u v first second → ShowsMore spelling v w second third → ShowsMore spelling u w first third
+shows_on spelling u v w first second third one two = record {
+  events = two.events ++ one.events;
+  text = one.text ++ two.text;
+  mine_is = two.mine_is ∙ (ap (λ (l : List Event). two.events ++ l) one.mine_is ∙ sym (append_assoc two.events one.events (mine u)));
+  shown_is = two.shown_is ∙ (ap (λ (l : List ℕ). l ++ two.text) one.shown_is ∙ append_assoc first one.text two.text);
+  shows = shows_append spelling two.events one.events two.text one.text two.shows one.shows;
+}
+
+-- the same, of values that are known under other names
+pub shows_as : (spelling other : Spelling) (v w x y : PassState) (old new some more : List ℕ) → other ≡ spelling → x ≡ v → y ≡ w → some ≡ old → more ≡ new → ShowsMore spelling v w old new → ShowsMore other x y some more
+shows_as spelling other v w x y old new some more a b c d e shows =
+    subst (λ (o : Spelling). ShowsMore o x y some more) (sym a)
+    (subst (λ (p : PassState). ShowsMore spelling p y some more) (sym b)
+    (subst (λ (p : PassState). ShowsMore spelling v p some more) (sym c)
+    (subst (λ (l : List ℕ). ShowsMore spelling v w l more) (sym d)
+    (subst (λ (l : List ℕ). ShowsMore spelling v w old l) (sym e) shows))))
+
+-- a host's act shows nothing
+did_shows : {L S : Type 0} (h g : HostState L S) (spelling : Spelling) (stream : ℕ) (a : Act) (mode : Option Mode) (old new : List ℕ)
+    → ((side : End) → Tells spelling (event h.pass.number side stream a reply.Done) []) → Did h g stream a mode → new ≡ old → ShowsMore spelling h.pass g.pass old new
+did_shows h g spelling stream a None old new quiet did same = shows_none spelling h.pass g.pass old new (ap mine did.0) same
+did_shows h g spelling stream a (Some mode) old new quiet (side, happens) same = shows_quiet spelling h.pass g.pass old new (event h.pass.number side stream a reply.Done) happens.grown.mine_grew (quiet side) same
+
+pub start_shows : {L S : Type 0} (h g : HostState L S) (spelling : Spelling) (stream word : ℕ) (mode : Option Mode) (old new : List ℕ) → Did h g stream (act.Start word) mode → new ≡ old → ShowsMore spelling h.pass g.pass old new
+start_shows h g spelling stream word mode old new = did_shows h g spelling stream (act.Start word) mode old new (λ side. refl)
+
+pub resend_shows : {L S : Type 0} (h g : HostState L S) (spelling : Spelling) (stream : ℕ) (mode : Option Mode) (old new : List ℕ) → Did h g stream act.Resend mode → new ≡ old → ShowsMore spelling h.pass g.pass old new
+resend_shows h g spelling stream mode old new = did_shows h g spelling stream act.Resend mode old new (λ side. refl)
+
+pub delivery_shows : {L S : Type 0} (h g : HostState L S) (spelling : Spelling) (newest : ℕ) (bytes : List ℕ) (word : ℕ) (did : Option (ℕ × Mode)) (old new : List ℕ) → Delivered h g newest bytes word did → new ≡ old
+    → ShowsMore spelling h.pass g.pass old new
+delivery_shows h g spelling newest bytes word None old new idle same = shows_none spelling h.pass g.pass old new (ap mine idle.0) same
+delivery_shows h g spelling newest bytes word (Some (stream, mode)) old new (p, spells, is, (side, happens)) same =
+    shows_quiet spelling h.pass g.pass old new (event h.pass.number side stream (act.Deliver p word) reply.Done) happens.grown.mine_grew refl same
+
+-- a put shows that the message was put, or nothing
+pub put_shows : (spelling : Spelling) (v w : PassState) (stream : ℕ) (m : List ℕ) (position : ℕ) (old new : List ℕ) → Grown v w Sender stream (act.Put m) (put_answer (Ok position)) → new ≡ old ++ word_line spelling stream word.Ok
+    → ShowsMore spelling v w old new
+put_shows spelling v w stream m position old new grown is = shows_line spelling v w old new (event v.number Sender stream (act.Put m) reply.Ok) (word_line spelling stream word.Ok) grown.mine_grew refl is
+
+pub refused_shows : (spelling : Spelling) (v w : PassState) (stream : ℕ) (m : List ℕ) (fault : PutFault) (old new : List ℕ) → Grown v w Sender stream (act.Put m) (put_answer (Err fault)) → new ≡ old → ShowsMore spelling v w old new
+refused_shows spelling v w stream m (put_fault.Full position back) old new grown is = shows_quiet spelling v w old new (event v.number Sender stream (act.Put m) reply.Full) grown.mine_grew refl is
+refused_shows spelling v w stream m (put_fault.Down position back) old new grown is = shows_quiet spelling v w old new (event v.number Sender stream (act.Put m) reply.Down) grown.mine_grew refl is
+refused_shows spelling v w stream m (put_fault.Busy back) old new grown is = shows_none spelling v w old new (ap mine grown) is
+refused_shows spelling v w stream m (put_fault.NoStream back) old new grown is = shows_none spelling v w old new (ap mine grown) is
+
+-- a get shows its message, or nothing
+one_message : (m n : List ℕ) → Some m ≡ Some n → m ≡ n
+one_message m n e = cc
+
+module _ (spelling : Spelling) (v w : PassState) (stream : ℕ) (old new : List ℕ) where
+  pub get_shows : (answer : Answer) (m line : List ℕ) → Some m ≡ message_in answer → Grown v w Receiver stream act.Get answer → IsMessageLine spelling stream m line → new ≡ old ++ line → ShowsMore spelling v w old new
+  get_shows None m line got grown shown is = absurd (no got)
+    where
+      no : Some m ≡ None → ⊥
+      no e = cc
+  get_shows (Some (reply.Got n, position)) m line got grown shown is =
+      shows_line spelling v w old new (event v.number Receiver stream act.Get (reply.Got n)) line grown.mine_grew (subst (λ (l : List ℕ). IsMessageLine spelling stream l line) (one_message m n got) shown) is
+  get_shows (Some (reply.Ok, position)) m line got grown shown is = cc
+  get_shows (Some (reply.Full, position)) m line got grown shown is = cc
+  get_shows (Some (reply.Down, position)) m line got grown shown is = cc
+  get_shows (Some (reply.Nothing, position)) m line got grown shown is = cc
+  get_shows (Some (reply.Yes, position)) m line got grown shown is = cc
+  get_shows (Some (reply.No, position)) m line got grown shown is = cc
+  get_shows (Some (reply.NotYet, position)) m line got grown shown is = cc
+  get_shows (Some (reply.Done, position)) m line got grown shown is = cc
+
+  pub nothing_shows : (answer : Answer) → None ≡ message_in answer → Grown v w Receiver stream act.Get answer → new ≡ old → ShowsMore spelling v w old new
+  nothing_shows None got grown is = shows_none spelling v w old new (ap mine grown) is
+  nothing_shows (Some (reply.Got n, position)) got grown is = cc
+  nothing_shows (Some (reply.Ok, position)) got grown is = shows_quiet spelling v w old new (event v.number Receiver stream act.Get reply.Ok) grown.mine_grew refl is
+  nothing_shows (Some (reply.Full, position)) got grown is = shows_quiet spelling v w old new (event v.number Receiver stream act.Get reply.Full) grown.mine_grew refl is
+  nothing_shows (Some (reply.Down, position)) got grown is = shows_quiet spelling v w old new (event v.number Receiver stream act.Get reply.Down) grown.mine_grew refl is
+  nothing_shows (Some (reply.Nothing, position)) got grown is = shows_quiet spelling v w old new (event v.number Receiver stream act.Get reply.Nothing) grown.mine_grew refl is
+  nothing_shows (Some (reply.Yes, position)) got grown is = shows_quiet spelling v w old new (event v.number Receiver stream act.Get reply.Yes) grown.mine_grew refl is
+  nothing_shows (Some (reply.No, position)) got grown is = shows_quiet spelling v w old new (event v.number Receiver stream act.Get reply.No) grown.mine_grew refl is
+  nothing_shows (Some (reply.NotYet, position)) got grown is = shows_quiet spelling v w old new (event v.number Receiver stream act.Get reply.NotYet) grown.mine_grew refl is
+  nothing_shows (Some (reply.Done, position)) got grown is = shows_quiet spelling v w old new (event v.number Receiver stream act.Get reply.Done) grown.mine_grew refl is
+
+  -- an ack shows its word, or nothing
+  pub yes_shows : (position : ℕ) → Grown v w Sender stream act.Ack (ack_answer (Ok (true, position))) → new ≡ old ++ word_line spelling stream word.Yes → ShowsMore spelling v w old new
+  yes_shows position grown is = shows_line spelling v w old new (event v.number Sender stream act.Ack reply.Yes) (word_line spelling stream word.Yes) grown.mine_grew refl is
+
+  pub no_shows : (position : ℕ) → Grown v w Sender stream act.Ack (ack_answer (Ok (false, position))) → new ≡ old ++ word_line spelling stream word.No → ShowsMore spelling v w old new
+  no_shows position grown is = shows_line spelling v w old new (event v.number Sender stream act.Ack reply.No) (word_line spelling stream word.No) grown.mine_grew refl is
+
+  pub unknown_shows : (fault : AckFault) → Grown v w Sender stream act.Ack (ack_answer (Err fault)) → new ≡ old → ShowsMore spelling v w old new
+  unknown_shows (ack_fault.NotYet position) grown is = shows_quiet spelling v w old new (event v.number Sender stream act.Ack reply.NotYet) grown.mine_grew refl is
+  unknown_shows (ack_fault.Down position) grown is = shows_quiet spelling v w old new (event v.number Sender stream act.Ack reply.Down) grown.mine_grew refl is
+  unknown_shows ack_fault.Busy grown is = shows_none spelling v w old new (ap mine grown) is
+  unknown_shows ack_fault.NoStream grown is = shows_none spelling v w old new (ap mine grown) is
+
+-- a delivery, and then what follows it
+pub delivered_then : {L S : Type 0} (h g : HostState L S) (r : Result (Unit {0}) LiveFault) (spelling other : Spelling) (newest : ℕ) (bytes : List ℕ) (word : ℕ) (did : Option (ℕ × Mode)) (w x : PassState) (old new more : List ℕ)
+    → Delivered h g newest bytes word did → w ≡ g.pass → new ≡ old → other ≡ spelling → OnOk r (ShowsMore other w x new more) → OnOk r (ShowsMore spelling h.pass x old more)
+delivered_then h g r spelling other newest bytes word did w x old new more delivered pass same spelt then =
+    let first = delivery_shows h g spelling newest bytes word did old new delivered same in
+    let entered = shows_as spelling spelling h.pass g.pass h.pass w old new old new refl refl pass refl refl first in
+    on_ok_weaker r (λ shows. shows_on spelling h.pass w x old new more entered (shows_as other spelling w x w x new more new more (sym spelt) refl refl refl refl shows)) then
+
+-- more calls, under the spelling of the first
+pub shows_after : (spelling other : Spelling) (u v w : PassState) (first second third : List ℕ) → other ≡ spelling → ShowsMore spelling u v first second → ShowsMore other v w second third → ShowsMore spelling u w first third
+shows_after spelling other u v w first second third spelt one two =
+    shows_on spelling u v w first second third one (shows_as other spelling v w v w second third second third (sym spelt) refl refl refl refl two)
+
+-- nothing happened, and nothing was shown
+pub shown_none : (spelling : Spelling) (v : PassState) (old : List ℕ) (known : Option (List ℕ)) → IsShown spelling v v old old known known
+shown_none spelling v old known = record { written = []; appends = Appends-nil known; shows = shows_none spelling v v old old refl refl }
+
+-- all that was to be shown was shown
+pub shown_whole : (spelling : Spelling) (v w x : PassState) (old text new : List ℕ) (before after : Option (List ℕ)) → x ≡ w → ShowsMore spelling v w old text → Appends before after text → new ≡ [] → IsShown spelling v x old new before after
+shown_whole spelling v w x old text new before after pass shows appends none = record {
+  written = text;
+  appends = appends;
+  shows = shows_as spelling spelling v w v x old text old (text ++ new) refl refl pass refl (ap (λ (l : List ℕ). text ++ l) none ∙ append-nil text) shows;
+}
+
+-- behind what was shown before
+shows_behind : (spelling : Spelling) (v w : PassState) (front old new : List ℕ) → ShowsMore spelling v w old new → ShowsMore spelling v w (front ++ old) (front ++ new)
+shows_behind spelling v w front old new m = record {
+  events = m.events;
+  text = m.text;
+  mine_is = m.mine_is;
+  shown_is = ap (λ (l : List ℕ). front ++ l) m.shown_is ∙ sym (append_assoc front old m.text);
+  shows = m.shows;
+}
+
+pub shown_after : (spelling other : Spelling) (u v w : PassState) (first second third : List ℕ) (a b c : Option (List ℕ)) → other ≡ spelling → IsShown spelling u v first second a b → IsShown other v w second third b c → IsShown spelling u w first third a c
+shown_after spelling other u v w first second third a b c spelt one two = record {
+  written = one.written ++ two.written;
+  appends = Appends-append a b c one.written two.written one.appends two.appends;
+  shows = shows_as spelling spelling u w u w first (one.written ++ (two.written ++ third)) first ((one.written ++ two.written) ++ third) refl refl refl refl (append_assoc one.written two.written third)
+      (shows_after spelling other u v w first (one.written ++ second) (one.written ++ (two.written ++ third)) spelt one.shows (shows_behind other v w one.written second (two.written ++ third) two.shows));
+}
