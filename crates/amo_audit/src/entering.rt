@@ -52,11 +52,7 @@ pub(crate) fn enter_both(
 }
 
 /// Hands a journal's next event to a world.
-fn enter<'a>(
-    alloc: Global,
-    world: &mut World,
-    coming: Coming<'a>,
-) -> Result<Entry<'a>, NoMemory>
+fn enter<'a>(alloc: Global, world: &mut World, coming: Coming<'a>) -> Result<Entry<'a>, NoMemory>
     requires { IfSome coming.next (λ e. IsStream e.stream) }
     ensures { IfOk result (Enters world.old world.new coming.entry.next coming.entry.rest.now) }
 {

@@ -48,14 +48,14 @@ loop-right-preserved c =
     let (e, entered) = rw c.in-Entered-2.is at c.in_ok-now-in-Waits.ensures in
     right_entered c.args.first.now c.args.second.now c.enter.new.world c.enter-in-Waits.new.world c.in-Waits.same.next c.in-Waits.same.rest.now c.loop-right.right.next c.loop-right.right.rest.now
     (still c.args.first.now c.args.second.now c.loop-right.world c.enter.new.world c.loop-right.left.next c.in-Waits.same.next c.loop-right.left.rest.now c.in-Waits.same.rest.now c.loop-right.right.next c.loop-right.right.rest.now
-        c.loop-right.invariant grown next rest)
+    c.loop-right.invariant grown next rest)
     c.in-Entered-2.now e (still_waits c.loop-right.world c.enter.new.world c.loop-right.left.next c.in-Waits.same.next grown next not) entered
 
 pub returns-in-Waits-2 : goal.returns-in-Waits-2
 returns-in-Waits-2 c =
     let (not, grown, next, rest) = rw c.in-Waits.is at c.in_ok-now.ensures in
     let along = still c.args.first.now c.args.second.now c.loop-right.world c.enter.new.world c.loop-right.left.next c.in-Waits.same.next c.loop-right.left.rest.now c.in-Waits.same.rest.now c.loop-right.right.next c.loop-right.right.rest.now
-        c.loop-right.invariant grown next rest in
+    c.loop-right.invariant grown next rest in
     stuck c.args.first.now c.args.second.now c.enter.new.world c.in-Waits.same.next c.in-Waits.same.rest.now c.loop-right.right.next c.loop-right.right.rest.now along.going
     (λ p q. elim c.if-is_some.branch [
       | then-is_some w ↦ none_next_then _ _ c.is_some.ensures w.if-is_some.true (sym next ∙ p)
