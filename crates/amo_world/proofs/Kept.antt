@@ -22,6 +22,7 @@ use Rattle.amo_world.specs.declared.index.PacketIndex.{PacketIndex}
 use Rattle.amo_world.specs.declared.key.Key.{Key}
 use Rattle.amo_world.specs.declared.kept_side.KeptSide.{KeptSide}
 use Rattle.amo_world.specs.Key.{key_of, order, with_place}
+use Rattle.amo_world.specs.Row.{place_in}
 use Rattle.amo_world.specs.Log.{first_of}
 use Rattle.amo_world.specs.KeptSide.{Represents, place_at, IsIndexed, IsPlaced, IsSame, IsEmission, IsNoted}
 use Rattle.amo_world.proofs.Lists.{some_injective, contains_cases, contains_first, contains_other, slice_get-longer, slice_get-end}
@@ -210,4 +211,4 @@ advanced_side mid now side stored a emitted act state index keeps = record {
 }
   where
     same : (key : Key) → place_at now key ≡ place_at mid key
-    same key = ap (λ (i : PacketIndex). get order i.places key) index
+    same key = ap (λ (i : PacketIndex). place_in i.rows.items (get order i.spilled) key) index

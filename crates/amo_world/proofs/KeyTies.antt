@@ -1,7 +1,6 @@
--- Keys that tie are one, and what that means where places stand under keys.
-use Rattle.std.proofs.Common.{◌≡◌, ℕ, Bool, true, false, cond, Option, Some, refl, sym, ◌∙◌, ap}
+-- Keys that tie are one.
+use Rattle.std.proofs.Common.{◌≡◌, Bool, true, refl, ◌∙◌, ap}
 use Rattle.std.specs.declared.cmp.Ordering.TheVariants.{Equal}
-use Rattle.std.specs.Option.{unwrap_or}
 use Rattle.std.specs.Cmp.{Equal-is}
 use Rattle.std.specs.BTreeMap.{is_at}
 use Rattle.std.proofs.lemmas.Cmp.{tied_itself}
@@ -12,7 +11,7 @@ use Rattle.amo_world.specs.declared.key.PacketKind.{PacketKind}
 use Rattle.amo_world.specs.declared.key.PacketKind.TheVariants.{NeedUid, Accept, Send, Ack, Cleanup}
 use Rattle.amo_world.specs.contracts.key.KeyOrd.TheImpl.Laws.{total-law}
 use Rattle.amo_world.specs.contracts.key.PacketKindOrd.TheImpl as kind_order
-use Rattle.amo_world.specs.Key.{key, order, with_place}
+use Rattle.amo_world.specs.Key.{key, order}
 
 kinds_tie : (j k : PacketKind) → kind_order.cmp-value.it j k ≡ Equal → j ≡ k
 kinds_tie NeedUid NeedUid e = refl
@@ -51,13 +50,3 @@ same_key j k e = keys_tie j k ((Equal-is (order j k)).0 e)
 
 pub key_at_itself : (k : Key) → is_at (order k) k ≡ true
 key_at_itself k = (Equal-is (order k k)).1 (tied_itself total-law k)
-
--- where a place stands under a key already, none is put there
-pub already_there : (places : Key → Option ℕ) (j : Key) (place next : ℕ) → places j ≡ Some place → (k : Key) → places k ≡ with_place places j next k
-already_there places j place next at k = by_test (is_at (order j) k) refl
-  where
-    by_test : (b : Bool) → is_at (order j) k ≡ b → places k ≡ cond (is_at (order j) k) (Some (unwrap_or (places j) next)) (places k)
-    by_test true is =
-        let same : places k ≡ Some place = ap places (sym (same_key j k is)) ∙ at in
-        same ∙ sym (ap (λ (b : Bool). cond b (Some (unwrap_or (places j) next)) (places k)) is ∙ ap (λ (o : Option ℕ). Some (unwrap_or o next)) at)
-    by_test false is = sym (ap (λ (b : Bool). cond b (Some (unwrap_or (places j) next)) (places k)) is)

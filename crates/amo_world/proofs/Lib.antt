@@ -3,6 +3,7 @@ pub mod Order
 pub mod Lists
 pub mod Keys
 mod KeyTies
+mod Rows
 pub mod Kept
 pub mod Worlds
 pub mod Emitted

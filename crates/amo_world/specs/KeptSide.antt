@@ -15,10 +15,11 @@ use Rattle.amo_world.specs.declared.fault.WorldFault.TheVariants.{NoMemory, Wron
 use Rattle.amo_world.specs.declared.kept_side.KeptSide.{KeptSide}
 use Rattle.amo_world.specs.declared.key.Key.{Key}
 use Rattle.amo_world.specs.Key.{order, key_of, with_place}
+use Rattle.amo_world.specs.Row.{place_in}
 
 -- the place under a key
 abbrev pub place_at : KeptSide → Key → Option ℕ
-place_at kept key = get order kept.index.places key
+place_at kept key = place_in kept.index.rows.items (get order kept.index.spilled) key
 
 -- the packet stands at the place that the index tells for its key
 abbrev pub IsIndexed : KeptSide → End → List Emission → OwnedPacket → Type 0

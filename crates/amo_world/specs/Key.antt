@@ -1,5 +1,5 @@
 -- What tells a packet from the others that its side emitted.
-use Rattle.std.specs.Prelude.{ℕ, Option, None, Some, cond}
+use Rattle.std.specs.Prelude.{ℕ, Option, Some, cond}
 use Rattle.std.specs.Option.{unwrap_or}
 use Rattle.std.specs.BTreeMap.{is_at}
 use Rattle.std.specs.declared.cmp.Ordering.{Ordering}
@@ -36,7 +36,3 @@ order = key_order.cmp-value.it
 -- places under keys, with one put under a key if none stands there
 abbrev pub with_place : (Key → Option ℕ) → Key → ℕ → Key → Option ℕ
 with_place places key next k = cond (is_at (order key) k) (Some (unwrap_or (places key) next)) (places k)
-
--- places under keys, with none under this key
-abbrev pub without_place : (Key → Option ℕ) → Key → Key → Option ℕ
-without_place places key k = cond (is_at (order key) k) None (places k)

@@ -8,6 +8,7 @@ pub mod View
 pub mod Example
 pub mod InDoubt
 pub mod Key
+pub mod Row
 pub mod Newest
 pub mod Log
 pub mod LogRoom

@@ -1,94 +1,84 @@
 //! Where packets are stored, by their keys.
-ghost use Rattle.std.specs.Prelude.{◌≡◌, ℕ, Some, None, IfOk, OnOk, OnErr};
-ghost use Rattle.std.specs.Option.{option_copied};
+ghost use Rattle.std.specs.Prelude.{◌≡◌, ◌<◌, ℕ, true, Some, None, length, OnOk, OnErr};
 ghost use Rattle.std.specs.BTreeMap.{get};
 ghost use Rattle.std.proofs.Props.{props};
 ghost use Rattle.amo_world.specs.declared.key.Key.{Key};
-ghost use Rattle.amo_world.specs.declared.index.Found.{Found};
-ghost use Rattle.amo_world.specs.Key.{order, with_place, without_place};
+ghost use Rattle.amo_world.specs.Key.{order, with_place};
+ghost use Rattle.amo_world.specs.Row.{place_in, row_of, has_spilled};
 
 use crate::key::Key;
+use crate::row::{Found, Row, first_place, row_number, spread};
 use std::alloc::{AllocError, Global};
 use std::collections::BTreeMap;
-use std::collections::btree_map::Entry;
 
-/// A key, and the place that stands under it.
-#[derive(Clone, Copy, Debug)]
-struct Found {
-    key: Key,
-    place: usize,
-}
-
-/// The place of each packet that a side emitted, under its key. It knows what it was asked last: a packet that is emitted
-/// again and again is found without a search.
+/// The place of each packet that a side emitted, under its key.
+///
+/// Identifiers are random words, so their remainders spread them over the rows as a hash would, and a key is mostly found
+/// with one look at memory. Where somebody chose them so that they share a row, a tree takes what a row has no room for: no
+/// journal makes a search slower than one in a tree.
 #[derive(Drop)]
 pub(crate) struct PacketIndex {
-    places: BTreeMap<Key, usize>,
-    latest: Option<Found>,
-    ghost stands: { (found : Found) → latest ≡ Some found → get order places found.key ≡ Some found.place } by { Prim.hlevel props },
+    rows: Vec<Row>,
+    count: usize,
+    spilled: BTreeMap<Key, usize>,
+    ghost told: { (key : Key) (place : ℕ) → get order spilled key ≡ Some place → has_spilled (row_of rows.items key.identifier) ≡ true } by { Prim.hlevel props },
 }
 
 impl PacketIndex {
     /// An index in which nothing stands.
     pub(crate) fn new(alloc: Global) -> PacketIndex
-        ensures { (key : Key) → get order result.places key ≡ None }
+        ensures { (key : Key) → place_in result.rows.items (get order result.spilled) key ≡ None }
     {
         PacketIndex {
-            places: BTreeMap::new(alloc),
-            latest: None,
+            rows: Vec::new(alloc),
+            count: 0,
+            spilled: BTreeMap::new(alloc),
         }
     }
 
     /// The place under the key.
     pub(crate) fn get(&self, key: &Key) -> Option<usize>
-        ensures { result ≡ get order self.now.places key.now }
+        ensures { result ≡ place_in self.now.rows.items (get order self.now.spilled) key.now }
     {
-        self.places.get(key).copied()
-    }
-
-    /// The place that stands under the key, or none where this one is put there. Where memory runs out nothing has changed.
-    pub(crate) fn place_under(&mut self, key: Key, next: usize) -> Result<Option<usize>, AllocError>
-        ensures found { IfOk result (λ place. place ≡ get order self.old.places key) }
-        ensures put { OnOk result ((k : Key) → get order self.new.places k ≡ with_place (get order self.old.places) key next k) }
-        ensures absent { OnErr result (get order self.old.places key ≡ None) }
-        ensures same { OnErr result ((k : Key) → get order self.new.places k ≡ get order self.old.places k) }
-    {
-        if let Some(latest) = self.latest
-            && latest.key == key
-        {
-            return Ok(Some(latest.place));
+        if self.rows.is_empty() {
+            return None;
         }
-        let found = find_or_put(&mut self.places, key, next)?;
-        let place = found.unwrap_or(next);
-        self.latest = Some(Found { key, place });
-        Ok(found)
-    }
-
-    /// Takes away what stands under the key.
-    pub(crate) fn remove(&mut self, key: &Key)
-        ensures { (k : Key) → get order self.new.places k ≡ without_place (get order self.old.places) key.now k }
-    {
-        self.latest = None;
-        self.places.remove(key);
-    }
-}
-
-/// The place that stands under the key, or none where this one is put there. Where memory runs out nothing has changed.
-fn find_or_put(
-    places: &mut BTreeMap<Key, usize>,
-    key: Key,
-    next: usize,
-) -> Result<Option<usize>, AllocError>
-    ensures found { IfOk result (λ place. place ≡ get order places.old key) }
-    ensures put { OnOk result ((k : Key) → get order places.new k ≡ with_place (get order places.old) key next k) }
-    ensures absent { OnErr result (get order places.old key ≡ None) }
-    ensures same { OnErr result ((k : Key) → get order places.new k ≡ get order places.old k) }
-{
-    match places.entry(key)? {
-        Entry::Occupied(entry) => Ok(Some(*entry.get())),
-        Entry::Vacant(entry) => {
-            entry.insert(next);
-            Ok(None)
+        let row = &self.rows[row_number(key.identifier, self.rows.len())];
+        match first_place(row.found.as_slice(), key) {
+            Some(place) => Some(place),
+            None if row.has_spilled => self.spilled.get(key).copied(),
+            None => None,
         }
+    }
+
+    /// Puts the place under the key, under which none stands. Where memory runs out nothing has changed.
+    pub(crate) fn put(&mut self, alloc: Global, key: Key, place: usize) -> Result<(), AllocError>
+        requires { place_in self.old.rows.items (get order self.old.spilled) key ≡ None }
+        ensures put { OnOk result ((k : Key) → place_in self.new.rows.items (get order self.new.spilled) k ≡ with_place (place_in self.old.rows.items (get order self.old.spilled)) key place k) }
+        ensures same { OnErr result ((k : Key) → place_in self.new.rows.items (get order self.new.spilled) k ≡ place_in self.old.rows.items (get order self.old.spilled) k) }
+    {
+        if self.count / 2 >= self.rows.len() {
+            self.rows = spread(alloc, self.rows.as_slice())?;
+        }
+        self.add(Found { key, place })?;
+        self.count = self.count.saturating_add(1);
+        Ok(())
+    }
+
+    /// Puts a place where there is a row for its key: into the row if it has room, or else into the tree.
+    fn add(&mut self, found: Found) -> Result<(), AllocError>
+        requires rows { 0 < length self.old.rows.items }
+        requires absent { place_in self.old.rows.items (get order self.old.spilled) found.key ≡ None }
+        ensures put { OnOk result ((k : Key) → place_in self.new.rows.items (get order self.new.spilled) k ≡ with_place (place_in self.old.rows.items (get order self.old.spilled)) found.key found.place k) }
+        ensures same { OnErr result ((k : Key) → place_in self.new.rows.items (get order self.new.spilled) k ≡ place_in self.old.rows.items (get order self.old.spilled) k) }
+    {
+        let number = row_number(found.key.identifier, self.rows.len());
+        if self.rows[number].found.is_full() {
+            self.spilled.insert(found.key, found.place)?;
+            self.rows[number].has_spilled = true;
+        } else {
+            self.rows[number].found.push(found);
+        }
+        Ok(())
     }
 }

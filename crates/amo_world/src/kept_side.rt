@@ -70,20 +70,16 @@ impl KeptSide {
             return Ok(Emitted::Nothing);
         };
         let key = key_of(packet.body);
-        if let Some(place) = self.index.place_under(key, log.next_place())? {
+        if let Some(place) = self.index.get(&key) {
             if self.automaton.used_word(act).is_some() {
                 return Err(WorldFault::Repeat);
             }
             log.reserve()?;
             return Ok(Emitted::Again(place));
         }
-        match first(alloc, packet, log) {
-            Ok(packet) => Ok(Emitted::First(packet)),
-            Err(AllocError) => {
-                self.index.remove(&key);
-                Err(WorldFault::NoMemory)
-            }
-        }
+        let packet = first(alloc, packet, log)?;
+        self.index.put(alloc, key, log.next_place())?;
+        Ok(Emitted::First(packet))
     }
 
     /// Makes the act, whose emission was noted.

@@ -6,8 +6,9 @@ ghost use Rattle.amo_world.specs.Key.{key_of};
 use amo_packet::Body;
 
 /// The kind of a packet, with what an ack says.
-#[derive(Clone, Copy, Debug, PartialEq, Eq, PartialOrd, Ord)]
+#[derive(Clone, Copy, Debug, Default, PartialEq, Eq, PartialOrd, Ord)]
 pub(crate) enum PacketKind {
+    #[default]
     NeedUid,
     Accept,
     Send,
@@ -18,7 +19,7 @@ pub(crate) enum PacketKind {
 /// One identifier of a packet, with the packet's kind. An accept is told by the identifier that it brings, since each is
 /// accepted for one needuid; a send by its identifier, since one message is sent under each. Identifiers are compared
 /// first: so what a side says in one handshake stands side by side in an index, and is found where memory was just read.
-#[derive(Clone, Copy, Debug, PartialEq, Eq, PartialOrd, Ord)]
+#[derive(Clone, Copy, Debug, Default, PartialEq, Eq, PartialOrd, Ord)]
 pub(crate) struct Key {
     pub(crate) identifier: u64,
     pub(crate) kind: PacketKind,

@@ -40,6 +40,7 @@ mod kept_stream;
 mod key;
 pub mod laws;
 mod log;
+mod row;
 mod world;
 
 pub use amo_core::{Act, Reply};
