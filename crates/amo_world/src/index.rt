@@ -11,6 +11,9 @@ use crate::row::{Found, Row, first_place, row_number, spread};
 use std::alloc::{AllocError, Global};
 use std::collections::BTreeMap;
 
+/// As many keys a row as there may be before there are twice as many rows: few enough that most rows have room for theirs.
+const KEYS_A_ROW: usize = 5;
+
 /// The place of each packet that a side emitted, under its key.
 ///
 /// Identifiers are random words, so their remainders spread them over the rows as a hash would, and a key is mostly found
@@ -57,7 +60,7 @@ impl PacketIndex {
         ensures put { OnOk result ((k : Key) → place_in self.new.rows.items (get order self.new.spilled) k ≡ with_place (place_in self.old.rows.items (get order self.old.spilled)) key place k) }
         ensures same { OnErr result ((k : Key) → place_in self.new.rows.items (get order self.new.spilled) k ≡ place_in self.old.rows.items (get order self.old.spilled) k) }
     {
-        if self.count / 2 >= self.rows.len() {
+        if self.count / KEYS_A_ROW >= self.rows.len() {
             self.rows = spread(alloc, self.rows.as_slice())?;
         }
         self.add(Found { key, place })?;

@@ -17,8 +17,8 @@ pub(crate) enum PacketKind {
 }
 
 /// One identifier of a packet, with the packet's kind. An accept is told by the identifier that it brings, since each is
-/// accepted for one needuid; a send by its identifier, since one message is sent under each. Identifiers are compared
-/// first: so what a side says in one handshake stands side by side in an index, and is found where memory was just read.
+/// accepted for one needuid; a send by its identifier, since one message is sent under each. What a side says in one
+/// handshake mostly has one identifier, so it stands side by side in an index.
 #[derive(Clone, Copy, Debug, Default, PartialEq, Eq, PartialOrd, Ord)]
 pub(crate) struct Key {
     pub(crate) identifier: u64,

@@ -8,7 +8,7 @@ use arrayvec::ArrayVec;
 use std::alloc::{AllocError, Global};
 
 /// How many keys a row has room for.
-const ROW: usize = 4;
+const ROW: usize = 8;
 
 /// A key, and the place that stands under it.
 #[derive(Clone, Copy, Debug, Default)]
@@ -61,7 +61,7 @@ fn one_row(alloc: Global) -> Result<Vec<Row>, AllocError>
     Ok(rows)
 }
 
-/// What of a row goes to the row of this number where there are so many.
+/// What of a row goes to the row of this number, where there are so many.
 fn share(row: &Row, number: usize, rows: usize) -> Row
     requires { 0 < rows }
     ensures { IsShare row.now number rows result }
@@ -77,7 +77,7 @@ fn share(row: &Row, number: usize, rows: usize) -> Row
 /// Adds what goes to the row of this number.
 fn pick(from: &[Found], number: usize, rows: usize, to: &mut ArrayVec<Found, ROW>)
     requires some { 0 < rows }
-    requires room { length from.now + array_vec_len to.old ≤ 4 }
+    requires room { length from.now + array_vec_len to.old ≤ 8 }
     ensures { to.new.items ≡ to.old.items ++ shared number rows from.now }
 {
     let Some((first, others)) = from.split_first() else {
