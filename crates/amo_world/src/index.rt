@@ -22,6 +22,7 @@ const KEYS_A_ROW: usize = 5;
 #[derive(Drop)]
 pub(crate) struct PacketIndex {
     rows: Vec<Row>,
+    /// How many keys stand in rows.
     count: usize,
     spilled: BTreeMap<Key, usize>,
     ghost told: { (key : Key) (place : ℕ) → get order spilled key ≡ Some place → has_spilled (row_of rows.items key.identifier) ≡ true } by { Prim.hlevel props },
@@ -63,9 +64,7 @@ impl PacketIndex {
         if self.count / KEYS_A_ROW >= self.rows.len() {
             self.rows = spread(alloc, self.rows.as_slice())?;
         }
-        self.add(Found { key, place })?;
-        self.count = self.count.saturating_add(1);
-        Ok(())
+        self.add(Found { key, place })
     }
 
     /// Puts a place where there is a row for its key: into the row if it has room, or else into the tree.
@@ -81,6 +80,7 @@ impl PacketIndex {
             self.rows[number].has_spilled = true;
         } else {
             self.rows[number].found.push(found);
+            self.count = self.count.saturating_add(1);
         }
         Ok(())
     }
