@@ -18,7 +18,7 @@ const KEYS_A_ROW: usize = 5;
 ///
 /// Identifiers are random words, so their remainders spread them over the rows as a hash would, and a key is mostly found
 /// with one look at memory. Where somebody chose them so that they share a row, a tree takes what a row has no room for: no
-/// journal makes a search slower than one in a tree.
+/// journal makes a search cost more than one look at a row and one search in the tree.
 #[derive(Drop)]
 pub(crate) struct PacketIndex {
     rows: Vec<Row>,
