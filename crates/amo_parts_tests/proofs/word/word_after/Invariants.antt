@@ -1,5 +1,5 @@
 use Rattle.std.proofs.Common.{◌≡◌, ℕ, ◌+◌}
-use Rattle.amo_word.proofs.tests.word_after.Given as goal
+use Rattle.amo_parts_tests.proofs.word.word_after.Given as goal
 
 -- each place has what stood as many places further on as calls were made
 abbrev pub invariant-loop-call : goal.invariant-loop-call

@@ -2,7 +2,7 @@
 ghost use Rattle.std.specs.Prelude.{◌≡◌, slice_get};
 ghost use Rattle.amo_word.specs.Word.{word_at};
 
-use super::*;
+use amo_word::*;
 use std::test::Fail;
 
 /// The word that comes after so many calls.
