@@ -1,4 +1,4 @@
-//! Tests of the crates that know no book: their public items on happy paths, at their limits, and with memory refused.
+//! Tests of the parts: queues, words, packets, automata, worlds, windows, texts, schedules, links, replays, journals and what explains them.
 //! It promises nothing and nobody builds on it.
 //!
 //! They stand apart from what they test, since a crate with tests is proved twice, with them and without. So each module is
@@ -6,4 +6,26 @@
 #![tactic(auto)]
 
 #[cfg(test)]
+mod audit;
+#[cfg(test)]
+mod automata;
+#[cfg(test)]
+mod net;
+#[cfg(test)]
+mod object;
+#[cfg(test)]
+mod packet;
+#[cfg(test)]
+mod replay;
+#[cfg(test)]
+mod resolve;
+#[cfg(test)]
+mod schedule;
+#[cfg(test)]
+mod text;
+#[cfg(test)]
+mod window;
+#[cfg(test)]
 mod word;
+#[cfg(test)]
+mod world;
