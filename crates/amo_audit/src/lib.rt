@@ -37,8 +37,6 @@ mod auditor;
 mod both;
 mod coming;
 mod entering;
-#[cfg(test)]
-mod explain_tests;
 mod explaining;
 mod fault;
 mod hosts;
@@ -48,8 +46,6 @@ pub mod laws;
 mod line_reader;
 mod marking;
 mod merge_fault;
-#[cfg(test)]
-mod merge_tests;
 mod merger;
 mod merging;
 mod numbered;
@@ -60,8 +56,6 @@ mod shares;
 mod side;
 mod sides;
 mod spelling;
-#[cfg(test)]
-mod tests;
 mod verdict;
 mod writing;
 

@@ -40,8 +40,6 @@ mod plays;
 mod site;
 mod slot;
 mod stride;
-#[cfg(test)]
-mod tests;
 mod view;
 mod whole;
 

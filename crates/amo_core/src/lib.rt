@@ -28,8 +28,6 @@ mod outcome;
 mod receiver;
 mod reply;
 mod sender;
-#[cfg(test)]
-mod tests;
 
 pub use act::Act;
 pub use automaton::Automaton;

@@ -26,8 +26,6 @@ mod host_act;
 mod modes;
 mod pump;
 mod room;
-#[cfg(test)]
-mod tests;
 mod turn;
 mod turned;
 

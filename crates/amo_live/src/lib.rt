@@ -36,8 +36,6 @@ mod ready;
 mod scan;
 mod service;
 mod socket;
-#[cfg(test)]
-mod tests;
 mod timer;
 mod turns;
 mod words;

@@ -23,8 +23,6 @@ pub mod laws;
 mod link;
 mod lossy;
 mod lossy_end;
-#[cfg(test)]
-mod tests;
 mod udp;
 
 pub use direction::MAX_QUEUED;

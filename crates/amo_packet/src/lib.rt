@@ -58,6 +58,3 @@ pub use packet::{Body, OwnedBody, OwnedPacket, Packet};
 pub use reader::read;
 pub use stream::STREAMS;
 pub use writer::{MAX_PACKET, write};
-
-#[cfg(test)]
-mod tests;

@@ -16,8 +16,6 @@ mod runner;
 mod sides;
 mod stop;
 mod tell;
-#[cfg(test)]
-mod tests;
 mod transcript;
 
 pub use endings::Ending;

@@ -27,8 +27,6 @@ mod plan;
 mod replica;
 mod resolver;
 mod tell;
-#[cfg(test)]
-mod tests;
 mod waiting;
 mod weave;
 

@@ -13,8 +13,6 @@ pub mod laws;
 mod line;
 mod reader;
 mod schedule;
-#[cfg(test)]
-mod tests;
 
 pub use fault::ScheduleFault;
 pub use line::ScheduleLine;

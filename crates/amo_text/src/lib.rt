@@ -37,8 +37,6 @@ mod reply;
 mod side;
 mod sink;
 mod stream;
-#[cfg(test)]
-mod tests;
 
 pub use act::{ActName, read_act_name};
 pub use decimal::{push_decimal, read_decimal};

@@ -11,8 +11,6 @@
 
 mod due;
 mod fault;
-#[cfg(test)]
-mod tests;
 mod timers;
 mod window;
 

@@ -19,6 +19,3 @@ mod words;
 pub use chacha::ChaChaWords;
 pub use fixed::FixedWords;
 pub use words::Words;
-
-#[cfg(test)]
-mod tests;
