@@ -1,4 +1,8 @@
-# What ./amo and ./try share. Whoever reads this file in has set `root`, the repository's root, and `who`, its own name.
+# What ./amo and the scripts beside it share. Whoever reads this file in has set `root`, the repository's root, and `who`, its own name.
+
+# The two builds of the program: the proved one, and the quick one, of which nothing is proved.
+proved=$root/crates/amo_tool/out/amo_tool
+quick=$root/crates/amo_tool/out/unproved/amo_tool
 
 say() {
     printf '%s: %s\n' "$who" "$1" >&2

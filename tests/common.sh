@@ -1,13 +1,12 @@
 # What the tests share: each of them reads this file in first.
-# A test's first argument is the program to run; without one it is the built program, which ./amo builds if need be.
+# A test's first argument is the program to run; without one it is the program that ./amo runs, which is built if need be.
 set -eu
 
 caller=$PWD
 cd -- "$(dirname -- "$(readlink -f -- "$0")")/.."
 case ${1:-} in
 '')
-    ./amo --version >/dev/null
-    program=$PWD/crates/amo_tool/out/amo_tool
+    program=$(scripts/built)
     ;;
 /*) program=$1 ;;
 *) program=$caller/$1 ;;

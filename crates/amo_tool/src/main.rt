@@ -24,6 +24,7 @@ mod running;
 #[cfg(test)]
 mod tests;
 mod texts;
+mod version;
 
 use crate::arguments::{not_text, settings};
 use crate::choice::{ArgumentsFault, Settings};

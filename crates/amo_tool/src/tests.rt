@@ -426,7 +426,11 @@ fn shows_its_texts(rt: HostRuntime) -> Result<(), Fail> {
         (&["amo", "man", "--help"], 0, MANUAL_HELP),
         (&["amo", "completions", "--help"], 0, COMPLETIONS_HELP),
         (&["amo", "completions"], 2, NO_SHELL),
-        (&["amo", "--version"], 0, "amo 0.1.0\n"),
+        (
+            &["amo", "--version"],
+            0,
+            "amo 0.2.0 (rattle-kit-13b, proved)\n",
+        ),
     ];
     for (given, status, text) in rows {
         let refused = settings(rt.alloc(), arguments(rt.alloc(), given)?);

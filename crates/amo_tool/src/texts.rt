@@ -1,7 +1,6 @@
 //! What the program says of itself: its version, and the help on it and on its commands.
 
-/// The version that the program tells.
-pub(crate) const VERSION: &str = "0.1.0";
+pub(crate) use crate::version::VERSION;
 
 pub(crate) const ABOUT: &str =
     "An at-most-once message service: commands that must never run twice.";
