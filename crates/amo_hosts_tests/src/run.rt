@@ -2,7 +2,7 @@
 ghost use Rattle.std.specs.Prelude.{◌≡◌, All, IfOk};
 ghost use Rattle.amo_audit.specs.Journal.{CanSpell};
 ghost use Rattle.amo_run.specs.Ran.{IsRanOf};
-ghost use Rattle.amo_run.specs.Settings.{AreWithin};
+ghost use Rattle.amo_settings.specs.Limits.{AreWithin};
 
 use amo_audit::merge;
 use amo_object::End;

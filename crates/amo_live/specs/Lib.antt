@@ -1,6 +1,8 @@
+pub use Rattle.amo_settings.specs.Limits
 pub mod Client
 pub mod Host
 pub mod Noted
+pub mod Plans
 pub mod Scan
 pub mod Service
 pub mod Shown

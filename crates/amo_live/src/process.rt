@@ -5,8 +5,8 @@ ghost use Rattle.amo_live.specs.Host.{IsNoted, first_events, sides_from};
 ghost use Rattle.amo_live.specs.Service.{streams_of, words_of};
 
 use crate::{
-    Desk, Durable, Ended, FreshWords, Host, Input, Journal, Limits, LiveFault, ProcessFault, Scan,
-    Service, Setup, serve,
+    Desk, Durable, Ended, FreshWords, Host, Input, Journal, Limits, LiveFault, Plan, ProcessFault,
+    Scan, Service, Setup, serve,
 };
 use amo_net::Link;
 use amo_object::End;
@@ -16,15 +16,6 @@ use std::io::{Read, Write};
 use std::os::fd::AsRawFd;
 use std::random::RandomSource;
 use std::rt::Clock;
-
-/// What a process is to do.
-#[derive(Clone, Copy)]
-pub struct Plan {
-    /// How its host is set up.
-    pub setup: Setup,
-    /// When it ends.
-    pub limits: Limits,
-}
 
 /// Runs a host of 1 to 256 streams over this link until its clients are done. The system waits for the link by this number. Lines come
 /// from the reader, and answers go to the output. The journal goes on in the sink, of which this was read.

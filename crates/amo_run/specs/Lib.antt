@@ -1,10 +1,10 @@
+pub use Rattle.amo_settings.specs.Limits
 pub mod Crew
 pub mod Engine
 pub mod Fault
 pub mod Fits
 pub mod Parts
 pub mod Ran
-pub mod Settings
 pub mod Sides
 pub mod Told
 pub mod Whole

@@ -3,7 +3,7 @@ use Rattle.std.specs.Prelude.{ℕ, ◌+◌, ◌*◌, ◌/◌, ◌%◌, ◌≤◌
 use Rattle.amo_object.specs.declared.step.End.{End}
 use Rattle.amo_object.specs.declared.step.End.TheVariants.{Sender, Receiver}
 use Rattle.amo_run.specs.Sides.{sides_from, both_sides}
-use Rattle.amo_run.specs.declared.settings.RunSettings.{RunSettings}
+use Rattle.amo_settings.specs.declared.run.RunSettings.{RunSettings}
 use Rattle.amo_run.specs.declared.part.Part.{Part}
 use Rattle.amo_run.specs.declared.part.Part.TheVariants.{Both, Senders, Receivers}
 

@@ -3,7 +3,7 @@ use Rattle.std.specs.Prelude.{◌≡◌, Bool, true, false, Some, []}
 use Rattle.amo_book.specs.Closed.{ClosedState}
 use Rattle.amo_run.specs.declared.part.Part.TheVariants.{Both, Senders, Receivers}
 use Rattle.amo_run.specs.declared.ran.Ran.{Ran}
-use Rattle.amo_run.specs.declared.settings.RunSettings.{RunSettings}
+use Rattle.amo_settings.specs.declared.run.RunSettings.{RunSettings}
 use Rattle.amo_run.specs.Parts.{sides_of, clients_of, pumps_of, passes_of}
 use Rattle.amo_run.specs.Whole.{IsWhole}
 

@@ -5,7 +5,7 @@ ghost use Rattle.amo_book.specs.Charge.{IsChargeOf};
 ghost use Rattle.amo_book.specs.Closed.{AllCharges};
 ghost use Rattle.amo_run.specs.Crew.{IsOurs, IsReady, dealt};
 ghost use Rattle.amo_run.specs.Parts.{hosts_of, passes_of, pumps_of, sides_of, HasWires};
-ghost use Rattle.amo_run.specs.Settings.{AreWithin};
+ghost use Rattle.amo_settings.specs.Limits.{AreWithin};
 
 use crate::host::{Host, pumps_of, push_host};
 use crate::opening::{Opened, open};

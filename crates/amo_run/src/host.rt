@@ -4,7 +4,7 @@ ghost use Rattle.amo_book.specs.Book.{Each};
 ghost use Rattle.amo_book.specs.Closed.{HasCharge};
 ghost use Rattle.amo_run.specs.Crew.{IsOurs, dealt};
 ghost use Rattle.amo_run.specs.Parts.{pumps_of};
-ghost use Rattle.amo_run.specs.Settings.{AreWithin};
+ghost use Rattle.amo_settings.specs.Limits.{AreWithin};
 ghost use Rattle.amo_run.specs.Sides.{IsHostOf};
 
 use crate::plan::Plan;

@@ -18,7 +18,6 @@ mod progress;
 mod ran;
 mod report;
 mod script;
-mod settings;
 mod source;
 #[cfg(test)]
 mod tests;
@@ -29,11 +28,11 @@ mod wire;
 mod work;
 mod workload;
 
+pub use amo_settings::{LinkKind, RunSettings};
 pub use amo_world::NoMemory;
 pub use calls::client;
 pub use fault::RunFault;
 pub use progress::Progress;
 pub use ran::Ran;
 pub use script::{ClientCall, ClientReply, Script};
-pub use settings::{LinkKind, RunSettings};
 pub use whole_run::{run, run_watched};

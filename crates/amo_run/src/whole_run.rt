@@ -4,7 +4,7 @@ ghost use Rattle.amo_audit.specs.Journal.{CanSpell};
 ghost use Rattle.amo_run.specs.declared.part.Part.TheVariants.{Both, Senders, Receivers};
 ghost use Rattle.amo_run.specs.Parts.{clients_of, passes_of, pumps_of, sides_of};
 ghost use Rattle.amo_run.specs.Ran.{IsOfBooks, IsOfTwo, IsRanOf};
-ghost use Rattle.amo_run.specs.Settings.{AreWithin};
+ghost use Rattle.amo_settings.specs.Limits.{AreWithin};
 ghost use Rattle.amo_run.specs.Whole.{IsWhole};
 
 use crate::crew::{Crew, Wires, muster};

@@ -1,14 +1,10 @@
 //! One host of the service in this process: over a socket, with a journal of its own, for clients at these streams.
-ghost use Rattle.std.specs.Prelude.{◌≡◌, ◌<◌, ◌≤◌, IfSome};
-ghost use Rattle.amo_tool.specs.Chosen.{IsHostWithin};
-ghost use Rattle.amo_tool.specs.Plans.{microseconds, receives, sends};
+ghost use Rattle.std.specs.Prelude.{◌≡◌, ◌<◌, ◌≤◌};
+ghost use Rattle.amo_settings.specs.Limits.{IsHostWithin};
 
-use crate::choice::{HostSettings, ReceiveSettings, SendSettings};
 use crate::failure::Failure;
-use amo_live::{
-    Disk, Ended, Limits, Plan, ProcessFault, ServeFault, Setup, Socket, Spelling, run_process,
-};
-use amo_object::End;
+use amo_live::{Disk, Ended, Plan, ProcessFault, ServeFault, Socket, run_process};
+use amo_settings::{HostSettings, ReceiveSettings, SendSettings};
 use std::fs;
 use std::fs::File;
 use std::io::{Read, Write};
@@ -22,8 +18,6 @@ use std::sync::ledger::{Blank, Ledger};
 /// The status where something was still on its way at the end.
 const ON_ITS_WAY: u8 = 5;
 
-const SECOND: u64 = 1_000_000;
-
 /// The number of standard output. That of standard input is less.
 const STANDARD_OUTPUT: i32 = 1;
 
@@ -35,7 +29,7 @@ pub(crate) fn send_lines<
 >(rt: &R, settings: &SendSettings, input: I, output: O) -> Result<u8, Failure>
     requires { IsHostWithin settings.now.host }
 {
-    run_host(rt, &settings.host, plan_to_send(settings), input, output)
+    run_host(rt, &settings.host, Plan::to_send(settings), input, output)
 }
 
 /// Gets the messages that come, and shows them. Answers the status to end with.
@@ -46,71 +40,13 @@ pub(crate) fn receive_lines<
 >(rt: &R, settings: &ReceiveSettings, input: I, output: O) -> Result<u8, Failure>
     requires { IsHostWithin settings.now.host }
 {
-    run_host(rt, &settings.host, plan_to_receive(settings), input, output)
-}
-
-/// What a host that sends is to do.
-fn plan_to_send(settings: &SendSettings) -> Plan
-    requires { IsHostWithin settings.now.host }
-    ensures { result ≡ sends settings.now }
-{
-    let host = &settings.host;
-    Plan {
-        setup: Setup {
-            side: End::Sender,
-            streams: host.streams,
-            tick: u64::from(host.tick),
-            each: settings.each,
-            most: u64::MAX,
-            spelling: Spelling {
-                hex: settings.hex,
-                json: host.json,
-            },
-        },
-        limits: Limits {
-            count: None,
-            wait: in_microseconds(host.wait),
-            lingers: false,
-            sync: host.sync,
-        },
-    }
-}
-
-/// What a host that receives is to do. It has no last packet of its own: at its end it waits a moment for its peer's.
-fn plan_to_receive(settings: &ReceiveSettings) -> Plan
-    requires { IsHostWithin settings.now.host }
-    ensures { result ≡ receives settings.now }
-{
-    let host = &settings.host;
-    Plan {
-        setup: Setup {
-            side: End::Receiver,
-            streams: host.streams,
-            tick: u64::from(host.tick),
-            each: false,
-            most: settings.count.unwrap_or(u64::MAX),
-            spelling: Spelling {
-                hex: false,
-                json: host.json,
-            },
-        },
-        limits: Limits {
-            count: settings.count,
-            wait: in_microseconds(host.wait),
-            lingers: true,
-            sync: host.sync,
-        },
-    }
-}
-
-fn in_microseconds(seconds: Option<u64>) -> Option<u64>
-    requires { IfSome seconds (λ s. s ≤ 1000000) }
-    ensures { result ≡ microseconds seconds }
-{
-    match seconds {
-        Some(seconds) => Some(seconds * SECOND),
-        None => None,
-    }
+    run_host(
+        rt,
+        &settings.host,
+        Plan::to_receive(settings),
+        input,
+        output,
+    )
 }
 
 /// Runs a host until its clients are done, and answers the status to end with.

@@ -2,37 +2,28 @@
 //! service between two hosts, and keeps a journal; is one host of a pair, for clients at its standard input and output; and audits and
 //! explains journals.
 //!
-//! `arguments` reads the program's arguments, which `commands` describes, and `choice` is what they choose. `replaying`, `running`,
-//! `live` and `judging` do it, `progress` shows how far a run is, and `failure` is why they cannot.
+//! `amo_arguments` reads the program's arguments, and answers as `amo_settings` what they choose. `replaying`, `running`, `live` and
+//! `judging` do it, `progress` shows how far a run is, and `failure` is why they cannot.
 #![tactic(auto)]
 
 ghost use Rattle.std.specs.Prelude.{IfOk};
-ghost use Rattle.amo_tool.specs.Chosen.{IsWithin};
+ghost use Rattle.amo_settings.specs.Limits.{IsWithin};
 
-mod arguments;
-mod choice;
-mod commands;
-mod completions;
 mod failure;
 mod judging;
 mod live;
-mod manual;
-mod outline;
 mod progress;
 mod replaying;
 mod running;
-#[cfg(test)]
-mod tests;
-mod texts;
-mod version;
 
-use crate::arguments::{not_text, settings};
-use crate::choice::{ArgumentsFault, Settings};
 use crate::failure::Failure;
 use crate::judging::{audit_files, explain_file};
 use crate::live::{receive_lines, send_lines};
 use crate::replaying::replay_file;
 use crate::running::run_to_file;
+use amo_arguments::{ArgumentsFault, not_text, settings};
+use amo_manual::{page, script};
+use amo_settings::Settings;
 use std::alloc::AllocError;
 use std::env;
 use std::fs::File;
@@ -82,8 +73,8 @@ fn obey<
         Ok(Settings::Run(settings, file)) => run_to_file(rt, &settings, file.as_str(), errors),
         Ok(Settings::Send(settings)) => send_lines(rt, &settings, input, output),
         Ok(Settings::Receive(settings)) => receive_lines(rt, &settings, input, output),
-        Ok(Settings::Manual) => show_page(rt, manual::page(rt.alloc())),
-        Ok(Settings::Completions(shell)) => show_page(rt, completions::script(rt.alloc(), shell)),
+        Ok(Settings::Manual) => show_page(rt, page(rt.alloc())),
+        Ok(Settings::Completions(shell)) => show_page(rt, script(rt.alloc(), shell)),
         Err(ArgumentsFault::Text(text, status)) => show(rt, text.as_str(), status),
         Err(ArgumentsFault::Seed) => {
             let _ = rt.eprintln(ArgumentsFault::Seed);
@@ -101,7 +92,6 @@ fn obey<
 }
 
 /// The settings that the program's arguments choose.
-#[tactic(auto, using(crate::proofs::Within::within))]
 fn choose<R: AllocGlobal + Env>(rt: &R) -> Result<Settings, ArgumentsFault>
     ensures { IfOk result IsWithin }
 {

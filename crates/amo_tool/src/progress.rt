@@ -2,7 +2,7 @@
 ghost use Rattle.std.specs.Prelude.{All, IfOk};
 ghost use Rattle.amo_audit.specs.Journal.{CanSpell};
 ghost use Rattle.amo_run.specs.Ran.{IsRanOf};
-ghost use Rattle.amo_run.specs.Settings.{AreWithin};
+ghost use Rattle.amo_settings.specs.Limits.{AreWithin};
 
 use amo_run::{Progress, Ran, RunFault, RunSettings, run_watched};
 use std::alloc::Global;
@@ -118,29 +118,5 @@ impl<E: Write> Line<E> {
         self.terminal.write_all(b"\r")?;
         self.terminal.write_all(blanks)?;
         self.terminal.write_all(b"\r")
-    }
-}
-
-#[cfg(test)]
-mod tests {
-    use super::*;
-    use std::test::Fail;
-
-    #[test]
-    fn a_line_is_cleared(rt: HostRuntime) -> Result<(), Fail> {
-        let mut line = Line {
-            terminal: Vec::<u8>::new(rt.alloc()),
-            length: 0,
-        };
-        line.clear()?;
-        assert!(rt; line.terminal.is_empty());
-        line.show(rt.alloc(), &Progress::new())?;
-        line.show(rt.alloc(), &Progress::new())?;
-        line.clear()?;
-        let Line { terminal, .. } = line;
-        let wanted =
-            "\r0 events, 0 messages got, 0 crashes\r0 events, 0 messages got, 0 crashes\r                                   \r";
-        assert_eq!(rt; terminal.as_slice(), wanted.as_bytes());
-        Ok(())
     }
 }

@@ -2,7 +2,7 @@
 ghost use Rattle.std.specs.Prelude.{◌≡◌, ◌<◌};
 ghost use Rattle.std.specs.List.{All};
 ghost use Rattle.amo_audit.specs.Journal.{CanSpell};
-ghost use Rattle.amo_run.specs.Settings.{AreWithin};
+ghost use Rattle.amo_settings.specs.Limits.{AreWithin};
 
 use crate::failure::Failure;
 use crate::progress::run_shown;

@@ -1,0 +1,16 @@
+use Rattle.std.proofs.lemmas.Result.{IfOk-weaker}
+use Rattle.amo_arguments.proofs.Described.{with_command}
+use Rattle.amo_arguments.proofs.commands.command.Goals as goal
+
+pub returns : goal.returns
+returns c =
+    let links = c.in_ok-run.ensures in
+    let replay = with_command c.in_ok-subcommand.ensures c.in_ok-replay.ensures c.in_ok-bare.ensures in
+    let run = with_command c.in_ok-subcommand-2.ensures links.2 replay in
+    let send = with_command c.in_ok-subcommand-3.ensures c.in_ok-send.ensures run in
+    let receive = with_command c.in_ok-subcommand-4.ensures c.in_ok-receive.ensures send in
+    let audit = with_command c.in_ok-subcommand-5.ensures c.in_ok-audit.ensures receive in
+    let explain = with_command c.in_ok-subcommand-6.ensures c.in_ok-explain.ensures audit in
+    let manual = with_command c.in_ok-subcommand-7.ensures c.manual.ensures explain in
+    let shells = c.in_ok-completions.ensures in
+    IfOk-weaker c.subcommand-8.result _ _ (λ m h. (links.0, links.1, (shells.0, shells.1, with_command h shells.2 manual))) c.subcommand-8.ensures

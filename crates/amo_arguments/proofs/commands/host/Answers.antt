@@ -1,0 +1,25 @@
+use Rattle.std.proofs.Common.{◌≡◌, codes, rules}
+use Rattle.std.proofs.lemmas.Result.{IfOk-weaker}
+use Rattle.clap.specs.Words.{new_app, rule_of}
+use Rattle.amo_arguments.specs.Commands.{IsCommand, flag, number, optional_number, text}
+use Rattle.amo_arguments.proofs.Described.{with_argument}
+use Rattle.amo_arguments.proofs.commands.host.Goals as goal
+
+pub returns : goal.returns
+returns c =
+    let listen : rule_of c.text.result ≡ text (codes "listen") = search rules in
+    let peer : rule_of c.text-2.result ≡ text (codes "peer") = search rules in
+    let streams : rule_of c.number.result ≡ number (codes "streams") 1 256 = search rules in
+    let journal : rule_of c.text-3.result ≡ text (codes "journal") = search rules in
+    let json : rule_of c.flag.result ≡ flag (codes "json") = search rules in
+    let sync : rule_of c.flag-2.result ≡ flag (codes "sync") = search rules in
+    let wait : rule_of c.optional_number.result ≡ optional_number (codes "wait") 0 1000000 = search rules in
+    let none : IsCommand (new_app c.args.name.now) c.with_texts.result = c.with_texts.ensures in
+    let one = with_argument c.in_ok-arg.ensures listen c.text.ensures.local none in
+    let two = with_argument c.in_ok-arg-2.ensures peer c.text-2.ensures.local one in
+    let three = with_argument c.in_ok-arg-3.ensures streams c.number.ensures.local two in
+    let four = with_argument c.in_ok-arg-4.ensures journal c.text-3.ensures.local three in
+    let five = with_argument c.in_ok-arg-5.ensures c.tick.ensures.rule c.tick.ensures.local four in
+    let six = with_argument c.in_ok-arg-6.ensures json c.flag.ensures.local five in
+    let seven = with_argument c.in_ok-arg-7.ensures sync c.flag-2.ensures.local six in
+    IfOk-weaker c.arg-8.result _ _ (λ m h. with_argument h wait c.optional_number.ensures.local seven) c.arg-8.ensures

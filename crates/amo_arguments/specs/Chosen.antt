@@ -1,0 +1,119 @@
+-- What the program's arguments choose.
+use Rattle.std.specs.Prelude.{◌≡◌, ℕ, ◌≤◌, Bool, if◌then◌else◌, List, Option, Some, None, IfSome, codes, length, option_map, string_bytes}
+use Rattle.hex.specs.Hex.{IsBytes}
+use Rattle.std.specs.Str.Parse.{digits_value, without_leading_plus}
+use Rattle.clap.specs.Words.{Row, Text, first_of, one_of, subcommand_of, subcommand_rows_of}
+use Rattle.clap.specs.declared.parser.matches.ArgMatches.{ArgMatches}
+use Rattle.amo_text.specs.Hexadecimal.{hex}
+use Rattle.amo_settings.specs.Limits.{AreWithin, IsHostWithin}
+use Rattle.amo_settings.specs.declared.run.LinkKind.{LinkKind}
+use Rattle.amo_settings.specs.declared.run.LinkKind.TheVariants.{Memory, Udp}
+use Rattle.amo_settings.specs.declared.run.RunSettings.{RunSettings}
+use Rattle.amo_arguments.specs.Commands.{Names, AreLinks, AreShells, amo}
+use Rattle.amo_settings.specs.declared.settings.HostSettings.{HostSettings}
+use Rattle.amo_settings.specs.declared.settings.ReceiveSettings.{ReceiveSettings}
+use Rattle.amo_settings.specs.declared.settings.SendSettings.{SendSettings}
+use Rattle.amo_settings.specs.declared.settings.Settings.{Settings}
+use Rattle.amo_settings.specs.declared.settings.Settings.TheVariants.{Replay, Run, Send, Receive, Audit, Explain, Manual, Completions}
+use Rattle.amo_settings.specs.declared.settings.Shell.{Shell}
+use Rattle.amo_settings.specs.declared.settings.Shell.TheVariants.{Bash, Zsh, Fish}
+
+-- the match of the arguments has this command, with these matches of its own
+abbrev pub HasCommand : List Text → Text → List Row → Type 0
+HasCommand arguments name rows = (links : Names) × AreLinks links × ((shells : Names) × AreShells shells
+    × (subcommand_of (amo links shells) arguments ≡ Some (name, rows)))
+
+-- the command that was met and its matches are those of the arguments
+abbrev pub Matches : List Text → ArgMatches → Type 0
+Matches arguments matches = (links : Names) × AreLinks links × ((shells : Names) × AreShells shells
+    × (subcommand_rows_of matches ≡ subcommand_of (amo links shells) arguments))
+
+-- the first value of an argument of this name
+abbrev pub HasText : List Row → Text → Text → Type 0
+HasText rows name text = first_of name rows ≡ Some text
+
+-- the same of an argument that may be absent
+abbrev pub HasTextOrNone : List Row → Text → Option Text → Type 0
+HasTextOrNone rows name text = first_of name rows ≡ text
+
+-- the value of an argument of this name, read as a number
+abbrev pub HasNumber : List Row → Text → ℕ → Type 0
+HasNumber rows name number = (text : Text) × (one_of name rows ≡ Some text) × (digits_value 10 (without_leading_plus text) ≡ number)
+
+-- the same of an option that may be absent
+abbrev pub HasNumberOrNone : List Row → Text → Option ℕ → Type 0
+HasNumberOrNone rows name None = first_of name rows ≡ None
+HasNumberOrNone rows name (Some number) = HasNumber rows name number
+
+-- whether the flag of this name is there
+abbrev pub HasFlag : List Row → Text → Bool → Type 0
+HasFlag rows name flag = one_of name rows ≡ Some (if flag then codes "true" else codes "false")
+
+abbrev pub link_name : LinkKind → Text
+link_name Memory = codes "memory"
+link_name Udp = codes "udp"
+
+abbrev pub shell_name : Shell → Text
+shell_name Bash = codes "bash"
+shell_name Zsh = codes "zsh"
+shell_name Fish = codes "fish"
+
+-- the matches of `run` have these values, each within its limits
+pub record HasSettings (rows : List Row) (settings : RunSettings) : Type 0 where
+  pub streams : HasNumber rows (codes "streams") settings.streams
+  pub clients : HasNumber rows (codes "clients") settings.clients
+  pub crashes : HasNumber rows (codes "crashes") settings.crashes
+  pub seed : HasText rows (codes "seed") (hex settings.seed)
+  pub link : HasText rows (codes "link") (link_name settings.link)
+  pub pumps : HasNumber rows (codes "pumps") settings.pumps
+  pub split : HasFlag rows (codes "split") settings.split
+  pub within : AreWithin settings
+
+-- the matches of `run` have the values of these settings
+abbrev pub ChoosesRun : List Row → Settings → Type 0
+ChoosesRun rows (Run settings file) = HasSettings rows settings × HasText rows (codes "journal") (string_bytes file)
+ChoosesRun rows _ = ⊥
+
+-- the matches of `run` have no seed: its text spells no 32 bytes
+abbrev pub HasNoSeed : List Row → Type 0
+HasNoSeed rows = (seed : List ℕ) → IsBytes seed → length seed ≡ 32 → HasText rows (codes "seed") (hex seed) → ⊥
+
+-- the matches of `send` or of `receive` have these values, each within its limits
+pub record HasHost (rows : List Row) (host : HostSettings) : Type 0 where
+  pub listen : HasText rows (codes "listen") (string_bytes host.listen)
+  pub peer : HasText rows (codes "peer") (string_bytes host.peer)
+  pub streams : HasNumber rows (codes "streams") host.streams
+  pub journal : HasText rows (codes "journal") (string_bytes host.journal)
+  pub tick : HasNumber rows (codes "tick") host.tick
+  pub json : HasFlag rows (codes "json") host.json
+  pub sync : HasFlag rows (codes "sync") host.sync
+  pub wait : HasNumberOrNone rows (codes "wait") host.wait
+  pub within : IsHostWithin host
+
+-- the matches of `send` have these values
+pub record HasSend (rows : List Row) (send : SendSettings) : Type 0 where
+  pub host : HasHost rows send.host
+  pub each : HasFlag rows (codes "each") send.each
+  pub hex : HasFlag rows (codes "hex") send.hex
+
+-- the matches of `receive` have these values
+pub record HasReceive (rows : List Row) (receive : ReceiveSettings) : Type 0 where
+  pub host : HasHost rows receive.host
+  pub count : HasNumberOrNone rows (codes "count") receive.count
+  pub some : IfSome receive.count (λ count. 1 ≤ count)
+
+-- the match of the arguments is one of `run`, without a seed
+abbrev pub LacksSeed : List Text → Type 0
+LacksSeed arguments = (rows : List Row) × HasCommand arguments (codes "run") rows × HasNoSeed rows
+
+abbrev pub Chooses : List Text → Settings → Type 0
+Chooses arguments (Replay file) = (rows : List Row) × HasCommand arguments (codes "replay") rows × HasText rows (codes "FILE") (string_bytes file)
+Chooses arguments (Run settings file) = (rows : List Row) × HasCommand arguments (codes "run") rows × ChoosesRun rows (Run settings file)
+Chooses arguments (Send send) = (rows : List Row) × HasCommand arguments (codes "send") rows × HasSend rows send
+Chooses arguments (Receive receive) = (rows : List Row) × HasCommand arguments (codes "receive") rows × HasReceive rows receive
+Chooses arguments (Audit file second) = (rows : List Row) × HasCommand arguments (codes "audit") rows
+    × HasText rows (codes "FILE") (string_bytes file) × HasTextOrNone rows (codes "SECOND") (option_map string_bytes second)
+Chooses arguments (Explain file) = (rows : List Row) × HasCommand arguments (codes "explain") rows × HasText rows (codes "FILE") (string_bytes file)
+Chooses arguments Manual = (rows : List Row) × HasCommand arguments (codes "man") rows
+Chooses arguments (Completions shell) = (rows : List Row) × HasCommand arguments (codes "completions") rows
+    × HasText rows (codes "SHELL") (shell_name shell)

@@ -1,0 +1,392 @@
+//! The program's commands, as they are described to `clap`.
+ghost use Rattle.std.specs.Prelude.{◌≡◌, IfOk, false};
+ghost use Rattle.clap.specs.Words.{app_of, new_app, rule_of};
+ghost use Rattle.amo_arguments.specs.Commands as described;
+
+use crate::texts;
+use clap::builder::ValueParser;
+use clap::{Arg, ArgAction, Command};
+use std::alloc::{AllocError, Global};
+
+/// The name that the program goes by in its texts.
+pub const NAME: &str = "amo";
+
+/// The greatest numbers of a run: of its streams, of its clients, of its crashes, and of the pumps of each host.
+pub(crate) const STREAMS: u32 = 256;
+
+pub(crate) const CLIENTS: u32 = 56;
+
+pub(crate) const CRASHES: u32 = 1000;
+
+pub(crate) const PUMPS: u32 = 4;
+
+/// The greatest numbers of a host: of microseconds in its tick, and of seconds that it waits at its end.
+pub(crate) const TICK: u32 = 60_000_000;
+
+pub(crate) const WAIT: u64 = 1_000_000;
+
+/// What may carry the packets of a run.
+static LINKS: [&str; 2] = ["memory", "udp"];
+
+/// The shells that there are completions for.
+static SHELLS: [&str; 3] = ["bash", "zsh", "fish"];
+
+/// The whole program.
+pub fn command<'a>(alloc: Global) -> Result<Command<'a>, AllocError>
+    ensures { IfOk result described.IsAmo }
+{
+    let bare = bare(alloc)?;
+    let replay = replay(alloc)?;
+    let run = run(alloc)?;
+    let send = send(alloc)?;
+    let receive = receive(alloc)?;
+    let audit = audit(alloc)?;
+    let explain = explain(alloc)?;
+    let completions = completions(alloc)?;
+    bare.subcommand(replay)?
+        .subcommand(run)?
+        .subcommand(send)?
+        .subcommand(receive)?
+        .subcommand(audit)?
+        .subcommand(explain)?
+        .subcommand(manual(alloc))?
+        .subcommand(completions)
+}
+
+/// The program without its commands.
+fn bare<'a>(alloc: Global) -> Result<Command<'a>, AllocError>
+    ensures { IfOk result (λ command. app_of command ≡ described.bare) }
+{
+    let named = Command::new(alloc, NAME).bin_name(NAME)?;
+    Ok(
+        named
+            .version(texts::VERSION)
+            .about(texts::ABOUT)
+            .after_help(texts::AFTER_HELP)
+            .subcommand_required(true)
+            .arg_required_else_help(true),
+    )
+}
+
+fn replay<'a>(alloc: Global) -> Result<Command<'a>, AllocError>
+    ensures { IfOk result (described.IsCommand described.replay) }
+{
+    with_texts(
+        alloc,
+        "replay",
+        texts::REPLAY_ABOUT,
+        texts::REPLAY_AFTER_HELP,
+    )
+    .arg(file(alloc, "The schedule"))
+}
+
+fn run<'a>(alloc: Global) -> Result<Command<'a>, AllocError>
+    ensures { IfOk result described.IsRun }
+{
+    with_texts(alloc, "run", texts::RUN_ABOUT, texts::RUN_AFTER_HELP)
+        .arg(number(
+            alloc,
+            "streams",
+            1,
+            STREAMS,
+            "The number of streams, 1 to 256",
+        ))?
+        .arg(number(
+            alloc,
+            "clients",
+            1,
+            CLIENTS,
+            "The number of clients, 1 to 56",
+        ))?
+        .arg(number(
+            alloc,
+            "crashes",
+            0,
+            CRASHES,
+            "The number of crashes, 0 to 1000",
+        ))?
+        .arg(text(
+            alloc,
+            "seed",
+            "HEX",
+            "What identifiers and losses are drawn from, 64 digits",
+        ))?
+        .arg(link(alloc))?
+        .arg(text(alloc, "journal", "FILE", "Where the journal goes"))?
+        .arg(pumps(alloc))?
+        .arg(flag(
+            alloc,
+            "split",
+            "Gives each host a book and a journal of its own, FILE.s and FILE.r",
+        ))
+}
+
+fn send<'a>(alloc: Global) -> Result<Command<'a>, AllocError>
+    ensures { IfOk result (described.IsCommand described.send) }
+{
+    host(alloc, "send", texts::SEND_ABOUT, texts::SEND_AFTER_HELP)?
+        .arg(flag(
+            alloc,
+            "each",
+            "Puts a stream's next message once the last one's answer came",
+        ))?
+        .arg(flag(
+            alloc,
+            "hex",
+            "Reads messages in lower-case hexadecimal, `-` for no bytes",
+        ))
+}
+
+fn receive<'a>(alloc: Global) -> Result<Command<'a>, AllocError>
+    ensures { IfOk result (described.IsCommand described.receive) }
+{
+    host(
+        alloc,
+        "receive",
+        texts::RECEIVE_ABOUT,
+        texts::RECEIVE_AFTER_HELP,
+    )?
+    .arg(optional_number(
+        alloc,
+        "count",
+        "N",
+        1,
+        u64::MAX,
+        "Ends once it got N messages",
+    ))
+}
+
+/// The command of this name with the options that a host has on either side, and what help says of it.
+fn host<'a>(
+    alloc: Global,
+    name: &'static str,
+    about: &'static str,
+    after_help: &'static str,
+) -> Result<Command<'a>, AllocError>
+    ensures { IfOk result (described.IsCommand (described.host name.entry.now)) }
+{
+    with_texts(alloc, name, about, after_help)
+        .arg(text(
+            alloc,
+            "listen",
+            "ADDR",
+            "Where it listens, as 127.0.0.1:7001",
+        ))?
+        .arg(text(alloc, "peer", "ADDR", "Where the other host listens"))?
+        .arg(number(
+            alloc,
+            "streams",
+            1,
+            STREAMS,
+            "The number of streams, 1 to 256",
+        ))?
+        .arg(text(
+            alloc,
+            "journal",
+            "FILE",
+            "Its journal, which is begun, or gone on with",
+        ))?
+        .arg(tick(alloc))?
+        .arg(flag(alloc, "json", "Prints each line as a JSON object"))?
+        .arg(flag(
+            alloc,
+            "sync",
+            "Puts the journal on its disk before packets leave",
+        ))?
+        .arg(optional_number(
+            alloc,
+            "wait",
+            "SECONDS",
+            0,
+            WAIT,
+            "How long it waits at its end for what is on its way, 0 to 1000000",
+        ))
+}
+
+fn audit<'a>(alloc: Global) -> Result<Command<'a>, AllocError>
+    ensures { IfOk result (described.IsCommand described.audit) }
+{
+    with_texts(alloc, "audit", texts::AUDIT_ABOUT, texts::AUDIT_AFTER_HELP)
+        .arg(file(alloc, "The journal"))?
+        .arg(second_file(alloc))
+}
+
+fn explain<'a>(alloc: Global) -> Result<Command<'a>, AllocError>
+    ensures { IfOk result (described.IsCommand described.explain) }
+{
+    with_texts(
+        alloc,
+        "explain",
+        texts::EXPLAIN_ABOUT,
+        texts::EXPLAIN_AFTER_HELP,
+    )
+    .arg(file(alloc, "The journal"))
+}
+
+fn manual<'a>(alloc: Global) -> Command<'a>
+    ensures { described.IsCommand described.manual result }
+{
+    with_texts(alloc, "man", texts::MANUAL_ABOUT, texts::MANUAL_AFTER_HELP)
+}
+
+fn completions<'a>(alloc: Global) -> Result<Command<'a>, AllocError>
+    ensures { IfOk result described.IsCompletions }
+{
+    with_texts(
+        alloc,
+        "completions",
+        texts::COMPLETIONS_ABOUT,
+        texts::COMPLETIONS_AFTER_HELP,
+    )
+    .arg(shell(alloc))
+}
+
+/// The command of this name, without arguments, and what help says of it.
+fn with_texts<'a>(
+    alloc: Global,
+    name: &'static str,
+    about: &'static str,
+    after_help: &'static str,
+) -> Command<'a>
+    ensures { described.IsCommand (new_app name.entry.now) result }
+{
+    Command::new(alloc, name)
+        .about(about)
+        .after_help(after_help)
+}
+
+/// The argument that names a command's file.
+fn file<'a>(alloc: Global, help: &'static str) -> Arg<'a>
+    ensures rule { rule_of result ≡ described.file }
+    ensures local { result.global ≡ false }
+{
+    Arg::new(alloc, "FILE")
+        .help(help)
+        .required(true)
+        .action(ArgAction::Set)
+}
+
+/// The argument that names the file of a second journal.
+fn second_file<'a>(alloc: Global) -> Arg<'a>
+    ensures rule { rule_of result ≡ described.second_file }
+    ensures local { result.global ≡ false }
+{
+    Arg::new(alloc, "SECOND")
+        .value_name("FILE")
+        .help("The journal of a second process")
+        .action(ArgAction::Set)
+}
+
+/// The argument that names a shell.
+fn shell<'a>(alloc: Global) -> Arg<'a>
+    ensures rule { described.IsShell (rule_of result) }
+    ensures local { result.global ≡ false }
+{
+    Arg::new(alloc, "SHELL")
+        .help("The shell")
+        .required(true)
+        .action(ArgAction::Set)
+        .value_parser(ValueParser::Names(SHELLS.as_slice()))
+}
+
+/// The option of this name, whose value is a number from `low` to `high`.
+fn number<'a>(alloc: Global, name: &'static str, low: u32, high: u32, help: &'static str) -> Arg<'a>
+    ensures rule { rule_of result ≡ described.number name.entry.now low high }
+    ensures local { result.global ≡ false }
+{
+    Arg::new(alloc, name)
+        .long(name)
+        .value_name("N")
+        .help(help)
+        .required(true)
+        .action(ArgAction::Set)
+        .value_parser(ValueParser::unsigned(u64::from(low), u64::from(high)))
+}
+
+/// The option of this name, whose value is any text.
+fn text<'a>(alloc: Global, name: &'static str, value: &'static str, help: &'static str) -> Arg<'a>
+    ensures rule { rule_of result ≡ described.text name.entry.now }
+    ensures local { result.global ≡ false }
+{
+    Arg::new(alloc, name)
+        .long(name)
+        .value_name(value)
+        .help(help)
+        .required(true)
+        .action(ArgAction::Set)
+}
+
+/// The option that names what carries the packets.
+fn link<'a>(alloc: Global) -> Arg<'a>
+    ensures rule { described.IsLink (rule_of result) }
+    ensures local { result.global ≡ false }
+{
+    Arg::new(alloc, "link")
+        .long("link")
+        .value_name("LINK")
+        .help("What carries the packets")
+        .required(true)
+        .action(ArgAction::Set)
+        .value_parser(ValueParser::Names(LINKS.as_slice()))
+}
+
+/// The option that tells how many pumps a host has.
+fn pumps<'a>(alloc: Global) -> Arg<'a>
+    ensures rule { rule_of result ≡ described.pumps }
+    ensures local { result.global ≡ false }
+{
+    Arg::new(alloc, "pumps")
+        .long("pumps")
+        .value_name("N")
+        .help("The number of pumps of each host, 1 to 4")
+        .default_value("1")
+        .action(ArgAction::Set)
+        .value_parser(ValueParser::unsigned(1, u64::from(PUMPS)))
+}
+
+/// The option that tells how long a packet waits for its answer.
+fn tick<'a>(alloc: Global) -> Arg<'a>
+    ensures rule { rule_of result ≡ described.tick }
+    ensures local { result.global ≡ false }
+{
+    optional_number(
+        alloc,
+        "tick",
+        "MICROSECONDS",
+        1,
+        u64::from(TICK),
+        "How long a packet waits for its answer before it is sent again, 1 to 60000000",
+    )
+    .default_value("10000")
+}
+
+/// The option of this name that may be absent, whose value is a number from `low` to `high`.
+fn optional_number<'a>(
+    alloc: Global,
+    name: &'static str,
+    value: &'static str,
+    low: u64,
+    high: u64,
+    help: &'static str,
+) -> Arg<'a>
+    ensures rule { rule_of result ≡ described.optional_number name.entry.now low high }
+    ensures local { result.global ≡ false }
+{
+    Arg::new(alloc, name)
+        .long(name)
+        .value_name(value)
+        .help(help)
+        .action(ArgAction::Set)
+        .value_parser(ValueParser::unsigned(low, high))
+}
+
+/// The flag of this name.
+fn flag<'a>(alloc: Global, name: &'static str, help: &'static str) -> Arg<'a>
+    ensures rule { rule_of result ≡ described.flag name.entry.now }
+    ensures local { result.global ≡ false }
+{
+    Arg::new(alloc, name)
+        .long(name)
+        .help(help)
+        .action(ArgAction::SetTrue)
+}

@@ -1,0 +1,85 @@
+//! What a process is to do, by what it was told.
+ghost use Rattle.std.specs.Prelude.{◌≡◌, ◌≤◌, IfSome};
+ghost use Rattle.amo_settings.specs.Limits.{IsHostWithin};
+ghost use Rattle.amo_live.specs.Plans.{microseconds, receives, sends};
+
+use crate::{Limits, Setup, Spelling};
+use amo_object::End;
+use amo_settings::{ReceiveSettings, SendSettings};
+
+const SECOND: u64 = 1_000_000;
+
+/// What a process is to do.
+#[derive(Clone, Copy)]
+pub struct Plan {
+    /// How its host is set up.
+    pub setup: Setup,
+    /// When it ends.
+    pub limits: Limits,
+}
+
+impl Plan {
+    /// What a host that sends is to do.
+    pub fn to_send(settings: &SendSettings) -> Plan
+        requires { IsHostWithin settings.now.host }
+        ensures { result ≡ sends settings.now }
+    {
+        let host = &settings.host;
+        Plan {
+            setup: Setup {
+                side: End::Sender,
+                streams: host.streams,
+                tick: u64::from(host.tick),
+                each: settings.each,
+                most: u64::MAX,
+                spelling: Spelling {
+                    hex: settings.hex,
+                    json: host.json,
+                },
+            },
+            limits: Limits {
+                count: None,
+                wait: in_microseconds(host.wait),
+                lingers: false,
+                sync: host.sync,
+            },
+        }
+    }
+
+    /// What a host that receives is to do. It has no last packet of its own: at its end it waits a moment for its peer's.
+    pub fn to_receive(settings: &ReceiveSettings) -> Plan
+        requires { IsHostWithin settings.now.host }
+        ensures { result ≡ receives settings.now }
+    {
+        let host = &settings.host;
+        Plan {
+            setup: Setup {
+                side: End::Receiver,
+                streams: host.streams,
+                tick: u64::from(host.tick),
+                each: false,
+                most: settings.count.unwrap_or(u64::MAX),
+                spelling: Spelling {
+                    hex: false,
+                    json: host.json,
+                },
+            },
+            limits: Limits {
+                count: settings.count,
+                wait: in_microseconds(host.wait),
+                lingers: true,
+                sync: host.sync,
+            },
+        }
+    }
+}
+
+fn in_microseconds(seconds: Option<u64>) -> Option<u64>
+    requires { IfSome seconds (λ s. s ≤ 1000000) }
+    ensures { result ≡ microseconds seconds }
+{
+    match seconds {
+        Some(seconds) => Some(seconds * SECOND),
+        None => None,
+    }
+}

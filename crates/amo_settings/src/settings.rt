@@ -1,0 +1,70 @@
+//! What the program is asked to do.
+use crate::RunSettings;
+
+/// What the program is to do.
+#[derive(Debug, Drop)]
+pub enum Settings {
+    /// Replay the schedule in this file.
+    Replay(String),
+    /// Run the service so, and write the journal into this file.
+    Run(RunSettings, String),
+    /// Be a host that sends.
+    Send(SendSettings),
+    /// Be a host that receives.
+    Receive(ReceiveSettings),
+    /// Audit the journal in this file, or the journals of two processes, in this file and the next.
+    Audit(String, Option<String>),
+    /// Explain the journal in this file.
+    Explain(String),
+    /// Show the manual page.
+    Manual,
+    /// Show the completions for this shell.
+    Completions(Shell),
+}
+
+/// What a host in a process of its own is told, whichever its side. Times are at most 60000000 microseconds and 1000000 seconds.
+#[derive(Debug, Drop)]
+pub struct HostSettings {
+    /// The address that it listens at.
+    pub listen: String,
+    /// The address of the host of the other side.
+    pub peer: String,
+    /// The streams are 1 up to this number, which is 1 to 256.
+    pub streams: u32,
+    /// The file of its journal.
+    pub journal: String,
+    /// How many microseconds a packet waits for its answer before it is sent again for the first time, 1 at least.
+    pub tick: u32,
+    /// Whether what is shown is spelt in JSON.
+    pub json: bool,
+    /// Whether the journal is put on its disk before packets leave.
+    pub sync: bool,
+    /// How many seconds it waits at its end for what is still on its way, if that has a limit.
+    pub wait: Option<u64>,
+}
+
+/// What a host that sends is told.
+#[derive(Debug, Drop)]
+pub struct SendSettings {
+    pub host: HostSettings,
+    /// Whether a stream's next message is put only once the last one's answer came.
+    pub each: bool,
+    /// Whether messages come in HEX.
+    pub hex: bool,
+}
+
+/// What a host that receives is told.
+#[derive(Debug, Drop)]
+pub struct ReceiveSettings {
+    pub host: HostSettings,
+    /// It ends once it got as many messages, 1 at least.
+    pub count: Option<u64>,
+}
+
+/// A shell that completes words.
+#[derive(Clone, Copy, Debug, PartialEq, Eq)]
+pub enum Shell {
+    Bash,
+    Zsh,
+    Fish,
+}

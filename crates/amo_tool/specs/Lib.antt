@@ -1,4 +1,0 @@
-pub mod Arguments
-pub mod Chosen
-pub mod Commands
-pub mod Plans
