@@ -5,9 +5,9 @@ ghost use Rattle.std.specs.Prelude.{◌≡◌, IfOk};
 ghost use Rattle.std.specs.List.{All};
 ghost use Rattle.amo_world.specs.Stream.{IsStream};
 
-use amo_resolve::{Event, ResolveFault, Step, explain, resolve};
 use amo_object::{Bytes, End, Queue};
 use amo_packet::{Message, OwnedBody, OwnedPacket};
+use amo_resolve::{Event, ResolveFault, Step, explain, resolve};
 use amo_world::{Act, Reply};
 use std::alloc::Global;
 use std::test::Fail;

@@ -1,10 +1,10 @@
 //! The spellings of numbers and bytes at their limits, and sinks over writers that fail.
 ghost use Rattle.std.specs.Prelude.{◌≡◌, ◌<◌};
 
-use amo_text::*;
 use amo_core::Reply;
 use amo_object::End;
 use amo_packet::Message;
+use amo_text::*;
 use std::alloc::Global;
 use std::io::{self, ErrorKind, Write};
 use std::marker::Brand;
