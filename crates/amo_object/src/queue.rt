@@ -144,6 +144,3 @@ impl Queue {
         }
     }
 }
-
-#[cfg(test)]
-mod tests;

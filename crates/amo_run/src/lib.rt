@@ -19,8 +19,6 @@ mod ran;
 mod report;
 mod script;
 mod source;
-#[cfg(test)]
-mod tests;
 mod threads;
 mod two_books;
 mod whole_run;

@@ -173,6 +173,3 @@ fn is_rising(streams: &[u32]) -> bool
 {
     streams.is_sorted_by(|before, after| before < after)
 }
-
-#[cfg(test)]
-mod tests;

@@ -130,6 +130,3 @@ impl Window {
         self.permits.len()
     }
 }
-
-#[cfg(test)]
-mod tests;

@@ -1,6 +1,0 @@
-use Rattle.amo_book.specs.Book.{Each}
-use Rattle.amo_book.specs.Charge.{IsChargeOf}
-use Rattle.amo_hosts_tests.proofs.book.sides.charges_of.Given as goal
-
-abbrev pub invariant-sides : goal.invariant-sides
-invariant-sides g l = Each (IsChargeOf g.J.Naming.id g.J.Naming.sides) l.charges.items

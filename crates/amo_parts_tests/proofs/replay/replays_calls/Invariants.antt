@@ -1,4 +1,0 @@
-use Rattle.amo_parts_tests.proofs.replay.replays_calls.Given as goal
-
-abbrev pub ghosts-printed : goal.ghosts-printed
-ghosts-printed g a = record { name = a.blank.name; parts = a.blank.parts }
