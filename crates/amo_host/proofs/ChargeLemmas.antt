@@ -1,5 +1,5 @@
 -- Lists of charges.
-use Rattle.std.proofs.Common.{◌≡◌, ◌↔◌, ℕ, zero, suc, ◌+◌, ◌<◌, ◌≤◌, Bool, true, false, IsTrue, List, [], ◌∷◌, length, set, map, take, drop, ◌++◌, slice_get, Some, refl, sym, ap, subst, ◌∙◌, arith, ltb}
+use Rattle.std.proofs.Common.{◌≡◌, ◌↔◌, ℕ, zero, suc, ◌+◌, ◌<◌, ◌≤◌, Bool, true, false, IsTrue, List, [], ◌∷◌, length, set, map, ◌++◌, slice_get, Some, refl, sym, ap, subst, ◌∙◌, arith, ltb}
 use Rattle.std.proofs.lemmas.Option.{same_Some}
 use Rattle.std.specs.List.{IsAllAdjacentAnswer}
 use Rattle.std.specs.List.Sorted.{IsStrictlyIncreasing}
@@ -11,8 +11,7 @@ use Rattle.amo_window.specs.Timers.{CanBeTimed}
 use Rattle.amo_world.specs.Stream.{IsStream}
 use Rattle.amo_object.specs.declared.step.End.{End}
 use Rattle.amo_object.specs.declared.step.End.TheVariants.{Sender, Receiver}
-use Rattle.amo_book.specs.Book.{BookState, Opens, first_mode}
-use Rattle.amo_book.specs.Pass.{PassState}
+use Rattle.amo_book.specs.Book.{first_mode}
 use Rattle.amo_book.specs.Charge.{ChargeState}
 use Rattle.amo_host.specs.declared.agenda.StreamMode.{StreamMode}
 use Rattle.amo_host.specs.Charges.{IsAtRest, stream_mode_of}
@@ -42,18 +41,6 @@ module _ {X : Type 0} (P : X → Type 0) where
   pub each_push : (xs : List X) (x : X) → Each P xs → P x → Each P (xs ++ x ∷ [])
   each_push [] x all new = (new, tt)
   each_push (y ∷ xs) x all new = (all.0, each_push xs x all.1 new)
-
-module _ {X : Type 0} (P : X → Type 0) where
-  -- a part of a list
-  pub each_take : (n : ℕ) (xs : List X) → Each P xs → Each P (take n xs)
-  each_take zero xs all = tt
-  each_take (suc n) [] all = tt
-  each_take (suc n) (x ∷ xs) all = (all.0, each_take n xs all.1)
-
-  pub each_drop : (n : ℕ) (xs : List X) → Each P xs → Each P (drop n xs)
-  each_drop zero xs all = all
-  each_drop (suc n) [] all = tt
-  each_drop (suc n) (x ∷ xs) all = each_drop n xs all.1
 
 -- what a look at each element and the next one says of their keys
 pub rises_by : {X : Type 0} (key : X → ℕ) (xs : List X) (r : Bool) → IsAllAdjacentAnswer (λ x y b. b ≡ ltb (key x) (key y)) xs r → IsTrue r ↔ IsStrictlyIncreasing (map key xs)
@@ -100,18 +87,3 @@ all_rest (c ∷ cs) all (suc i) m at = all_rest cs all.1 i m at
 pub streams_known : (cs : List ChargeState) → streams_of (map stream_mode_of cs) ≡ map (λ c. c.stream) cs
 streams_known [] = refl
 streams_known (c ∷ cs) = ap (λ rest. c.stream ∷ rest) (streams_known cs)
-
--- a charge in a list that is shorter than another has its side in that
-side_there : {X Y : Type 0} (xs : List X) (ys : List Y) (k : ℕ) (x : X) → length xs ≡ length ys → slice_get xs k ≡ Some x → (y : Y) × (slice_get ys k ≡ Some y)
-side_there [] ys k x same at = absurd (cc)
-side_there (z ∷ xs) [] k x same at = absurd (omega arith)
-side_there (z ∷ xs) (y ∷ ys) zero x same at = (y, refl)
-side_there (z ∷ xs) (y ∷ ys) (suc k) x same at = side_there xs ys k x (omega arith) at
-
--- a book gives its charges out at rest
-pub opened_rest : (sides : List (End × ℕ)) (passes : ℕ) (book : BookState) (numbered : List PassState) (charges : List ChargeState) → Opens sides passes book numbered charges → Each IsAtRest charges
-opened_rest sides passes book numbered charges opened = each_from IsAtRest charges (λ k c at.
-    let first = opened.charges_are in
-    let side = side_there charges sides k c first.0 at in
-    let same = same_Some c _ (sym at ∙ first.1 k side.0.0 side.0.1 side.1) in
-    ap (λ (x : ChargeState). x.mode) same ∙ ap (λ (x : ChargeState). first_mode x.side) (sym same))

@@ -2,11 +2,10 @@
 use Rattle.std.proofs.Common.{◌≡◌, ℕ, ◌<◌, ◌≤◌, List, [], ◌∷◌, length, map, reverse, slice_get, slice_index_or, sym, subst, arith}
 use Rattle.std.specs.List.{All}
 use Rattle.std.specs.List.Sorted.{IsPermutation}
-use Rattle.std.proofs.lemmas.List.Elements.{All-nil, All-cons, All-map, All-weaker}
+use Rattle.std.proofs.lemmas.List.Elements.{All-nil, All-cons, All-map}
 use Rattle.std.proofs.lemmas.List.Sorted.{All-permutation, IsPermutation-reverse}
 use Rattle.amo_object.specs.declared.step.End.{End}
 use Rattle.amo_world.specs.declared.event.Event.{Event}
-use Rattle.amo_packet.specs.Stream.{IsStream}
 use Rattle.amo_book.specs.Book.{BookState, IsLawful, Opens}
 use Rattle.amo_book.specs.Charge.{ChargeState}
 use Rattle.amo_book.specs.Pass.{PassState}
@@ -39,7 +38,3 @@ no_lines events none = subst (All CanSpell) (sym none) (All-nil CanSpell)
 -- a book that was opened with sides that it may have
 pub lawful_book : (sides : List (End × ℕ)) (n : ℕ) (b : BookState) (passes : List PassState) (charges : List ChargeState) → Opens sides n b passes charges → IsLawful sides n → IsLawful b.sides b.passes
 lawful_book sides n b passes charges o lawful = subst (λ (l : List (End × ℕ)). IsLawful l b.passes) (sym o.sides_are) (subst (λ (m : ℕ). IsLawful sides m) (sym o.passes_are) lawful)
-
--- events that have lines are of streams of a host
-pub all_streams : (events : List Event) → All CanSpell events → All (λ (e : Event). IsStream e.stream) events
-all_streams events lines = All-weaker CanSpell (λ (e : Event). IsStream e.stream) (λ e l. l.stream) events lines
