@@ -22,3 +22,10 @@ count() {
         eval "echo \$$1"
     }
 }
+
+# From here on the allocator of a program with checks at run time is counted and refused.
+count_checked() {
+    ALLOC_AT=$(nm "$program" | sed -n 's/ T rattle_alloc$//p')
+    REALLOC_AT=$(nm "$program" | sed -n 's/ T rattle_realloc$//p')
+    export ALLOC_AT REALLOC_AT
+}
