@@ -1,5 +1,5 @@
 -- The events of two journals, while they enter a world.
-use Rattle.std.proofs.Common.{◌≡◌, ℕ, ◌+◌, ◌<◌, ◌≤◌, Option, None, Some, List, [], ◌∷◌, length, reverse, refl, sym, ◌∙◌, ap, subst, arith}
+use Rattle.std.proofs.Common.{◌≡◌, ℕ, ◌+◌, ◌<◌, Option, None, List, ◌∷◌, length, reverse, sym, ◌∙◌, ap, subst, arith}
 use Rattle.std.specs.Prelude.{IfSome}
 use Rattle.amo_world.specs.declared.event.Event.{Event}
 use Rattle.amo_world.specs.Stream.{IsStream}
@@ -7,7 +7,7 @@ use Rattle.amo_world.proofs.Serving.{serves}
 use Rattle.amo_audit.specs.declared.coming.Coming.{Coming}
 use Rattle.amo_audit.specs.declared.verdict.Verdict.TheVariants as verdict
 use Rattle.amo_audit.specs.declared.judgement.Judgement.TheVariants.{Whole}
-use Rattle.amo_audit.specs.Audit.{IsSound, JudgesEvents}
+use Rattle.amo_audit.specs.Audit.{IsSound}
 use Rattle.amo_audit.specs.Both.{NextMayGo}
 use Rattle.amo_audit.specs.Coming.{AreComing, left_of}
 use Rattle.amo_audit.specs.Entering.{HasEntered}

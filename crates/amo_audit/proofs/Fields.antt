@@ -54,6 +54,8 @@ act_is_fields side stream act.Get known = (letters (codes "get") refl, tt)
 act_is_fields side stream act.Ack known = (letters (codes "ack") refl, tt)
 act_is_fields Sender stream (act.Start word) known = (letters (codes "start") refl, (IsField-decimal word known, tt))
 act_is_fields Receiver stream (act.Start word) known = absurd known
+act_is_fields Sender stream (act.Batch word) known = absurd known
+act_is_fields Receiver stream (act.Batch word) known = absurd known
 act_is_fields Sender stream (act.Deliver p word) known = delivery_is_fields stream p word known
 act_is_fields Receiver stream (act.Deliver p word) known = delivery_is_fields stream p word known
 act_is_fields side stream act.Resend known = (letters (codes "resend") refl, tt)
@@ -124,6 +126,7 @@ joined_three u v w r = ap (λ (t : List ℕ). u ++ 32 ∷ t) (joined_two v w r) 
 pub text_of_both : (a : Act) (r : Reply) → text_of (act_fields a ++ reply_fields r) ≡ text_of (act_fields a) ++ 32 ∷ reply_text r
 text_of_both (act.Put m) r = joined_two (codes "put") (hex m) r
 text_of_both (act.Start word) r = joined_two (codes "start") (decimal word) r
+text_of_both (act.Batch word) r = joined_two (codes "batch") (decimal word) r
 text_of_both (act.Deliver p word) r = joined_three (codes "deliver") (hex (spelling p)) (decimal word) r
 text_of_both act.Get r = joined_one (codes "get") r
 text_of_both act.Ack r = joined_one (codes "ack") r
@@ -138,6 +141,7 @@ text_of_cons w (v ∷ ws) some = refl
 some_fields : (a : Act) (r : Reply) → act_fields a ++ reply_fields r ≢ []
 some_fields (act.Put m) r e = cc
 some_fields (act.Start word) r e = cc
+some_fields (act.Batch word) r e = cc
 some_fields (act.Deliver p word) r e = cc
 some_fields _ r e = cc
 

@@ -9,7 +9,7 @@ use Rattle.std.proofs.lemmas.Cmp.{tied_itself}
 use Rattle.amo_object.specs.declared.step.End.{End}
 use Rattle.amo_object.specs.End.{other}
 use Rattle.amo_core.specs.declared.act.Act.{Act}
-use Rattle.amo_core.specs.declared.act.Act.TheVariants.{Put, Get, Ack, Start, Resend, Deliver, Crash, Recover}
+use Rattle.amo_core.specs.declared.act.Act.TheVariants.{Put, Get, Ack, Start, Batch, Resend, Deliver, Crash, Recover}
 use Rattle.amo_packet.specs.contracts.packet.OwnedPacketOrd.TheImpl.Laws.{total-law}
 use Rattle.amo_packet.proofs.Ties.{packets_tie}
 use Rattle.amo_audit.specs.Side.{order}
@@ -190,6 +190,7 @@ was_decided s side (Put m) = inl tt
 was_decided s side Get = inl tt
 was_decided s side Ack = inl tt
 was_decided s side (Start word) = inl tt
+was_decided s side (Batch word) = inl tt
 was_decided s side Resend = inl tt
 was_decided s side (Deliver packet word) = among packet (emitted_by s (other side))
 was_decided s side Crash = inl tt

@@ -4,6 +4,7 @@ use Rattle.std.specs.Fmt.{decimal}
 use Rattle.std.specs.Cmp.Lexicographic.{pointwise}
 use Rattle.std.proofs.lemmas.Fmt.{decimal_injective}
 use Rattle.amo_object.specs.declared.step.End.{End}
+use Rattle.amo_object.specs.declared.step.End.TheVariants.{Sender, Receiver}
 use Rattle.amo_packet.specs.declared.packet.OwnedPacket.{OwnedPacket}
 use Rattle.amo_packet.specs.Grammar.{spelling}
 use Rattle.amo_packet.specs.Stream.{IsStream}
@@ -63,6 +64,7 @@ other_kind (act.Put m) command text rest known other e = unlike command (codes "
 other_kind act.Get command text rest known other e = unlike command (codes "get") text rest known (letters (codes "get") refl) other e
 other_kind act.Ack command text rest known other e = unlike command (codes "ack") text rest known (letters (codes "ack") refl) other e
 other_kind (act.Start word) command text rest known other e = unlike command (codes "start") text (decimal word ++ 32 ∷ rest) known (letters (codes "start") refl) other e
+other_kind (act.Batch word) command text rest known other e = unlike command (codes "batch") text (decimal word ++ 32 ∷ rest) known (letters (codes "batch") refl) other e
 other_kind act.Resend command text rest known other e = unlike command (codes "resend") text rest known (letters (codes "resend") refl) other e
 other_kind (act.Deliver p word) command text rest known other e = unlike command (codes "deliver") text ((hex (spelling p) ++ 32 ∷ decimal word) ++ 32 ∷ rest) known (letters (codes "deliver") refl) other e
 other_kind act.Crash command text rest known other e = unlike command (codes "crash") text rest known (letters (codes "crash") refl) other e
@@ -76,6 +78,10 @@ no_put text none a rest fits e = other_kind a (codes "put") text rest (letters (
 pub no_start : (text : List ℕ) → ((word : ℕ) (rest : List ℕ) → word < 2 ^ 64 → text ≢ decimal word ++ 32 ∷ rest) → (a : Act) (rest : List ℕ) → IsAct a → codes "start" ++ 32 ∷ text ≢ act_and a rest
 no_start text none (act.Start word) rest fits e = none word rest fits cc
 no_start text none a rest fits e = other_kind a (codes "start") text rest (letters (codes "start") refl) refl e
+
+pub no_batch : (text : List ℕ) → ((word : ℕ) (rest : List ℕ) → word < 2 ^ 64 → text ≢ decimal word ++ 32 ∷ rest) → (a : Act) (rest : List ℕ) → IsAct a → codes "batch" ++ 32 ∷ text ≢ act_and a rest
+no_batch text none (act.Batch word) rest fits e = none word rest fits cc
+no_batch text none a rest fits e = other_kind a (codes "batch") text rest (letters (codes "batch") refl) refl e
 
 pub no_delivery : (text : List ℕ) → ((p : OwnedPacket) (word : ℕ) (rest : List ℕ) → IsPacket p → word < 2 ^ 64 → text ≢ hex (spelling p) ++ 32 ∷ (decimal word ++ 32 ∷ rest))
     → (a : Act) (rest : List ℕ) → IsAct a → codes "deliver" ++ 32 ∷ text ≢ act_and a rest
@@ -96,6 +102,7 @@ other_act text field more cut lacks other a rest e = by a e
     by act.Get e = differs name.Get rest (letters (codes "get") refl) e
     by act.Ack e = differs name.Ack rest (letters (codes "ack") refl) e
     by (act.Start word) e = differs name.Start (decimal word ++ 32 ∷ rest) (letters (codes "start") refl) e
+    by (act.Batch word) e = differs name.Batch (decimal word ++ 32 ∷ rest) (letters (codes "batch") refl) e
     by act.Resend e = differs name.Resend rest (letters (codes "resend") refl) e
     by (act.Deliver p word) e = differs name.Deliver ((hex (spelling p) ++ 32 ∷ decimal word) ++ 32 ∷ rest) (letters (codes "deliver") refl) e
     by act.Crash e = differs name.Crash rest (letters (codes "crash") refl) e
@@ -113,11 +120,17 @@ other_reply text field more cut lacks other reply.No e = no_cut 32 (codes "no") 
 other_reply text field more cut lacks other reply.NotYet e = no_cut 32 (codes "notyet") field more (letters (codes "notyet") refl).0 (sym e ∙ cut)
 other_reply text field more cut lacks other reply.Done e = no_cut 32 (codes "done") field more (letters (codes "done") refl).0 (sym e ∙ cut)
 
+-- a start of a batch has no line
+no_batch_at : (side : End) (stream word : ℕ) → HasAct side stream (act.Batch word) → ⊥
+no_batch_at Sender stream word known = known
+no_batch_at Receiver stream word known = known
+
 -- the acts and replies of lines are some that fields spell
 pub act_fits : (side : End) (stream : ℕ) (a : Act) → HasAct side stream a → IsAct a
 act_fits side stream (act.Put m) known = put_fits side stream m known
 act_fits side stream (act.Start word) known = start_fits side stream word known
-act_fits side stream (act.Deliver p word) known = let fits = delivery_fits side stream p word known in ((fits.0.spellable, fits.0.bytes), fits.1)
+act_fits side stream (act.Deliver p word) known = let fits = delivery_fits side stream p word known in ((fits.0.spellable, fits.0.version, fits.0.bytes), fits.1)
+act_fits side stream (act.Batch word) known = absurd (no_batch_at side stream word known)
 act_fits side stream _ known = tt
 
 pub reply_fits : (a : Act) (r : Reply) → HasReply a r → IsReply r
@@ -134,11 +147,15 @@ one_act_in_front (act.Start v) (act.Start w) x y f g e =
     let cut = one_number (decimal v ++ 32 ∷ x) x y v w f g refl cc in
     (ap act.Start cut.0, cut.1)
 one_act_in_front (act.Start v) b x y f g e = absurd (other_kind b (codes "start") (decimal v ++ 32 ∷ x) y (letters (codes "start") refl) refl e)
+one_act_in_front (act.Batch v) (act.Batch w) x y f g e =
+    let cut = one_number (decimal v ++ 32 ∷ x) x y v w f g refl cc in
+    (ap act.Batch cut.0, cut.1)
+one_act_in_front (act.Batch v) b x y f g e = absurd (other_kind b (codes "batch") (decimal v ++ 32 ∷ x) y (letters (codes "batch") refl) refl e)
 one_act_in_front (act.Deliver p v) (act.Deliver q w) x y f g e =
     let inner : (hex (spelling p) ++ 32 ∷ decimal v) ++ 32 ∷ x ≡ (hex (spelling q) ++ 32 ∷ decimal w) ++ 32 ∷ y = cc in
     let whole = sym (append_assoc (hex (spelling p)) (32 ∷ decimal v) (32 ∷ x)) ∙ inner ∙ append_assoc (hex (spelling q)) (32 ∷ decimal w) (32 ∷ y) in
-    let bytes = bytes_of_spelling p f.0.1 in
-    let bytes' = bytes_of_spelling q g.0.1 in
+    let bytes = bytes_of_spelling p f.0.2 in
+    let bytes' = bytes_of_spelling q g.0.2 in
     let cut = one_cut 32 (hex (spelling p)) (decimal v ++ 32 ∷ x) (hex (spelling q)) (decimal w ++ 32 ∷ y) (IsField-hex (spelling p) bytes).0 (IsField-hex (spelling q) bytes').0 whole in
     let packets = one_packet p q f.0.0 g.0.0 (hex-injective (spelling p) (spelling q) bytes bytes' cut.0) in
     let rest = one_number (decimal v ++ 32 ∷ x) x y v w f.1 g.1 refl cut.1 in

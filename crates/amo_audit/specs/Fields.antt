@@ -1,11 +1,11 @@
 -- What a line's fields spell by themselves, before it is asked whether the act is one of its side's and the reply one of its act's.
-use Rattle.std.specs.Prelude.{ℕ, ◌<◌, ◌^◌, List, ◌∷◌, ◌++◌}
+use Rattle.std.specs.Prelude.{ℕ, ◌<◌, ◌≤◌, ◌^◌, List, ◌∷◌, ◌++◌}
 use Rattle.std.specs.List.{AllByRecursion}
 use Rattle.std.specs.Fmt.{decimal}
 use Rattle.hex.specs.Hex.{IsBytes}
 use Rattle.amo_object.specs.declared.step.End.{End}
 use Rattle.amo_packet.specs.declared.packet.OwnedPacket.{OwnedPacket}
-use Rattle.amo_packet.specs.Grammar.{messages_of, IsSpellable}
+use Rattle.amo_packet.specs.Grammar.{messages_of, version_of, IsSpellable}
 use Rattle.amo_core.specs.declared.act.Act.{Act}
 use Rattle.amo_core.specs.declared.act.Act.TheVariants as act
 use Rattle.amo_core.specs.declared.reply.Reply.{Reply}
@@ -15,14 +15,15 @@ use Rattle.amo_text.specs.Side.{letter_of}
 use Rattle.amo_text.specs.Message.{IsMessage}
 use Rattle.amo_audit.specs.Journal.{act_fields}
 
--- a packet that a field of HEX spells
+-- a packet that a field of HEX spells, in the first version of packets
 abbrev pub IsPacket : OwnedPacket → Type 0
-IsPacket packet = IsSpellable packet × AllByRecursion IsBytes (messages_of packet.body)
+IsPacket packet = IsSpellable packet × (version_of packet.body ≤ 1) × AllByRecursion IsBytes (messages_of packet.body)
 
 -- an act that fields spell, at whichever side
 abbrev pub IsAct : Act → Type 0
 IsAct (act.Put m) = IsMessage m
 IsAct (act.Start word) = word < 2 ^ 64
+IsAct (act.Batch word) = word < 2 ^ 64
 IsAct (act.Deliver packet word) = IsPacket packet × (word < 2 ^ 64)
 IsAct _ = Unit {0}
 

@@ -1,12 +1,12 @@
 -- Journals: numbered events, a line each, and the bytes that spell them. One table says which acts a side has, one which replies an act has.
-use Rattle.std.specs.Prelude.{◌≡◌, ◌≢◌, ℕ, ◌+◌, ◌<◌, ◌^◌, Option, Some, None, List, [], ◌∷◌, ◌++◌, length, codes}
+use Rattle.std.specs.Prelude.{◌≡◌, ◌≢◌, ℕ, ◌+◌, ◌<◌, ◌≤◌, ◌^◌, Option, Some, None, List, [], ◌∷◌, ◌++◌, length, codes}
 use Rattle.std.specs.List.{AllByRecursion}
 use Rattle.std.specs.Fmt.{decimal}
 use Rattle.hex.specs.Hex.{IsBytes}
 use Rattle.amo_object.specs.declared.step.End.{End}
 use Rattle.amo_object.specs.declared.step.End.TheVariants.{Sender, Receiver}
 use Rattle.amo_packet.specs.declared.packet.OwnedPacket.{OwnedPacket}
-use Rattle.amo_packet.specs.Grammar.{spelling, messages_of, IsSpellable}
+use Rattle.amo_packet.specs.Grammar.{spelling, messages_of, version_of, IsSpellable}
 use Rattle.amo_packet.specs.Stream.{IsStream}
 use Rattle.amo_core.specs.declared.act.Act.{Act}
 use Rattle.amo_core.specs.declared.act.Act.TheVariants as act
@@ -28,18 +28,20 @@ act_fields (act.Put m) = codes "put" ∷ hex m ∷ []
 act_fields act.Ack = codes "ack" ∷ []
 act_fields act.Get = codes "get" ∷ []
 act_fields (act.Start word) = codes "start" ∷ decimal word ∷ []
+act_fields (act.Batch word) = codes "batch" ∷ decimal word ∷ []
 act_fields act.Resend = codes "resend" ∷ []
 act_fields (act.Deliver packet word) = codes "deliver" ∷ hex (spelling packet) ∷ decimal word ∷ []
 act_fields act.Crash = codes "crash" ∷ []
 act_fields act.Recover = codes "recover" ∷ []
 
--- what a field of HEX spells as a packet of a stream
+-- what a field of HEX spells as a packet of a stream, in the first version of packets
 pub record IsPacketOf (number : ℕ) (packet : OwnedPacket) : Type 0 where
+  pub version : version_of packet.body ≤ 1
   pub spellable : IsSpellable packet
   pub bytes : AllByRecursion IsBytes (messages_of packet.body)
   pub stream : packet.stream ≡ number
 
--- the acts of a side of a stream
+-- the acts of a side of a stream; a start of a batch has no line
 abbrev pub HasAct : End → ℕ → Act → Type 0
 HasAct Sender stream (act.Put m) = IsMessage m
 HasAct Sender stream act.Ack = Unit {0}

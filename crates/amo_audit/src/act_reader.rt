@@ -7,7 +7,7 @@ ghost use Rattle.amo_text.specs.Hexadecimal.{hex};
 ghost use Rattle.amo_audit.specs.Fields.{IsAct, IsPacket, act_and};
 
 use crate::line_reader::next_number;
-use amo_packet::{MAX_PACKET, OwnedPacket, read};
+use amo_packet::{MAX_PACKET_1, OwnedPacket, read_1};
 use amo_text::{ActName, next_field, read_act_name, read_hex, read_message};
 use amo_world::Act;
 use std::alloc::{AllocError, Global};
@@ -28,6 +28,7 @@ pub(crate) fn next_act(alloc: Global, text: &[u8]) -> Result<Option<(Act, &[u8])
         ActName::Get => Ok(Some((Act::Get, rest))),
         ActName::Ack => Ok(Some((Act::Ack, rest))),
         ActName::Start => Ok(next_start(rest)),
+        ActName::Batch => Ok(next_batch(rest)),
         ActName::Resend => Ok(Some((Act::Resend, rest))),
         ActName::Deliver => next_delivery(alloc, rest),
         ActName::Crash => Ok(Some((Act::Crash, rest))),
@@ -58,6 +59,15 @@ fn next_start(text: &[u8]) -> Option<(Act, &[u8])>
     Some((Act::Start(word), rest))
 }
 
+/// The start of a batch of which these are the fields after the first, and what stands behind it.
+fn next_batch(text: &[u8]) -> Option<(Act, &[u8])>
+    ensures found { IfSome result (λ a. IsAct a.0 × (codes "batch" ++ 32 ∷ text.now ≡ act_and a.0 a.1.now)) }
+    ensures none { IfNone result ((a : Act) (rest : List ℕ) → IsAct a → codes "batch" ++ 32 ∷ text.now ≢ act_and a rest) }
+{
+    let (word, rest) = next_number(text)?;
+    Some((Act::Batch(word), rest))
+}
+
 /// The delivery of which these are the fields after the first, and what stands behind it.
 fn next_delivery(alloc: Global, text: &[u8]) -> Result<Option<(Act, &[u8])>, AllocError>
     ensures found { IfOk result (λ read. IfSome read (λ a. IsAct a.0 × (codes "deliver" ++ 32 ∷ text.now ≡ act_and a.0 a.1.now))) }
@@ -80,7 +90,7 @@ fn read_packet(alloc: Global, field: &[u8]) -> Result<Option<OwnedPacket>, Alloc
     ensures found { IfOk result (λ read. IfSome read (λ p. IsPacket p × (field.now ≡ hex (spelling p)))) }
     ensures none { IfOk result (λ read. IfNone read ((p : OwnedPacket) → IsPacket p → field.now ≢ hex (spelling p))) }
 {
-    let mut room = [0; MAX_PACKET];
+    let mut room = [0; MAX_PACKET_1];
     let Some(count) = read_hex(field, &mut room) else {
         return Ok(None);
     };
@@ -90,12 +100,12 @@ fn read_packet(alloc: Global, field: &[u8]) -> Result<Option<OwnedPacket>, Alloc
     Ok(Some(packet))
 }
 
-/// The packet that these bytes spell, with its message copied.
+/// The packet that these bytes spell in the first version of packets, with its message copied.
 fn owned_packet(alloc: Global, bytes: &[u8]) -> Result<Option<OwnedPacket>, AllocError>
     ensures found { IfOk result (λ read. IfSome read (λ p. IsPacket p × (bytes.now ≡ spelling p))) }
     ensures none { IfOk result (λ read. IfNone read ((p : OwnedPacket) → IsPacket p → bytes.now ≢ spelling p)) }
 {
-    let Ok(packet) = read(bytes) else {
+    let Ok(packet) = read_1(bytes) else {
         return Ok(None);
     };
     Ok(Some(packet.copied(alloc)?))

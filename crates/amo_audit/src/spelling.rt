@@ -14,8 +14,8 @@ pub(crate) const PASSES: usize = 64;
 
 /// Whether each of these events has a line in a journal.
 ///
-/// Its pass is below 64, its stream is one of a host's, its act is one of its side's, its reply one of its act's, and
-/// the packet of a delivery is one of its stream.
+/// Its pass is below 64, its stream is one of a host's, its act is one of its side's and no start of a batch, its reply one of its act's, and
+/// the packet of a delivery is one of its stream and no batch.
 pub fn can_spell(events: &[Event]) -> bool
     ensures { IsTrue result ↔ All CanSpell events.now }
 {
@@ -82,6 +82,7 @@ fn is_packet_of(stream: u32, packet: &OwnedPacket) -> bool
         OwnedBody::NeedUid(id) | OwnedBody::Cleanup(id) | OwnedBody::Ack(id, _) => *id <= u64::MAX,
         OwnedBody::Accept(jd, id) => *jd <= u64::MAX && *id <= u64::MAX,
         OwnedBody::Send(id, message) => *id <= u64::MAX && is_message(message.bytes()),
+        OwnedBody::Batch(_, _) => false,
     };
     fits && packet.stream == stream
 }

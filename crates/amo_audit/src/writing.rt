@@ -1,6 +1,8 @@
 //! Writes journals.
 ghost use Rattle.std.specs.Prelude.{◌≡◌, ◌<◌, ◌↔◌, ◌⊎◌, ◌++◌, ◌∷◌, [], ℕ, List, All, OnOk, OnErr, IfErr, IsErrOf};
 ghost use Rattle.std.specs.Io.KnownBytes.{Appends};
+ghost use Rattle.amo_packet.specs.Grammar.{spelling};
+ghost use Rattle.amo_text.specs.Hexadecimal.{hex};
 ghost use Rattle.amo_text.specs.Line.{text_of, line_of};
 ghost use Rattle.amo_text.specs.Side.{letter_of};
 ghost use Rattle.amo_text.specs.Sink.{AppendsFront};
@@ -8,7 +10,7 @@ ghost use Rattle.amo_audit.specs.Journal.{CanSpell, IsJournal, act_fields, field
 
 use crate::JournalFault;
 use amo_object::End;
-use amo_packet::{MAX_PACKET, OwnedPacket, write};
+use amo_packet::{MAX_PACKET, MAX_PACKET_1, OwnedPacket, write};
 use amo_text::{Sink, push_decimal, push_hex, push_reply, write_all};
 use amo_world::{Act, Event};
 use std::alloc::{AllocError, Global};
@@ -80,6 +82,10 @@ fn push_act(text: &mut Vec<u8>, act: &Act) -> Result<(), AllocError>
             text.extend_from_slice(b"start ")?;
             push_decimal(text, *word)
         }
+        Act::Batch(word) => {
+            text.extend_from_slice(b"batch ")?;
+            push_decimal(text, *word)
+        }
         Act::Resend => text.extend_from_slice(b"resend"),
         Act::Deliver(packet, word) => push_delivery(text, packet, *word),
         Act::Crash => text.extend_from_slice(b"crash"),
@@ -91,12 +97,23 @@ fn push_act(text: &mut Vec<u8>, act: &Act) -> Result<(), AllocError>
 fn push_delivery(text: &mut Vec<u8>, packet: &OwnedPacket, word: u64) -> Result<(), AllocError>
     ensures { OnOk result (text.new.items ≡ text.old.items ++ text_of (act_fields (Act.Deliver packet.now word))) }
 {
-    let mut room = [0; MAX_PACKET];
-    let Ok(length) = write(&packet.as_packet(), &mut room) else {
-        unreachable!()
-    };
     text.extend_from_slice(b"deliver ")?;
-    push_hex(text, &room[..length])?;
+    push_packet(text, packet)?;
     text.push(b' ')?;
     push_decimal(text, word)
+}
+
+/// Appends the spelling of a packet, in HEX. Most packets are short, and the room for a long one costs more to make than they take.
+fn push_packet(text: &mut Vec<u8>, packet: &OwnedPacket) -> Result<(), AllocError>
+    ensures { OnOk result (text.new.items ≡ text.old.items ++ hex (spelling packet.now)) }
+{
+    let mut short = [0; MAX_PACKET_1];
+    if let Ok(length) = write(&packet.as_packet(), &mut short) {
+        return push_hex(text, &short[..length]);
+    }
+    let mut long = [0; MAX_PACKET];
+    let Ok(length) = write(&packet.as_packet(), &mut long) else {
+        unreachable!()
+    };
+    push_hex(text, &long[..length])
 }

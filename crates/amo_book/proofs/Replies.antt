@@ -20,7 +20,7 @@ use Rattle.amo_core.specs.Receiver as receiver
 use Rattle.amo_core.specs.Automaton.{row, handed_back}
 use Rattle.amo_world.specs.Stream.{Stream, reply_of}
 use Rattle.amo_world.specs.History.{stream_after}
-use Rattle.amo_world.proofs.Emitted.{start_is_done, resend_is_done, deliver_is_done, crash_is_done, recover_is_done}
+use Rattle.amo_world.proofs.Emitted.{start_is_done, batch_is_done, resend_is_done, deliver_is_done, crash_is_done, recover_is_done}
 use Rattle.amo_book.specs.Steps.{IsStateOf}
 use Rattle.amo_book.specs.Calls.{IsPutReply, IsGetReply, IsAckReply}
 use Rattle.amo_book.proofs.Histories.{reply-row}
@@ -71,7 +71,7 @@ HasGetReply r = ((m : List ℕ) × (r ≡ Some (reply.Got m))) ⊎ ((r ≡ Some 
 get_one : (s : receiver.ReceiverState) (mode : ReceiverMode) → HasGetReply (receiver.get s mode).reply
 get_one s receiving.Idle = inr (inl refl)
 get_one s (receiving.Accept jd id) = inr (inl refl)
-get_one s (receiving.Rcvd id m) = inl (m, refl)
+get_one s (receiving.Rcvd id b) = inl (b.first, refl)
 get_one s (receiving.Ack id) = inr (inl refl)
 get_one s receiving.Down = inr (inr refl)
 
@@ -152,6 +152,10 @@ done_known at stream a all = of_state (λ r. r ≡ Some reply.Done) at stream a 
 pub start_known : (at : End) (stream word : ℕ) → at ≡ side.Sender → (x : Automaton) → IsStateOf at stream x → (row x (act.Start word)).reply ≡ Some reply.Done
 start_known at stream word is = done_known at stream (act.Start word)
     (λ s. subst (λ (t : End). reply_of s t (act.Start word) ≡ Some reply.Done) (sym is) (start_is_done s word))
+
+pub batch_known : (at : End) (stream word : ℕ) → at ≡ side.Sender → (x : Automaton) → IsStateOf at stream x → (row x (act.Batch word)).reply ≡ Some reply.Done
+batch_known at stream word is = done_known at stream (act.Batch word)
+    (λ s. subst (λ (t : End). reply_of s t (act.Batch word) ≡ Some reply.Done) (sym is) (batch_is_done s word))
 
 pub resend_known : (at : End) (stream : ℕ) (x : Automaton) → IsStateOf at stream x → (row x act.Resend).reply ≡ Some reply.Done
 resend_known at stream = done_known at stream act.Resend (λ s. resend_is_done s at)

@@ -51,6 +51,25 @@ impl Book {
         self.drive(pass, charge, Act::Start(word), out)
     }
 
+    /// Begins a handshake under a word for the first messages that wait, at most [`MAX_BATCH`](amo_packet::MAX_BATCH), which travel together, if
+    /// the sender is at rest and a message waits.
+    #[tactic(auto, using(crate::proofs::Replies::batch_known))]
+    pub fn start_batch(
+        &self,
+        pass: &mut Pass,
+        charge: &mut Charge,
+        word: u64,
+        out: &mut [u8; MAX_PACKET],
+    ) -> Result<Done, DriveFault>
+        requires book { (pass.old.book ≡ self.now.id) × IsChargeOf self.now.id self.now.sides charge.old }
+        requires sender { charge.old.side ≡ end_of.Sender }
+        ensures driven { IfOk result (Driven pass.old pass.new charge.old charge.new (act.Batch word) out.old out.new) }
+        ensures right { IsRight pass.new.seen }
+        ensures busy { IfErr result (λ fault. (fault ≡ DriveFault.Busy) × Unchanged pass.old pass.new charge.old charge.new out.old out.new) }
+    {
+        self.drive(pass, charge, Act::Batch(word), out)
+    }
+
     /// Emits the packet of the mode, if it has one.
     #[tactic(auto, using(crate::proofs::Replies::resend_known))]
     pub fn resend(
@@ -67,8 +86,8 @@ impl Book {
         self.drive(pass, charge, Act::Resend, out)
     }
 
-    /// Delivers a packet of the charge's stream, with the word for an accept. Memory is asked for only where the packet carries a byte,
-    /// and before anything happens.
+    /// Delivers a packet of the charge's stream, with the word for an accept. Memory is asked for only where a message of the packet has a
+    /// byte, for all its messages, and before anything happens.
     #[tactic(auto, using(crate::proofs::Replies::deliver_known))]
     pub fn deliver(
         &self,

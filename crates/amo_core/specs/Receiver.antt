@@ -3,6 +3,7 @@ use Rattle.std.specs.Prelude.{ℕ, ◌==◌, Bool, true, false, if◌then◌else
 use Rattle.amo_packet.specs.declared.packet.OwnedPacket.{OwnedPacket}
 use Rattle.amo_packet.specs.declared.packet.OwnedBody.{OwnedBody}
 use Rattle.amo_packet.specs.declared.packet.OwnedBody.TheVariants as packet
+use Rattle.amo_packet.specs.Batch.{Batch, alone, messages}
 use Rattle.amo_core.specs.declared.act.Act.{Act}
 use Rattle.amo_core.specs.declared.act.Act.TheVariants as act
 use Rattle.amo_core.specs.declared.reply.Reply.TheVariants as reply
@@ -26,7 +27,7 @@ initial stream = record { stream = stream; mode = Idle }
 abbrev pub kind : ReceiverMode → Mode
 kind Idle = kind_of.Idle
 kind (Accept jd id) = kind_of.Accept
-kind (Rcvd id m) = kind_of.Rcvd
+kind (Rcvd id b) = kind_of.Rcvd
 kind (Ack id) = kind_of.Ack
 kind Down = kind_of.Down
 
@@ -44,13 +45,17 @@ needuid s Idle jd word = emitting (record s { mode = Accept jd word }) (packet.A
 needuid s (Accept asked id) jd word = if asked == jd then emitting s (packet.Accept jd id) else quietly s
 needuid s _ jd word = quietly s
 
--- a send: its message is held under the identifier accepted last; under another one it emits an ack
+-- a batch: its messages are held under the identifier accepted last; under another one it emits an ack
+abbrev pub batch : ReceiverState → ReceiverMode → ℕ → Batch → Row ReceiverState
+batch s Idle id b = emitting s (packet.Ack id false)
+batch s (Accept jd accepted) id b = if accepted == id then quietly (record s { mode = Rcvd id b }) else emitting s (packet.Ack id false)
+batch s (Rcvd under held) id b = if under == id then quietly s else emitting s (packet.Ack id false)
+batch s (Ack under) id b = emitting s (packet.Ack id (under == id))
+batch s Down id b = quietly s
+
+-- a send: it is as a batch of its message alone
 abbrev pub send : ReceiverState → ReceiverMode → ℕ → List ℕ → Row ReceiverState
-send s Idle id m = emitting s (packet.Ack id false)
-send s (Accept jd accepted) id m = if accepted == id then quietly (record s { mode = Rcvd id m }) else emitting s (packet.Ack id false)
-send s (Rcvd under held) id m = if under == id then quietly s else emitting s (packet.Ack id false)
-send s (Ack under) id m = emitting s (packet.Ack id (under == id))
-send s Down id m = quietly s
+send s mode id m = batch s mode id (alone m)
 
 -- a cleanup: the sender is done with an identifier; a message that was not got yet is kept
 abbrev pub cleanup : ReceiverState → ReceiverMode → ℕ → Row ReceiverState
@@ -62,12 +67,18 @@ cleanup s _ id = quietly s
 abbrev pub deliver : ReceiverState → OwnedBody → ℕ → Row ReceiverState
 deliver s (packet.NeedUid jd) word = needuid s s.mode jd word
 deliver s (packet.Send id m) word = send s s.mode id m
+deliver s (packet.Batch id b) word = batch s s.mode id b
 deliver s (packet.Cleanup id) word = cleanup s s.mode id
 deliver s _ word = quietly s
 
--- the client gets the message
+-- the mode once the first of the messages held was got: it is acknowledged when the last one was
+abbrev pub with_rest : ℕ → List (List ℕ) → ReceiverMode
+with_rest id [] = Ack id
+with_rest id (m ∷ rest) = Rcvd id (record { first = m; rest = rest })
+
+-- the client gets the first message held
 abbrev pub get : ReceiverState → ReceiverMode → Row ReceiverState
-get s (Rcvd id m) = silent (record s { mode = Ack id }) (reply.Got m)
+get s (Rcvd id b) = silent (record s { mode = with_rest id b.rest }) (reply.Got b.first)
 get s Down = silent s reply.Down
 get s _ = silent s reply.Nothing
 
@@ -88,6 +99,7 @@ row s (act.Put m) = unknown s
 row s act.Get = get s s.mode
 row s act.Ack = unknown s
 row s (act.Start word) = unknown s
+row s (act.Batch word) = unknown s
 row s act.Resend = resend s s.mode
 row s (act.Deliver p word) = deliver s p.body word
 row s act.Crash = quietly (record s { mode = Down })
@@ -108,17 +120,17 @@ abbrev pub is_accepting : ReceiverMode → ℕ → Bool
 is_accepting (Accept jd accepted) id = accepted == id
 is_accepting _ id = false
 
--- the receiver holds a message that was sent under this identifier
+-- the receiver holds messages that were sent under this identifier
 abbrev pub is_holding : ReceiverMode → ℕ → Bool
-is_holding (Rcvd under m) id = under == id
+is_holding (Rcvd under b) id = under == id
 is_holding _ id = false
 
--- the receiver's client got the message that was sent under this identifier
+-- the receiver's client got all messages that were sent under this identifier
 abbrev pub is_acking : ReceiverMode → ℕ → Bool
 is_acking (Ack under) id = under == id
 is_acking _ id = false
 
 -- the messages that the receiver holds for its client
 abbrev pub held_by : ReceiverMode → List (List ℕ)
-held_by (Rcvd id m) = m ∷ []
+held_by (Rcvd id b) = messages b
 held_by _ = []

@@ -12,6 +12,9 @@ pub enum Act {
     Ack,
     /// The host begins a handshake for the first message that waits. The word is the identifier to ask under. A sender's.
     Start(u64),
+    /// The host begins a handshake for the first messages that wait, at most [`MAX_BATCH`](amo_packet::MAX_BATCH), which travel together.
+    /// The word is the identifier to ask under. A sender's.
+    Batch(u64),
     /// The host emits the packet of the mode, if it has one, since nothing came back.
     Resend,
     /// A packet comes, with the word that an accept would be made under. Whoever hands it in has looked at its stream.

@@ -4,6 +4,7 @@ ghost use Rattle.std.specs.Prelude.{◌≡◌, ℕ, Bool, List, [], ◌∷◌, t
 ghost use Rattle.amo_core.specs.declared.act.Act.{Act};
 ghost use Rattle.amo_core.specs.declared.mode.Mode.TheVariants as mode;
 ghost use Rattle.amo_core.specs.declared.reply.Reply.{Reply};
+ghost use Rattle.amo_packet.specs.Batch.{Batch, messages};
 ghost use Rattle.amo_core.specs.Act.{brought_by, got_by, AreEmpty};
 ghost use Rattle.amo_core.specs.Receiver.{ReceiverState};
 ghost use Rattle.amo_core.specs.Receiver as receiver;
@@ -27,12 +28,17 @@ pub fn cleanups_end_handshakes()
     ensures held { (s : ReceiverState) (id : ℕ) → receiver.held_by (receiver.cleanup s s.mode id).state.mode ≡ receiver.held_by s.mode }
 {}
 
-/// A send under the identifier that the receiver accepts brings its message; a send under any other leaves the receiver as it is.
+/// A send under the identifier that the receiver accepts brings its message, and a batch its messages, in order; under any other identifier
+/// they leave the receiver as it is.
 pub fn sends_are_held_only_where_accepted()
     ensures held { (s : ReceiverState) (id : ℕ) (m : List ℕ) → receiver.is_accepting s.mode id ≡ true →
         receiver.held_by (receiver.send s s.mode id m).state.mode ≡ m ∷ [] }
+    ensures held_batch { (s : ReceiverState) (id : ℕ) (b : Batch) → receiver.is_accepting s.mode id ≡ true →
+        receiver.held_by (receiver.batch s s.mode id b).state.mode ≡ messages b }
     ensures other { (s : ReceiverState) (id : ℕ) (m : List ℕ) → receiver.is_accepting s.mode id ≡ false →
         (receiver.send s s.mode id m).state ≡ s }
+    ensures other_batch { (s : ReceiverState) (id : ℕ) (b : Batch) → receiver.is_accepting s.mode id ≡ false →
+        (receiver.batch s s.mode id b).state ≡ s }
 {}
 
 /// An ack under the identifier that the sender sends under ends the sending; an ack under any other leaves the sender as it is.

@@ -8,7 +8,7 @@ mod emission;
 mod handshake;
 mod lookup;
 
-use crate::Mode;
+use crate::{Messages, Mode};
 use amo_packet::Message;
 use std::marker::Model;
 use std::mem;
@@ -21,9 +21,9 @@ pub enum ReceiverMode {
     Idle,
     /// Accepting sends under an identifier, second, for the sender's own, first.
     Accept(u64, u64),
-    /// Holding the message of an identifier for the client.
-    Rcvd(u64, Message),
-    /// Acknowledging that the message of an identifier was got.
+    /// Holding the messages of an identifier that the client did not get yet.
+    Rcvd(u64, Messages),
+    /// Acknowledging that all messages of an identifier were got.
     Ack(u64),
     /// The host is down.
     Down,
@@ -60,17 +60,19 @@ impl GetRefusal {
 ///              needuid(jd), with word id / accept(jd, id)
 ///        Idle ---------------------------------------------> Accept(jd, id)
 ///        ^ ^ ^                                                 |     |
-///        | | +------------------- cleanup(id) -----------------+     | send(id, m)
-///        | |                                                         v
-///        | +--- cleanup(id) --- Ack(id) <------- get / m ------- Rcvd(id, m)
+///        | | +------------------- cleanup(id) -----------------+     | send(id, m) or batch(id, ms)
+///        | |                      get / m, the last one              v
+///        | +--- cleanup(id) --- Ack(id) <------------------- Rcvd(id, ms) <--+
+///        |                                                       |           | get / m, with others after it
+///        |                                                       +-----------+
 ///        |
 ///        | recover
 ///       Down <---- crash, from every mode
 /// ```
 ///
-/// In `Accept(jd, id)` a needuid under `jd` emits the accept again. In `Rcvd(id, m)` the send that comes again emits
-/// nothing, and a cleanup takes nothing away. The send of `Ack(id)` emits an ack that says "got", and a send under any
-/// other identifier one that says "not known here". A resend emits the accept or the ack of the mode. While the host is
+/// In `Accept(jd, id)` a needuid under `jd` emits the accept again. In `Rcvd(id, ms)` what comes again emits
+/// nothing, and a cleanup takes nothing away. The send or the batch of `Ack(id)` emits an ack that says "got", and one under any
+/// other identifier an ack that says "not known here". A resend emits the accept or the ack of the mode. While the host is
 /// down nothing is emitted.
 #[derive(Drop)]
 pub struct Receiver {
@@ -100,14 +102,18 @@ impl Receiver {
         }
     }
 
-    /// Takes the message that has come, if one has.
+    /// Takes the first of the messages that have come, if any have.
     pub fn get(&mut self) -> Result<Message, GetRefusal>
         ensures row { table.row self.old act.Get ≡ silent self.new (get_reply result) }
     {
         match mem::replace(&mut self.mode, ReceiverMode::Down) {
             ReceiverMode::Down => Err(GetRefusal::Down),
-            ReceiverMode::Rcvd(id, message) => {
-                self.mode = ReceiverMode::Ack(id);
+            ReceiverMode::Rcvd(id, messages) => {
+                let (message, rest) = messages.split_first();
+                self.mode = match rest {
+                    Some(rest) => ReceiverMode::Rcvd(id, rest),
+                    None => ReceiverMode::Ack(id),
+                };
                 Ok(message)
             }
             other => {

@@ -8,7 +8,7 @@ mod emission;
 mod handshake;
 mod lookup;
 
-use crate::Mode;
+use crate::{Mode, Payload};
 use amo_packet::Message;
 use arrayvec::ArrayVec;
 use std::marker::Model;
@@ -22,10 +22,10 @@ pub const MAX_WAITING: usize = 16;
 pub enum SenderMode {
     /// At rest, with what is known of the last message sent: whether it was got.
     Quiet(bool),
-    /// Asking for an identifier, under one of its own, for a message.
-    NeedId(u64, Message),
-    /// Sending a message under the identifier that the receiver accepted.
-    Send(u64, Message),
+    /// Asking for an identifier, under one of its own, for what is to be sent.
+    NeedId(u64, Payload),
+    /// Sending under the identifier that the receiver accepted.
+    Send(u64, Payload),
     /// The host is down.
     Down,
 }
@@ -81,19 +81,20 @@ pub enum AckReply {
 /// The sender of one stream, with the messages that wait. Contracts see its state.
 ///
 /// ```text
-///                      start(jd) / needuid(jd)
-///        Quiet(got) -----------------------------> NeedId(jd, m)
+///                  start(jd) or batch(jd) / needuid(jd)
+///        Quiet(got) -----------------------------> NeedId(jd, ms)
 ///         ^      ^                                       |
-///         |      |                                       | accept(jd, id) / send(id, m)
+///         |      |                                       | accept(jd, id) / send(id, m) or batch(id, ms)
 ///         |      |  ack(id, got) / cleanup(id) if got    v
-///         |      +---------------------------------- Send(id, m)
+///         |      +---------------------------------- Send(id, ms)
 ///         |
 ///         | recover, as Quiet(no)
 ///        Down <---- crash, from every mode; the waiting list is forgotten too
 /// ```
 ///
-/// An accept that comes again in `Send(id, m)` emits nothing. Any other accept emits a cleanup, and so does any ack that
-/// says "got". A resend emits the needuid or the send of the mode. While the host is down nothing is emitted.
+/// A handshake that a start began is for one message, which a send carries; one that a batch began is for as many as waited, at most
+/// four, which a batch carries. An accept that comes again in `Send(id, ms)` emits nothing. Any other accept emits a cleanup, and so does any ack that
+/// says "got". A resend emits the needuid, the send or the batch of the mode. While the host is down nothing is emitted.
 #[derive(Drop)]
 pub struct Sender {
     stream: u32,

@@ -1,5 +1,5 @@
 -- Several pumps: their windows, and what they are made of.
-use Rattle.std.proofs.Common.{◌≡◌, ℕ, zero, suc, ◌+◌, ◌*◌, ◌/◌, ◌%◌, ◌<◌, ◌≤◌, min, List, [], ◌∷◌, ◌++◌, length, get_or, set, map, slice_get, vec_capacity, sum_by, ◌⊎◌, Some, refl, sym, ap, subst, ◌∙◌, inl, inr, cond, ltb, arith}
+use Rattle.std.proofs.Common.{false, ◌≡◌, ℕ, zero, suc, ◌+◌, ◌*◌, ◌/◌, ◌%◌, ◌<◌, ◌≤◌, min, List, [], ◌∷◌, ◌++◌, length, get_or, set, map, slice_get, vec_capacity, sum_by, ◌⊎◌, Some, refl, sym, ap, subst, ◌∙◌, inl, inr, cond, ltb, arith}
 use Rattle.std.specs.Global.{Vec}
 use Rattle.std.specs.List.{zip}
 use Rattle.std.proofs.Math.Nat.{mul-le-mul_left, mul-le-mul_right}
@@ -83,6 +83,14 @@ joined_at {W} (h ∷ hosts) (part ∷ parts) (w ∷ words) zero s at =
     (ap (λ (t : Station W). Some t.host) same, (part, refl, ap (λ (t : Station W). t.charges) (sym same)), ap (λ (t : Station W). Some t.words) same)
 joined_at (h ∷ hosts) (part ∷ parts) (w ∷ words) (suc p) s at = joined_at hosts parts words p s at
 
+-- it begins with plain starts
+pub joined_plain : {W : Type 0} (hosts : List Host) (parts : List (Vec ChargeState)) (words : List W) (p : ℕ) (s : Station W) → slice_get (joined hosts parts words) p ≡ Some s → s.batches ≡ false
+joined_plain [] parts words p s at = absurd (cc)
+joined_plain (h ∷ hosts) [] words p s at = absurd (cc)
+joined_plain (h ∷ hosts) (part ∷ parts) [] p s at = absurd (cc)
+joined_plain {W} (h ∷ hosts) (part ∷ parts) (w ∷ words) zero s at = ap (λ (t : Station W). t.batches) (sym (same_Some _ s at))
+joined_plain (h ∷ hosts) (part ∷ parts) (w ∷ words) (suc p) s at = joined_plain hosts parts words p s at
+
 -- before the first charge each pump has its part of none
 pub nothing_dealt : (n count : ℕ) (parts : List (Vec ChargeState)) → HasRoom n count parts → (p : ℕ) (part : Vec ChargeState) → slice_get parts p ≡ Some part → IsPart n p [] part.items × (count ≤ n * vec_capacity part)
 nothing_dealt n count parts room p part at =
@@ -118,7 +126,7 @@ joined_none (h ∷ hosts) (part ∷ parts) (w ∷ words) (inl (inr used)) = absu
 joined_none (h ∷ hosts) (part ∷ parts) (w ∷ words) (inr used) = absurd (omega arith)
 
 -- the first of what is left, and the rest
-pub Suit-first : (h : Host) (hosts : List Host) (part : Vec ChargeState) (parts : List (Vec ChargeState)) → Suit (h ∷ hosts) (part ∷ parts) → {W : Type 0} (w : W) → IsStation (record { host = h; charges = part.items; words = w })
+pub Suit-first : (h : Host) (hosts : List Host) (part : Vec ChargeState) (parts : List (Vec ChargeState)) → Suit (h ∷ hosts) (part ∷ parts) → {W : Type 0} (w : W) → IsStation (record { host = h; charges = part.items; words = w; batches = false })
 Suit-first h hosts part parts suit w = let is = suit.each 0 h part refl refl in record { host = is.host; modes = is.modes; sides = is.sides }
 
 pub Suit-rest : (h : Host) (hosts : List Host) (part : Vec ChargeState) (parts : List (Vec ChargeState)) → Suit (h ∷ hosts) (part ∷ parts) → Suit hosts parts
@@ -142,10 +150,11 @@ module _ {W : Type 0} (side : End) (charges : List ChargeState) (window n p : �
   }
 
   -- and a new one
-  pub part_begins : p < n → CanBeDivided charges window n n → Begins s.charges (share window n p) s.words s
-  part_begins turn lawful = record {
+  pub part_begins : p < n → CanBeDivided charges window n n → s.batches ≡ false → Begins s.charges (share window n p) s.words s
+  part_begins turn lawful plain = record {
     charges_are = refl;
     words_are = refl;
+    plain = plain;
     host = is.fresh ∙ ap (λ e. fresh e s.host.modes (share window n p)) (ap (λ (h : Host). h.side) (sym is.fresh)) ∙ ap (λ ms. fresh s.host.side ms (share window n p)) (sym modes_of_part);
     station = part_station;
     lawful = record {
@@ -163,7 +172,7 @@ module _ {W : Type 0} (charges : List ChargeState) (window n : ℕ) (words : Lis
   -- each new host is one of the part in its place
   pub suit_each : Suit hosts parts
   suit_each = record {
-    each = λ p h part found at. part_station side charges window n p (record { host = h; charges = part.items; words = tt {0} }) all (has.each p h found) (are.each p part at);
+    each = λ p h part found at. part_station side charges window n p (record { host = h; charges = part.items; words = tt {0}; batches = false }) all (has.each p h found) (are.each p part at);
   }
 
   -- so the pumps that are made of them divide the charges
@@ -175,7 +184,7 @@ module _ {W : Type 0} (charges : List ChargeState) (window n : ℕ) (words : Lis
         count = length-joined hosts parts words n has.count are.count lawful.a_word_each;
         part = λ p s at. dealt_to p s at;
         word = λ p s at. (joined_at hosts parts words p s at).2;
-        begins = λ p s at. let found = joined_at hosts parts words p s at in part_begins side charges window n p s all (has.each p s.host found.0) (dealt_to p s at) (omega (arith, has.count, slice_get_within hosts p s.host found.0)) even;
+        begins = λ p s at. let found = joined_at hosts parts words p s at in part_begins side charges window n p s all (has.each p s.host found.0) (dealt_to p s at) (omega (arith, has.count, slice_get_within hosts p s.host found.0)) even (joined_plain hosts parts words p s at);
       }
     where
       dealt_to : (p : ℕ) (s : Station W) → slice_get (joined hosts parts words) p ≡ Some s → IsPart n p charges s.charges

@@ -106,6 +106,10 @@ down_start : (st word : ℕ) (waiting rest : List (List ℕ)) → is_open (sende
 down_start st word waiting [] = refl
 down_start st word waiting (m ∷ rest) = refl
 
+down_batch : (st word : ℕ) (waiting rest : List (List ℕ)) → is_open (sender.kind (sender.start_batch (state st sending.Down waiting) sending.Down rest word).state.mode) ≡ false
+down_batch st word waiting [] = refl
+down_batch st word waiting (m ∷ rest) = refl
+
 sender_opens : (st : ℕ) (waiting : List (List ℕ)) (mode : SenderMode) (a : Act) → is_open (sender.kind (sender.row (state st mode waiting) a).state.mode) ≡ true → is_open (sender.kind mode) ≡ false → MayOpen a (sender.kind mode)
 sender_opens st waiting (sending.NeedId jd m) a now_open was_shut = absurd (cc was_shut)
 sender_opens st waiting (sending.Send id m) a now_open was_shut = absurd (cc was_shut)
@@ -113,6 +117,7 @@ sender_opens st waiting (sending.Quiet got) (act.Put m) now_open was_shut = absu
 sender_opens st waiting (sending.Quiet got) act.Get now_open was_shut = absurd (cc now_open)
 sender_opens st waiting (sending.Quiet got) act.Ack now_open was_shut = absurd (cc (now_open, get_ack_shut st got waiting waiting))
 sender_opens st waiting (sending.Quiet got) (act.Start word) now_open was_shut = tt
+sender_opens st waiting (sending.Quiet got) (act.Batch word) now_open was_shut = tt
 sender_opens st waiting (sending.Quiet got) act.Resend now_open was_shut = absurd (cc now_open)
 sender_opens st waiting (sending.Quiet got) (act.Deliver p word) now_open was_shut = elim p.body as (λ b. is_open (sender.kind (sender.deliver (state st (sending.Quiet got) waiting) b).state.mode) ≡ true → ⊥) [
   | packet.NeedUid jd ↦ λ y. absurd (cc y)
@@ -120,6 +125,7 @@ sender_opens st waiting (sending.Quiet got) (act.Deliver p word) now_open was_sh
   | packet.Send id m ↦ λ y. absurd (cc y)
   | packet.Ack id b ↦ λ y. absurd (cc (y, ack_shut st got waiting id b))
   | packet.Cleanup id ↦ λ y. absurd (cc y)
+  | packet.Batch id b ↦ λ y. absurd (cc y)
 ] now_open
 sender_opens st waiting (sending.Quiet got) act.Crash now_open was_shut = absurd (cc now_open)
 sender_opens st waiting (sending.Quiet got) act.Recover now_open was_shut = absurd (cc now_open)
@@ -127,6 +133,7 @@ sender_opens st waiting sending.Down (act.Put m) now_open was_shut = absurd (cc 
 sender_opens st waiting sending.Down act.Get now_open was_shut = absurd (cc now_open)
 sender_opens st waiting sending.Down act.Ack now_open was_shut = absurd (cc (now_open, down_get_ack st waiting waiting))
 sender_opens st waiting sending.Down (act.Start word) now_open was_shut = absurd (cc (now_open, down_start st word waiting waiting))
+sender_opens st waiting sending.Down (act.Batch word) now_open was_shut = absurd (cc (now_open, down_batch st word waiting waiting))
 sender_opens st waiting sending.Down act.Resend now_open was_shut = absurd (cc now_open)
 sender_opens st waiting sending.Down (act.Deliver p word) now_open was_shut = elim p.body as (λ b. is_open (sender.kind (sender.deliver (state st sending.Down waiting) b).state.mode) ≡ true → ⊥) [
   | packet.NeedUid jd ↦ λ y. absurd (cc y)
@@ -134,6 +141,7 @@ sender_opens st waiting sending.Down (act.Deliver p word) now_open was_shut = el
   | packet.Send id m ↦ λ y. absurd (cc y)
   | packet.Ack id b ↦ λ y. absurd (cc y)
   | packet.Cleanup id ↦ λ y. absurd (cc y)
+  | packet.Batch id b ↦ λ y. absurd (cc y)
 ] now_open
 sender_opens st waiting sending.Down act.Crash now_open was_shut = absurd (cc now_open)
 sender_opens st waiting sending.Down act.Recover now_open was_shut = absurd (cc now_open)

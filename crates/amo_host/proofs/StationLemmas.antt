@@ -17,7 +17,7 @@ use Rattle.amo_object.specs.declared.step.End.{End}
 use Rattle.amo_world.specs.Stream.{Stream, emission_of}
 use Rattle.amo_book.specs.Pass.{PassState}
 use Rattle.amo_host.specs.declared.host_act.HostAct.{HostAct}
-use Rattle.amo_host.specs.declared.host_act.HostAct.TheVariants.{Start, Resend, Deliver, Crash, Recover}
+use Rattle.amo_host.specs.declared.host_act.HostAct.TheVariants.{Start, Batch, Resend, Deliver, Crash, Recover}
 use Rattle.amo_host.specs.declared.turned.Turned.{Turned}
 use Rattle.amo_host.specs.declared.turned.Turned.TheVariants.{Idle, Unread, Stranger, Did}
 use Rattle.amo_host.specs.HostAct.{act_of, kind_of, is_resend, IsDownOrUp, Suits, Carries}
@@ -36,9 +36,9 @@ module _ {W : Type 0} (s : Station W) (is : IsStation s) (place : ℕ) (c : Char
   mode_at_place = ap (λ (ms : List StreamMode). slice_get ms place) (sym is.modes) ∙ slice_get-map stream_mode_of s.charges place ∙ ap (option_map stream_mode_of) at
 
   -- the pump after the charge answered a mode
-  pub station_after : (g : Host) (d : ChargeState) (resent : Bool) (mode : Mode) (now : ℕ) (w : W) → d ≡ record c { mode = mode } → IsHost g → Noted s.host g place (stream_mode_of c) resent mode now
-      → IsStation (record { host = g; charges = set s.charges place d; words = w })
-  station_after g d resent mode now w new host noted = record {
+  pub station_after : (g : Host) (d : ChargeState) (resent : Bool) (mode : Mode) (now : ℕ) (w : W) (b : Bool) → d ≡ record c { mode = mode } → IsHost g → Noted s.host g place (stream_mode_of c) resent mode now
+      → IsStation (record { host = g; charges = set s.charges place d; words = w; batches = b })
+  station_after g d resent mode now w b new host noted = record {
     host = host;
     modes = map-set stream_mode_of s.charges place d ∙ ap (λ (ms : List StreamMode). set ms place (stream_mode_of d)) is.modes ∙ ap (λ (x : ChargeState). set s.host.modes place (stream_mode_of x)) new ∙ sym noted.modes;
     sides = subst (λ side. Each (IsOfSide side) (set s.charges place d)) (sym noted.side)
@@ -65,6 +65,7 @@ module _ {W : Type 0} (s : Station W) (is : IsStation s) (place : ℕ) where
 -- a crash or a recovery is asked of any charge
 pub suits_any : (a : HostAct) (c : ChargeState) → IsDownOrUp a → Suits a c
 suits_any (Start word) c never = absurd never
+suits_any (Batch word) c never = absurd never
 suits_any Resend c never = absurd never
 suits_any (Deliver p word) c never = absurd never
 suits_any Crash c down = tt
@@ -73,6 +74,7 @@ suits_any Recover c down = tt
 -- it opens no handshake
 pub opens_none : (a : HostAct) (was : Mode) → IsDownOrUp a → ¬ (MayOpen (act_of a) was)
 opens_none (Start word) was never opens = never
+opens_none (Batch word) was never opens = never
 opens_none Resend was never opens = never
 opens_none (Deliver p word) was never opens = never
 opens_none Crash was down opens = opens
@@ -81,6 +83,7 @@ opens_none Recover was down opens = opens
 -- it emits nothing, takes no memory, and is no resend
 pub is_silent : (a : HostAct) → IsDownOrUp a → (x : Stream) (side : End) → emission_of x side (act_of a) ≡ None
 is_silent (Start word) never = absurd never
+is_silent (Batch word) never = absurd never
 is_silent Resend never = absurd never
 is_silent (Deliver p word) never = absurd never
 is_silent Crash down = crash_is_silent
@@ -88,6 +91,7 @@ is_silent Recover down = recover_is_silent
 
 pub carries_none : (a : HostAct) → IsDownOrUp a → ¬ (Carries a)
 carries_none (Start word) never carries = never
+carries_none (Batch word) never carries = never
 carries_none Resend never carries = never
 carries_none (Deliver p word) never carries = never
 carries_none Crash down carries = carries
@@ -95,6 +99,7 @@ carries_none Recover down carries = carries
 
 pub is_once : (a : HostAct) → IsDownOrUp a → is_resend a ≡ false
 is_once (Start word) never = refl
+is_once (Batch word) never = refl
 is_once Resend never = absurd never
 is_once (Deliver p word) never = refl
 is_once Crash down = refl

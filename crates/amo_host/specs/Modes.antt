@@ -1,7 +1,7 @@
 -- What a mode means to a host.
 use Rattle.std.specs.Prelude.{Bool, true, false}
 use Rattle.amo_core.specs.declared.act.Act.{Act}
-use Rattle.amo_core.specs.declared.act.Act.TheVariants.{Start}
+use Rattle.amo_core.specs.declared.act.Act.TheVariants.{Start, Batch}
 use Rattle.amo_core.specs.declared.mode.Mode.{Mode}
 use Rattle.amo_core.specs.declared.mode.Mode.TheVariants.{Quiet, NeedId, Send, Idle, Down}
 
@@ -11,9 +11,10 @@ is_open NeedId = true
 is_open Send = true
 is_open _ = false
 
--- a handshake opens by a start at rest alone
+-- a handshake opens by a start at rest alone, of one message or of a batch
 abbrev pub MayOpen : Act → Mode → Type 0
 MayOpen (Start word) Quiet = Unit {0}
+MayOpen (Batch word) Quiet = Unit {0}
 MayOpen _ _ = ⊥
 
 -- the stream has a timer: all modes but those at rest and down

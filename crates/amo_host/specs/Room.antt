@@ -1,5 +1,5 @@
 -- What several pumps are made of.
-use Rattle.std.specs.Prelude.{◌≡◌, ℕ, ◌≤◌, ◌*◌, List, [], map, length, slice_get, Some, vec_capacity}
+use Rattle.std.specs.Prelude.{false, ◌≡◌, ℕ, ◌≤◌, ◌*◌, List, [], map, length, slice_get, Some, vec_capacity}
 use Rattle.std.specs.Global.{Vec}
 use Rattle.std.specs.List.{zip}
 use Rattle.amo_object.specs.declared.step.End.{End}
@@ -32,7 +32,7 @@ pub record AreDealt (charges : List ChargeState) (pumps : ℕ) (parts : List (Ve
 
 -- a pump of this host, these charges and these words
 abbrev pub station_of : {W : Type 0} → (Host × Vec ChargeState) × W → Station W
-station_of t = record { host = t.0.0; charges = t.0.1.items; words = t.1 }
+station_of t = record { host = t.0.0; charges = t.0.1.items; words = t.1; batches = false }
 
 -- the pumps of these hosts, charges and words
 abbrev pub joined : {W : Type 0} → List Host → List (Vec ChargeState) → List W → List (Station W)
@@ -40,4 +40,4 @@ joined hosts parts words = map station_of (zip (zip hosts parts) words)
 
 -- each host is one of the charges in its place
 pub record Suit (hosts : List Host) (parts : List (Vec ChargeState)) : Type 0 where
-  pub each : (p : ℕ) (h : Host) (part : Vec ChargeState) → slice_get hosts p ≡ Some h → slice_get parts p ≡ Some part → IsStation (record { host = h; charges = part.items; words = tt {0} })
+  pub each : (p : ℕ) (h : Host) (part : Vec ChargeState) → slice_get hosts p ≡ Some h → slice_get parts p ≡ Some part → IsStation (record { host = h; charges = part.items; words = tt {0}; batches = false })

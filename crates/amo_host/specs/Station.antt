@@ -1,5 +1,5 @@
 -- A pump, as contracts see it.
-use Rattle.std.specs.Prelude.{◌≡◌, ℕ, List, map}
+use Rattle.std.specs.Prelude.{◌≡◌, ℕ, Bool, false, List, map}
 use Rattle.amo_book.specs.Book.{BookState, Each}
 use Rattle.amo_book.specs.Charge.{ChargeState, IsChargeOf}
 use Rattle.amo_book.specs.Pass.{PassState}
@@ -8,11 +8,12 @@ use Rattle.amo_host.specs.Charges.{CanBeDriven, IsOfSide, stream_mode_of}
 use Rattle.amo_host.specs.declared.fault.NewPumpFault.{NewPumpFault}
 use Rattle.amo_host.specs.declared.fault.NewPumpFault.TheVariants.{Limits, NoMemory}
 
--- the host that the pump drives, its charges, and the words that are still to come
+-- the host that the pump drives, its charges, the words that are still to come, and whether the messages that wait travel together
 pub record Station (W : Type 0) : Type 0 where
   pub host : Host
   pub charges : List ChargeState
   pub words : W
+  pub batches : Bool
 
 -- The host is one of these charges, all of its side. So the permits that are out are exactly those of the streams whose charge
 -- answered NeedId or Send last, and no more than the window allows.
@@ -25,10 +26,11 @@ pub record IsStation {W : Type 0} (s : Station W) : Type 0 where
 abbrev pub BelongTogether : {W : Type 0} → BookState → PassState → Station W → Type 0
 BelongTogether book pass s = (pass.book ≡ book.id) × Each (IsChargeOf book.id book.sides) s.charges
 
--- a new pump: it has these charges and words, no permit is out, and no timer is set
+-- a new pump: it has these charges and words, no permit is out, no timer is set, and each message travels by itself
 pub record Begins {W : Type 0} (charges : List ChargeState) (window : ℕ) (words : W) (s : Station W) : Type 0 where
   pub charges_are : s.charges ≡ charges
   pub words_are : s.words ≡ words
+  pub plain : s.batches ≡ false
   pub host : s.host ≡ fresh s.host.side (map stream_mode_of charges) window
   pub station : IsStation s
   pub lawful : CanBeDriven charges window

@@ -36,6 +36,7 @@ pub record Happened {W : Type 0} (s t : Station W) (v w : PassState) (old new : 
   pub driven : Driven v w charge (record charge { mode = done.mode }) a old new done
   pub charges : t.charges ≡ slice_set s.charges place (record charge { mode = done.mode })
   pub noted : Noted s.host t.host place (stream_mode_of charge) resent done.mode now
+  pub batches : t.batches ≡ s.batches
 
 -- no event: pump, pass and buffer are as they were
 abbrev pub Nothing : {W : Type 0} → Station W → Station W → PassState → PassState → List ℕ → List ℕ → Type 0
@@ -71,15 +72,23 @@ module _ {W : Type 0} (to_come : W → ℕ → Option ℕ) where
   DrewFor (packet.NeedUid jd) words rest word = Drew words rest word
   DrewFor _ words rest word = (rest ≡ words) × (word ≡ 0)
 
-  -- a turn without input: there is nothing to do, the first due stream is resent, or the next quiet charge is started
+  -- the next quiet charge is started by this act, under the next word
+  abbrev pub Starts : ℕ → Station W → Station W → PassState → PassState → List ℕ → List ℕ → ℕ → Act → End → ℕ → Done → Type 0
+  Starts now s t v w old new word a side stream done =
+      (place : ℕ) × IsNext s.host now (task.Start place) × Drew s.words t.words word
+      × Happened (moved_past s place) t v w old new place now a false side stream done
+
+  -- a turn without input: there is nothing to do, the first due stream is resent, or the next quiet charge is started, for one
+  -- message or for a batch
   abbrev pub TurnsAlone : ℕ → Station W → Station W → PassState → PassState → List ℕ → List ℕ → Turned → Type 0
   TurnsAlone now s t v w old new Idle = IsNext s.host now task.Idle × Nothing s t v w old new
   TurnsAlone now s t v w old new (Did side stream kind.Resend done) =
       (place : ℕ) × IsNext s.host now (task.Resend place) × (t.words ≡ s.words)
       × Happened s t v w old new place now act.Resend true side stream done
   TurnsAlone now s t v w old new (Did side stream (kind.Start word) done) =
-      (place : ℕ) × IsNext s.host now (task.Start place) × Drew s.words t.words word
-      × Happened (moved_past s place) t v w old new place now (act.Start word) false side stream done
+      (s.batches ≡ false) × Starts now s t v w old new word (act.Start word) side stream done
+  TurnsAlone now s t v w old new (Did side stream (kind.Batch word) done) =
+      (s.batches ≡ true) × Starts now s t v w old new word (act.Batch word) side stream done
   TurnsAlone now s t v w old new _ = ⊥
 
   -- a turn with these bytes: they spell no packet, one that is for no charge, or one that is delivered
@@ -102,6 +111,7 @@ module _ {W : Type 0} (to_come : W → ℕ → Option ℕ) where
     pub pass : w ≡ v
     pub buffer : new ≡ old
     pub charges : t.charges ≡ s.charges
+    pub batches : t.batches ≡ s.batches
     pub host : t.host ≡ record s.host { rotation = t.host.rotation }
     pub words : (t.words ≡ s.words) ⊎ ((k : ℕ) → to_come t.words k ≡ to_come s.words (k + 1))
     pub lacks : fault ≡ NoWord → to_come s.words 0 ≡ None

@@ -192,7 +192,9 @@ fn side_of(body: &Body<'_>) -> End
 {
     match body {
         Body::Accept(_, _) | Body::Ack(_, _) => End::Sender,
-        Body::NeedUid(_) | Body::Send(_, _) | Body::Cleanup(_) => End::Receiver,
+        Body::NeedUid(_) | Body::Send(_, _) | Body::Batch(_, _) | Body::Cleanup(_) => {
+            End::Receiver
+        }
     }
 }
 

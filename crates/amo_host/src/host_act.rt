@@ -13,6 +13,7 @@ use std::alloc::Global;
 #[derive(Clone, Copy, Debug)]
 pub enum HostAct<'a> {
     Start(u64),
+    Batch(u64),
     Resend,
     Deliver(Packet<'a>, u64),
     Crash,
@@ -25,6 +26,7 @@ impl HostAct<'_> {
     {
         match self {
             HostAct::Start(word) => Kind::Start(*word),
+            HostAct::Batch(word) => Kind::Batch(*word),
             HostAct::Resend => Kind::Resend,
             HostAct::Deliver(_, word) => Kind::Deliver(*word),
             HostAct::Crash => Kind::Crash,
@@ -55,6 +57,7 @@ impl HostAct<'_> {
     {
         let done = match self {
             HostAct::Start(word) => book.start(pass, charge, *word, out)?,
+            HostAct::Batch(word) => book.start_batch(pass, charge, *word, out)?,
             HostAct::Resend => book.resend(pass, charge, out)?,
             HostAct::Deliver(packet, word) => book.deliver(
                 alloc, pass, charge, packet, *word, out,

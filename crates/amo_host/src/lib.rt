@@ -14,7 +14,8 @@
 //! and sets it anew in a mode that waits for an answer; a resend that changes nothing lets the next one come twice as late.
 //!
 //! [`Pump::crash`] and [`Pump::recover`] are a host's own events, one stream at a time; [`Pump::renew`] hands in the words of the
-//! next incarnation, and [`Pump::finish`] gives the charges back.
+//! next incarnation, and [`Pump::finish`] gives the charges back. After [`Pump::batches`] a start takes as many messages as
+//! wait, up to four, which travel together.
 #![tactic(auto)]
 
 mod agenda;

@@ -33,6 +33,7 @@ pub struct Pump<W> {
     pub(crate) charges: Vec<Charge>,
     pub(crate) agenda: Agenda,
     pub(crate) words: W,
+    pub(crate) batches: bool,
 }
 
 impl<W> Model for Pump<W> {
@@ -40,9 +41,9 @@ impl<W> Model for Pump<W> {
 
     ghost Value = { Station W };
 
-    ghost view = { λ p. record { host = p.agenda; charges = p.charges.items; words = p.words } };
+    ghost view = { λ p. record { host = p.agenda; charges = p.charges.items; words = p.words; batches = p.batches } };
 
-    ghost invariant = { λ p. IsStation (record { host = p.agenda; charges = p.charges.items; words = p.words }) };
+    ghost invariant = { λ p. IsStation (record { host = p.agenda; charges = p.charges.items; words = p.words; batches = p.batches }) };
 }
 
 impl<W: Words + Drop> Pump<W> {
@@ -67,6 +68,7 @@ impl<W: Words + Drop> Pump<W> {
                 charges,
                 agenda,
                 words,
+                batches: false,
             }),
             Err(WindowFault::NoMemory) => Err(NewPumpFault::NoMemory(charges, words)),
             Err(WindowFault::Limits) => unreachable!(),
@@ -113,6 +115,15 @@ impl<W: Words + Drop> Pump<W> {
         self.words = words;
     }
 
+    /// From now on a start is for as many messages as wait, at most [`MAX_BATCH`](amo_packet::MAX_BATCH), which travel together; or for one
+    /// message again.
+    pub fn batches(&mut self, together: bool)
+        ensures set { self.new ≡ record self.old { batches = together } }
+        ensures station { IsStation self.new }
+    {
+        self.batches = together;
+    }
+
     /// Gives all permits back, and hands the charges out, in their order.
     pub fn finish(self) -> Vec<Charge>
         ensures { result.items ≡ self.charges }
@@ -122,6 +133,7 @@ impl<W: Words + Drop> Pump<W> {
             charges,
             agenda,
             words,
+            batches: _,
         } = self;
         drop(agenda);
         drop(words);

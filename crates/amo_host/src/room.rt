@@ -171,6 +171,7 @@ pub fn assemble<W: Words + Drop>(
             charges,
             agenda,
             words,
+            batches: false,
         });
     }
     pumps

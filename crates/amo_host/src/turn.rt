@@ -59,7 +59,12 @@ impl<W: Words + Drop> Pump<W> {
             Task::Start(place) => {
                 let word = self.draw()?;
                 self.move_past(place);
-                self.perform(book, pass, now, place, HostAct::Start(word), out)
+                let start = if self.batches {
+                    HostAct::Batch(word)
+                } else {
+                    HostAct::Start(word)
+                };
+                self.perform(book, pass, now, place, start, out)
             }
         }
     }

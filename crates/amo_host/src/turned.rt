@@ -8,6 +8,8 @@ use amo_packet::ReadFault;
 pub enum Kind {
     /// A handshake was begun, if a message waited, under this word.
     Start(u64),
+    /// The same for the first messages that waited, which travel together.
+    Batch(u64),
     /// The packet of the mode was emitted again.
     Resend,
     /// A packet was delivered, with this word for an accept.

@@ -45,15 +45,16 @@ delivers : (side : End) (stream : ℕ) (p : OwnedPacket) (word : ℕ) → IsPack
 delivers Sender stream p word h small = (h, small)
 delivers Receiver stream p word h small = (h, small)
 
--- a packet that bytes spell, for a charge of its stream
-pub deliver_suits : (c : ChargeState) (bytes : List ℕ) (newest : ℕ) (p : OwnedPacket) (word : ℕ) → IsBytes bytes → Spells newest bytes p → p.stream ≡ c.stream → word < 2 ^ 64 → Suits c (act.Deliver p word)
-deliver_suits c bytes newest p word known spelt of small =
-    let whole = packet_spelt bytes newest p p known spelt refl in
-    (tt, delivers c.side c.stream p word (record { spellable = whole.0.0; bytes = whole.0.1; stream = of }) small)
+-- a packet that bytes spell in the first version, for a charge of its stream
+pub deliver_suits : (c : ChargeState) (bytes : List ℕ) (p : OwnedPacket) (word : ℕ) → IsBytes bytes → Spells 1 bytes p → p.stream ≡ c.stream → word < 2 ^ 64 → Suits c (act.Deliver p word)
+deliver_suits c bytes p word known spelt of small =
+    let whole = packet_spelt bytes p p known spelt refl in
+    (tt, delivers c.side c.stream p word (record { version = whole.0.1; spellable = whole.0.0; bytes = whole.0.2; stream = of }) small)
 
 -- a host's acts are answered
 pub acts_done : (a : Act) → IsHostAct a → HasReply a Done
 acts_done (act.Put m) h = absurd h
+acts_done (act.Batch word) h = absurd h
 acts_done act.Get h = absurd h
 acts_done act.Ack h = absurd h
 acts_done (act.Start word) h = tt

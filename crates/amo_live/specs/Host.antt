@@ -76,9 +76,10 @@ abbrev pub Did : {L S : Type 0} → HostState L S → HostState L S → ℕ → 
 Did h g stream a None = IsIdle h g
 Did h g stream a (Some mode) = (side : End) × Happens h g side stream a mode
 
--- the acts of a host
+-- the acts of a host, which starts no batches
 abbrev pub IsHostAct : Act → Type 0
 IsHostAct (act.Put m) = ⊥
+IsHostAct (act.Batch word) = ⊥
 IsHostAct act.Get = ⊥
 IsHostAct act.Ack = ⊥
 IsHostAct _ = Unit {0}

@@ -31,6 +31,7 @@ pub record FreshState : Type 0 where
 -- the words, and that of an act, if it may have used one up
 abbrev pub with_act : WordSet → Act → WordSet
 with_act used (act.Start word) = insert used word
+with_act used (act.Batch word) = insert used word
 with_act used (act.Deliver packet word) = insert used word
 with_act used _ = used
 

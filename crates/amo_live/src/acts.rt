@@ -12,7 +12,7 @@ use amo_book::{Book, Charge, Done, DriveFault, Pass};
 use amo_core::{Act, Mode, Reply};
 use amo_net::Link;
 use amo_object::End;
-use amo_packet::{Body, MAX_PACKET, NEWEST_VERSION, Packet, read};
+use amo_packet::{Body, MAX_PACKET, Packet, read_1};
 use amo_text::Sink;
 use std::alloc::Global;
 
@@ -80,15 +80,15 @@ impl<L: Link, S: Sink> Host<L, S> {
     }
 
     /// Delivers the packet that a datagram is, with this word for an accept, if it is one for a side of this host. Answers its stream, and the
-    /// kind of the side's mode then.
+    /// kind of the side's mode then. It knows the packets of the first version, which have a line in a journal.
     pub fn deliver(&mut self, bytes: &[u8], word: u64) -> Result<Option<(u32, Mode)>, LiveFault>
         requires { IsNoted S.written self.old }
-        ensures delivered { IfOk result (Delivered self.old self.new NEWEST_VERSION bytes.now word) }
+        ensures delivered { IfOk result (Delivered self.old self.new 1 bytes.now word) }
         ensures noted { OnOk result (IsNoted S.written self.new) }
         ensures begun { OnErr result (IsBegun S.written self.new) }
         ensures stays { Stays self.old self.new }
     {
-        let Ok(packet) = read(bytes) else {
+        let Ok(packet) = read_1(bytes) else {
             return Ok(None);
         };
         let stream = packet.stream;
@@ -154,14 +154,13 @@ impl<L: Link, S: Sink> Host<L, S> {
         let charge = &mut self.charges[place];
         let side = charge.side();
         let stream = charge.stream();
-        let mut out = [0; MAX_PACKET];
         let done = match drive(
             self.alloc,
             &self.book,
             &mut self.pass,
             charge,
             &act,
-            &mut out,
+            &mut self.room,
         ) {
             Ok(done) => done,
             Err(DriveFault::Busy) => return Ok(None),
@@ -172,7 +171,7 @@ impl<L: Link, S: Sink> Host<L, S> {
             Ok(_) => (),
             Err(fault) => return Err(fault),
         }
-        let Ok(()) = self.outbox.push(out, done.length) else {
+        let Ok(()) = self.outbox.push(&self.room, done.length) else {
             return Err(LiveFault::NoMemory);
         };
         Ok(Some(done.mode))
@@ -183,7 +182,9 @@ impl<L: Link, S: Sink> Host<L, S> {
 fn is_for(side: End, packet: &Packet<'_>) -> bool {
     match packet.body {
         Body::Accept(_, _) | Body::Ack(_, _) => side == End::Sender,
-        Body::NeedUid(_) | Body::Send(_, _) | Body::Cleanup(_) => side == End::Receiver,
+        Body::NeedUid(_) | Body::Send(_, _) | Body::Batch(_, _) | Body::Cleanup(_) => {
+            side == End::Receiver
+        }
     }
 }
 
@@ -209,6 +210,7 @@ fn drive(
         }
         Act::Crash => book.crash(pass, charge),
         Act::Recover => book.recover(pass, charge),
+        Act::Batch(_) => unreachable!(),
         Act::Put(_) => unreachable!(),
         Act::Get => unreachable!(),
         Act::Ack => unreachable!(),

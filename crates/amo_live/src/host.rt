@@ -9,6 +9,7 @@ use crate::{Durable, Journal, LiveFault};
 use amo_book::{Book, Charge, OpenFault, Pass};
 use amo_net::{Link, MAX_DATAGRAM};
 use amo_object::End;
+use amo_packet::MAX_PACKET;
 use amo_text::Sink;
 use std::alloc::{AllocError, Global};
 use std::marker::Model;
@@ -25,6 +26,8 @@ pub struct Host<L, S> {
     pub(crate) pass: Pass,
     pub(crate) charges: Vec<Charge>,
     pub(crate) link: L,
+    // An act writes the packet here that it emits.
+    pub(crate) room: [u8; MAX_PACKET],
     pub(crate) outbox: Outbox,
     pub(crate) journal: Journal<S>,
 }
@@ -68,6 +71,7 @@ impl<L: Link + Drop, S: Sink + Drop> Host<L, S> {
                     pass,
                     charges,
                     link,
+                    room: [0; MAX_PACKET],
                     outbox: Outbox::new(alloc),
                     journal,
                 })

@@ -8,13 +8,15 @@ use crate::{OpenFault, UsedWords};
 use amo_audit::read_line;
 use amo_core::Act;
 use amo_object::End;
+use amo_packet::MAX_PACKET;
 use amo_text::next_line;
 use amo_world::Event;
 use std::alloc::{AllocError, Global};
 use std::marker::Model;
 
-/// A longer text is no line: a delivery of the longest packet has less.
-const LONGEST_LINE: usize = 4096;
+/// A longer text is no line. The longest line is that of a delivery of the longest packet, in HEX; its other fields, which are a number, a pass,
+/// a side, a stream, `deliver`, a word and `done`, have 57 bytes at most, and there are 7 spaces.
+const LONGEST_LINE: usize = 2 * MAX_PACKET + 64;
 
 /// What was read so far. Contracts see the side that each line is of, how many lines and bytes are whole, the bytes behind them, and the words
 /// that the lines may have used up.
@@ -166,7 +168,7 @@ fn use_up(used: &mut UsedWords, event: &Event) -> Result<(), AllocError>
     ensures { OnOk result (used.new ≡ with_act used.old event.now.act) }
 {
     match &event.act {
-        Act::Start(word) => used.insert(*word),
+        Act::Start(word) | Act::Batch(word) => used.insert(*word),
         Act::Deliver(_, word) => used.insert(*word),
         _ => Ok(()),
     }

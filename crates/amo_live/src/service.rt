@@ -11,7 +11,7 @@ use crate::{FreshWords, Host, LiveFault};
 use amo_core::{MAX_WAITING, Mode};
 use amo_net::{Link, MAX_DATAGRAM};
 use amo_object::End;
-use amo_packet::{Body, Message, read};
+use amo_packet::{Body, Message, read_1};
 use amo_text::Sink;
 use amo_word::Words;
 use std::alloc::{AllocError, Global};
@@ -362,7 +362,7 @@ impl<L: Link, S: Sink, W: Words> Service<L, S, W> {
 
     /// The word that a packet is delivered with: the next one for a needuid, 0 for any other. None for what is no packet, or where no word is left.
     fn word_for(&self, bytes: &[u8]) -> Option<u64> {
-        let packet = read(bytes).ok()?;
+        let packet = read_1(bytes).ok()?;
         match packet.body {
             Body::NeedUid(_) => self.words.peek(),
             _ => Some(0),

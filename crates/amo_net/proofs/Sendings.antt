@@ -1,8 +1,8 @@
 -- What the words of a channel do to the datagrams of one direction.
-use Rattle.std.proofs.Common.{◌≡◌, ℕ, zero, suc, ◌+◌, ◌-◌, ◌<◌, ◌≤◌, ◌%◌, min, List, [], ◌∷◌, ◌++◌, length, take, drop, replicate, refl, ap, ◌∙◌, sym, subst, arith, length-append}
+use Rattle.std.proofs.Common.{◌≡◌, ℕ, zero, suc, ◌+◌, ◌<◌, ◌≤◌, ◌%◌, List, [], ◌∷◌, ◌++◌, length, take, drop, replicate, refl, ap, ◌∙◌, sym, subst, arith, length-append}
 use Rattle.std.proofs.lemmas.List.{append-nil, take_all, length-replicate}
 use Rattle.std.proofs.Math.Nat.{zero-mod}
-use Rattle.std.specs.Prelude.{remove, slice_get, Option, Some}
+use Rattle.std.specs.Prelude.{remove, slice_get, Some}
 use Rattle.amo_net.specs.Lossy.{Takes, copies_of, queued_copies, sent}
 use Rattle.amo_net.specs.declared.direction.TheConstants.{MAX_QUEUED}
 use Rattle.amo_net.specs.declared.link.TheConstants.{MAX_DATAGRAM}

@@ -15,7 +15,7 @@
 //! The definitions stand in `specs/`: what a send and a receive do to a direction in `Lossy.antt`.
 #![tactic(auto)]
 
-mod batch;
+mod burst;
 mod direction;
 mod fail_once;
 mod fault;

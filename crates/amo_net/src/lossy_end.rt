@@ -1,7 +1,7 @@
 //! One end of a channel that two threads share.
 ghost use Rattle.std.specs.Prelude.{◌≡◌, IfErr};
 
-use crate::batch::Batch;
+use crate::burst::Burst;
 use crate::{Link, LinkFault, Lossy, MAX_DATAGRAM};
 use amo_object::End;
 use amo_word::Words;
@@ -10,10 +10,11 @@ use std::sync::{Mutex, Wait};
 
 /// One end of a locked channel. It holds the permission to wait for the lock, and its device never fails.
 ///
-/// A receive that has the lock takes out up to sixteen datagrams, one after another as [`Lossy::receive`] does, and the next receives hand
-/// them out. Until the last of them is handed out, sends are kept back, up to sixteen; then they go, one after another as [`Lossy::send`]
-/// does. For each change of the lock's holder takes longer than all of that. What goes waits for the lock. A look for what has come does not:
-/// while the other end is at the channel, nothing has come.
+/// A receive that has the lock takes out a burst of up to sixteen datagrams, one after another as [`Lossy::receive`] does, and the next
+/// receives hand them out. Until the last of them is handed out, sends are kept back, up to sixteen; then they go, one after another as
+/// [`Lossy::send`] does. For each change of the lock's holder takes longer than all of that. A burst has room for four of the longest
+/// datagrams, so of long ones there are fewer. What goes waits for the lock. A look for what has come does not: while the other end is at
+/// the channel, nothing has come.
 ///
 /// What was taken out and not handed out when an end is dropped is lost, and so is what was kept back.
 ///
@@ -27,9 +28,9 @@ pub struct LossyEnd<'a, W, R: Wait> {
     into: &'a Mutex<Lossy<W>>,
     end: End,
     /// What was taken out, and is to be handed out.
-    taken: Batch,
+    taken: Burst,
     /// What was kept back, and is to go.
-    kept_back: Batch,
+    kept_back: Burst,
 }
 
 impl<'a, W, R: Wait> Model for LossyEnd<'a, W, R> {
@@ -63,8 +64,8 @@ impl<'a, W, R: Wait> LossyEnd<'a, W, R> {
             out,
             into,
             end,
-            taken: Batch::new(),
-            kept_back: Batch::new(),
+            taken: Burst::new(),
+            kept_back: Burst::new(),
         }
     }
 }

@@ -1,11 +1,17 @@
 -- What a kind's fields say: the numbers read from them are those that they spell.
-use Rattle.std.proofs.Common.{◌≡◌, ◌<◌, ◌≤◌, ◌^◌, ℕ, suc, Bool, List, [], ◌∷◌, ◌++◌, length, get_or, drop, sym, ap, ◌∙◌, arith}
+use Rattle.std.proofs.Common.{◌≡◌, ◌<◌, ◌≤◌, ◌^◌, ◌%◌, ℕ, suc, Bool, List, [], ◌∷◌, ◌++◌, length, get_or, drop, None, subst, sym, ap, ◌∙◌, arith}
+use Rattle.std.specs.List.{AllByRecursion}
 use Rattle.std.proofs.lemmas.List.{drop-drop, length-drop, drop_all, drop_more}
 use Rattle.byteorder.specs.Endian.{big_bytes, big_number}
 use Rattle.amo_packet.specs.declared.packet.OwnedBody.{OwnedBody}
-use Rattle.amo_packet.specs.declared.packet.OwnedBody.TheVariants.{NeedUid, Accept, Send, Ack, Cleanup}
-use Rattle.amo_packet.specs.Grammar.{header, flag, version_of, kind_of, fields_of, spelling, CanBeWritten, FitsFields, Spells}
+use Rattle.amo_packet.specs.declared.packet.OwnedBody.TheVariants.{NeedUid, Accept, Send, Ack, Cleanup, Batch}
+use Rattle.amo_packet.specs.Batch.{messages, batch_from}
+use Rattle.amo_packet.specs.Lent.{split}
+use Rattle.amo_packet.specs.Fault.{first_of, message_faults}
+use Rattle.amo_packet.specs.Grammar.{header, flag, version_of, kind_of, parts, fields_of, spelling, CanBeWritten, FitsFields, Spells}
 use Rattle.amo_packet.specs.Message.{IsShort}
+use Rattle.amo_packet.proofs.Batches.{messages-batch_from}
+use Rattle.amo_packet.proofs.MessageFaults.{length-split, split_spells}
 use Rattle.amo_packet.proofs.Numbers.{AreBytes, AreBytes-drop, big_bytes-of_8, big_bytes-of_4, big_bytes-of_2, big_bytes-all_8}
 
 -- a header and the fields of a packet spell it
@@ -19,12 +25,12 @@ Spells-fields newest stream b fields v s f short e = record {
 }
 
 -- what begins as a packet is a header and fields
-pub header_said : (bytes : List ℕ) (stream : ℕ) → 8 ≤ length bytes → AreBytes bytes → get_or bytes 0 0 ≡ 0x41 → get_or bytes 1 0 ≡ 0x4D → get_or bytes 2 0 ≡ 1 → stream ≡ big_number 4 (drop 4 bytes)
-    → bytes ≡ header 1 (get_or bytes 3 0) stream ++ drop 8 bytes
-header_said (a ∷ b ∷ c ∷ d ∷ rest) stream long fits first second third is =
+pub header_said : (bytes : List ℕ) (stream : ℕ) → 8 ≤ length bytes → AreBytes bytes → get_or bytes 0 0 ≡ 0x41 → get_or bytes 1 0 ≡ 0x4D → stream ≡ big_number 4 (drop 4 bytes)
+    → bytes ≡ header (get_or bytes 2 0) (get_or bytes 3 0) stream ++ drop 8 bytes
+header_said (a ∷ b ∷ c ∷ d ∷ rest) stream long fits first second is =
     let back = big_bytes-of_4 rest stream (omega arith) (λ i. fits (suc (suc (suc (suc i))))) is in
     cc
-header_said bytes stream long fits first second third is = absurd (omega arith)
+header_said bytes stream long fits first second is = absurd (omega arith)
 
 pub needuid_said : (newest stream jd : ℕ) (fields : List ℕ) → 1 ≤ newest → stream < 2 ^ 32 → jd < 2 ^ 64 → AreBytes fields → length fields ≡ 8 → jd ≡ big_number 8 fields
     → Spells newest (header 1 1 stream ++ fields) (record { stream = stream; body = NeedUid jd })
@@ -55,3 +61,18 @@ ack_said newest stream id got fields v s f bytes len is is' =
 pub cleanup_said : (newest stream id : ℕ) (fields : List ℕ) → 1 ≤ newest → stream < 2 ^ 32 → id < 2 ^ 64 → AreBytes fields → length fields ≡ 8 → id ≡ big_number 8 fields
     → Spells newest (header 1 5 stream ++ fields) (record { stream = stream; body = Cleanup id })
 cleanup_said newest stream id fields v s f bytes len is = Spells-fields newest stream (Cleanup id) fields v s f tt (big_bytes-all_8 fields id len bytes is)
+
+pub batch_said : (newest stream id count : ℕ) (fields : List ℕ) → 2 ≤ newest → stream < 2 ^ 32 → id < 2 ^ 64 → AreBytes fields → 9 ≤ length fields → id ≡ big_number 8 fields
+    → count ≡ get_or fields 8 0 → 1 ≤ count → count ≤ 4 → first_of (message_faults count (drop 9 fields)) ≡ None
+    → Spells newest (header 2 6 stream ++ fields) (record { stream = stream; body = Batch id (batch_from (split count (drop 9 fields))) })
+batch_said newest stream id count fields v s f bytes long is is' some most faultless =
+    let ms = split count (drop 9 fields) in
+    let len = length-split count (drop 9 fields) in
+    let carried = split_spells count (drop 9 fields) (AreBytes-drop 9 fields bytes) faultless in
+    let all : messages (batch_from ms) ≡ ms = messages-batch_from ms (omega arith) in
+    let few : length (batch_from ms).rest ≤ 3 = omega (arith, ap length all) in
+    let front = big_bytes-of_8 fields id (omega arith) bytes is in
+    let byte : get_or fields 8 0 ≡ length ms % 256 = omega arith in
+    let back : drop 8 fields ≡ big_bytes 1 (length ms) ++ parts ms = drop_more fields 8 0 (omega arith) ∙ cc (byte, carried.exact) in
+    Spells-fields newest stream (Batch id (batch_from ms)) fields v s (f, few) (subst (λ (xs : List (List ℕ)). AllByRecursion IsShort xs) (sym all) carried.short)
+    (front ∙ ap (λ (xs : List ℕ). big_bytes 8 id ++ xs) back ∙ ap (λ (xs : List (List ℕ)). big_bytes 8 id ++ big_bytes 1 (length xs) ++ parts xs) (sym all))

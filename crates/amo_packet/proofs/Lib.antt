@@ -1,5 +1,9 @@
 pub mod Numbers
+pub mod Batches
+pub mod Written
 pub mod Spellings
+pub mod MessageFaults
+pub mod Lending
 pub mod Fields
 pub mod Faults
 pub mod Faultless

@@ -7,8 +7,9 @@ use Rattle.amo_packet.specs.Grammar.{header, Spells}
 use Rattle.amo_packet.specs.Fault.{first_fault}
 
 -- the header and the fields spell what was read, or have this first fault
-abbrev pub IsReading : ℕ → List ℕ → Result Body ReadFault → Type 0
-IsReading kind fields (Ok body) =
-    (newest stream : ℕ) → 1 ≤ newest → stream < 2 ^ 32
-    → Spells newest (header 1 kind stream ++ fields) (record { stream = stream; body = body_of body })
-IsReading kind fields (Err fault) = (newest stream : ℕ) → 1 ≤ newest → first_fault newest (header 1 kind stream ++ fields) ≡ Some fault
+abbrev pub IsReading : ℕ → ℕ → List ℕ → Result Body ReadFault → Type 0
+IsReading version kind fields (Ok body) =
+    (newest stream : ℕ) → version ≤ newest → stream < 2 ^ 32
+    → Spells newest (header version kind stream ++ fields) (record { stream = stream; body = body_of body })
+IsReading version kind fields (Err fault) =
+    (newest stream : ℕ) → 1 ≤ version → version ≤ newest → first_fault newest (header version kind stream ++ fields) ≡ Some fault

@@ -6,7 +6,8 @@ use thiserror::Error;
 /// What is wrong with bytes that spell no packet. Whoever sent them is at fault; nothing was taken or changed.
 ///
 /// Where several faults hold, the first in this order counts: fewer than 8 bytes, magic, version, kind, fields that
-/// are not all there, flag, length, message bytes that are missing, bytes that follow.
+/// are not all there, flag, length, message bytes that are missing, bytes that follow. Of a batch, after the fields: its
+/// count; for each message in turn a length that is not there, the length, bytes that are missing; bytes that follow.
 #[derive(Clone, Copy, Debug, PartialEq, Eq, Error)]
 pub enum ReadFault {
     /// The bytes end before the packet does.
@@ -15,21 +16,24 @@ pub enum ReadFault {
     /// The first two bytes are not 41 4D.
     #[error("the bytes do not begin as a packet")]
     Magic,
-    /// The third byte is not 01.
+    /// The third byte is no version that is known.
     #[error("the version of the packet is not known")]
     Version,
-    /// The fourth byte is not 1 to 5.
+    /// The fourth byte is no kind of the version: 1 to 5 of version 01, and 6 of version 02.
     #[error("the kind of the packet is not known")]
     Kind,
     /// The flag of an ack is neither 0 nor 1.
     #[error("the flag of the ack is neither 0 nor 1")]
     Flag,
-    /// The length of a send's message is more than [`MAX_MESSAGE`](crate::MAX_MESSAGE).
+    /// The length of a message is more than [`MAX_MESSAGE`](crate::MAX_MESSAGE).
     #[error("the message of the packet is too long")]
     Length,
     /// Bytes follow the packet.
     #[error("bytes follow the packet")]
     Long,
+    /// The count of a batch is not 1 to [`MAX_BATCH`](crate::MAX_BATCH).
+    #[error("the batch has not one to four messages")]
+    Count,
 }
 
 impl ReadFault {
@@ -47,6 +51,7 @@ impl ReadFault {
             ReadFault::Flag => 15,
             ReadFault::Length => 16,
             ReadFault::Long => 17,
+            ReadFault::Count => 20,
         }
     }
 }

@@ -6,10 +6,12 @@ ghost use Rattle.std.specs.declared.cmp.Ordering.TheVariants.{Equal};
 ghost use Rattle.amo_packet.specs.declared.packet.OwnedBody.{OwnedBody};
 ghost use Rattle.amo_packet.specs.declared.packet.OwnedPacket.{OwnedPacket};
 ghost use Rattle.amo_packet.specs.Grammar.{version_of, kind_of, messages_of, spelling, CanBeWritten, CarriesNoBytes, IsSpellable, Spells};
-ghost use Rattle.amo_packet.specs.Fault.{fixed_length, first_fault};
+ghost use Rattle.amo_packet.specs.Fault.{fixed_length, length_in, first_fault};
 ghost use Rattle.amo_packet.specs.Stream.{IsStream};
 
-use crate::{MAX_MESSAGE, MAX_PACKET, NEWEST_VERSION, OwnedBody, OwnedPacket, STREAMS};
+use crate::{
+    MAX_MESSAGE, MAX_PACKET, MAX_PACKET_1, NEWEST_VERSION, OwnedBody, OwnedPacket, STREAMS,
+};
 
 /// No packet's spelling begins another's: of two that begin the same bytes the packets are one, and so is what follows.
 pub fn no_spelling_begins_another()
@@ -39,14 +41,15 @@ pub fn bytes_without_a_fault_spell_a_packet()
         first_fault newest bytes ≡ None }
 {}
 
-/// A spelling is as long as its kind's fixed part and its messages together. A message is within [`MAX_MESSAGE`], so a
-/// spelling is within [`MAX_PACKET`]. These two are 1024 and 1042.
+/// A spelling is as long as its kind's fixed part and what its messages take. A message is within [`MAX_MESSAGE`], so a
+/// spelling is within [`MAX_PACKET`], and one of the first version within [`MAX_PACKET_1`]. These are 1024, 4121 and 1042.
 pub fn spellings_are_bounded()
     ensures length_of { (p : OwnedPacket) →
-        length (spelling p) ≡ fixed_length (kind_of p.body) + sum_by length (messages_of p.body) }
+        length (spelling p) ≡ fixed_length (kind_of p.body) + sum_by (length_in (kind_of p.body)) (messages_of p.body) }
     ensures messages { (p : OwnedPacket) → CanBeWritten p.body → AllByRecursion (λ m. length m ≤ MAX_MESSAGE) (messages_of p.body) }
     ensures bounded { (p : OwnedPacket) → IsSpellable p → length (spelling p) ≤ MAX_PACKET }
-    ensures limits { (MAX_MESSAGE ≡ 1024) × (MAX_PACKET ≡ 1042) }
+    ensures bounded_1 { (p : OwnedPacket) → version_of p.body ≤ 1 → IsSpellable p → length (spelling p) ≤ MAX_PACKET_1 }
+    ensures limits { (MAX_MESSAGE ≡ 1024) × (MAX_PACKET ≡ 4121) × (MAX_PACKET_1 ≡ 1042) }
 {}
 
 /// A spelling consists of bytes, where its messages do.

@@ -1,12 +1,12 @@
-//! Packets, with the message owned or borrowed.
+//! Packets, with their messages owned or borrowed.
 ghost use Rattle.std.specs.Prelude.{◌≡◌, ◌↔◌, IfOk, OnErr, IsErrOf};
 ghost use Rattle.amo_packet.specs.Grammar.{CanBeWritten, CarriesNoBytes};
 ghost use Rattle.amo_packet.specs.Packet.{packet_of, body_of};
 
-use crate::{Message, MessageFault};
+use crate::{Batch, Message, MessageFault, Parts};
 use std::alloc::{AllocError, Global};
 
-/// What a packet says, with a message of its own.
+/// What a packet says, with messages of its own.
 #[derive(Clone, Debug, PartialEq, Eq, PartialOrd, Ord, Drop)]
 pub enum OwnedBody {
     /// The sender needs an identifier, and names one of its own by which to know the accept.
@@ -19,9 +19,11 @@ pub enum OwnedBody {
     Ack(u64, bool),
     /// The sender is done with the identifier.
     Cleanup(u64),
+    /// The sender sends all of its messages under the one identifier.
+    Batch(u64, Batch),
 }
 
-/// A packet that owns its message. Contracts speak of every packet as one of these.
+/// A packet that owns its messages. Contracts speak of every packet as one of these.
 #[derive(Clone, Debug, PartialEq, Eq, PartialOrd, Ord, Drop)]
 pub struct OwnedPacket {
     /// The stream's number. A packet may name any.
@@ -30,7 +32,7 @@ pub struct OwnedPacket {
     pub body: OwnedBody,
 }
 
-/// What a packet says, with the message where it lies. The variants are those of [`OwnedBody`].
+/// What a packet says, with its messages where they lie. The variants are those of [`OwnedBody`].
 #[derive(Clone, Copy, Debug)]
 pub enum Body<'a> {
     /// The sender needs an identifier, and names one of its own by which to know the accept.
@@ -43,9 +45,11 @@ pub enum Body<'a> {
     Ack(u64, bool),
     /// The sender is done with the identifier.
     Cleanup(u64),
+    /// The sender sends all of its messages under the one identifier.
+    Batch(u64, Parts<'a>),
 }
 
-/// A packet whose message lies in a datagram, or with its sender.
+/// A packet whose messages lie in a datagram, or with its sender.
 #[derive(Clone, Copy, Debug)]
 pub struct Packet<'a> {
     /// The stream's number. A packet may name any.
@@ -55,7 +59,7 @@ pub struct Packet<'a> {
 }
 
 impl OwnedBody {
-    /// What is said, with the message borrowed.
+    /// What is said, with the messages borrowed.
     pub fn as_body(&self) -> Body<'_>
         ensures value { body_of result ≡ self.now }
         ensures fits { CanBeWritten self.now }
@@ -66,12 +70,13 @@ impl OwnedBody {
             OwnedBody::Send(id, message) => Body::Send(*id, message.bytes()),
             OwnedBody::Ack(id, got) => Body::Ack(*id, *got),
             OwnedBody::Cleanup(id) => Body::Cleanup(*id),
+            OwnedBody::Batch(id, batch) => Body::Batch(*id, batch.as_parts()),
         }
     }
 }
 
 impl OwnedPacket {
-    /// The packet, with its message borrowed.
+    /// The packet, with its messages borrowed.
     pub fn as_packet(&self) -> Packet<'_>
         ensures value { packet_of result ≡ self.now }
         ensures fits { CanBeWritten self.now.body }
@@ -84,7 +89,7 @@ impl OwnedPacket {
 }
 
 impl Body<'_> {
-    /// What is said, with the message copied. It takes memory only for a message with a byte to copy.
+    /// What is said, with the messages copied. It takes memory only for a message with a byte to copy.
     pub fn to_owned(&self, alloc: Global) -> Result<OwnedBody, MessageFault>
         ensures ok { IfOk result (λ body. body ≡ body_of self.now) }
         ensures too_long { IsErrOf result MessageFault.TooLong ↔ (¬ (CanBeWritten (body_of self.now))) }
@@ -96,12 +101,13 @@ impl Body<'_> {
             Body::Send(id, message) => OwnedBody::Send(*id, Message::copy(alloc, message)?),
             Body::Ack(id, got) => OwnedBody::Ack(*id, *got),
             Body::Cleanup(id) => OwnedBody::Cleanup(*id),
+            Body::Batch(id, parts) => OwnedBody::Batch(*id, Batch::copy(alloc, parts)?),
         })
     }
 }
 
 impl Packet<'_> {
-    /// The packet, with its message copied. It takes memory only for a message with a byte to copy.
+    /// The packet, with its messages copied. It takes memory only for a message with a byte to copy.
     pub fn to_owned(&self, alloc: Global) -> Result<OwnedPacket, MessageFault>
         ensures ok { IfOk result (λ packet. packet ≡ packet_of self.now) }
         ensures too_long { IsErrOf result MessageFault.TooLong ↔ (¬ (CanBeWritten (body_of self.now.body))) }
@@ -114,7 +120,7 @@ impl Packet<'_> {
         })
     }
 
-    /// The same of a packet that was read or emitted, whose message keeps to its limit: only memory can be refused.
+    /// The same of a packet that was read or emitted, whose messages keep to their limit: only memory can be refused.
     pub fn copied(&self, alloc: Global) -> Result<OwnedPacket, AllocError>
         requires { CanBeWritten (body_of self.now.body) }
         ensures ok { IfOk result (λ packet. packet ≡ packet_of self.now) }

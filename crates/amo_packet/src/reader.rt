@@ -1,19 +1,20 @@
 //! Bytes into packets.
 #![tactic(auto, using(std::proofs::lemmas::Bool::Decides::nat_tests), unfolding(crate::specs::Fault::first_fault))]
 
-ghost use Rattle.std.specs.Prelude.{◌≡◌, ◌<◌, ◌≤◌, ◌^◌, ◌++◌, ◌↔◌, ◌⊎◌, ℕ, length, OnOk, IfOk, IfErr, IsOkAnd, IsErrOf};
+ghost use Rattle.std.specs.Prelude.{◌≡◌, ◌<◌, ◌≤◌, ◌^◌, ◌++◌, ◌↔◌, ◌⊎◌, ℕ, suc, length, None, OnOk, IfOk, IfErr, IsOkAnd, IsErrOf};
 ghost use Rattle.amo_packet.specs.declared.fault.ReadFault.{ReadFault};
 ghost use Rattle.amo_packet.specs.declared.packet.OwnedPacket.{OwnedPacket};
 ghost use Rattle.amo_packet.specs.Packet.{packet_of, body_of};
 ghost use Rattle.amo_packet.specs.Grammar.{header, CanBeWritten, Spells};
-ghost use Rattle.amo_packet.specs.Fault.{first_fault};
+ghost use Rattle.amo_packet.specs.Fault.{first_of, message_faults, first_fault};
 ghost use Rattle.amo_packet.specs.Reading.{IsReading};
 
 use crate::layout::{
-    ACCEPT, ACCEPT_LENGTH, ACK, ACK_LENGTH, CLEANUP, CLEANUP_LENGTH, HEADER_LENGTH, MAGIC, NEEDUID,
-    NEEDUID_LENGTH, NEWEST_VERSION, SEND, SEND_LENGTH, VERSION,
+    ACCEPT, ACCEPT_LENGTH, ACK, ACK_LENGTH, BATCH, BATCH_LENGTH, BATCH_VERSION, CLEANUP,
+    CLEANUP_LENGTH, FIRST_VERSION, HEADER_LENGTH, LENGTH_LENGTH, MAGIC, NEEDUID, NEEDUID_LENGTH,
+    NEWEST_VERSION, SEND, SEND_LENGTH,
 };
-use crate::{Body, MAX_MESSAGE, Packet, ReadFault};
+use crate::{Body, MAX_BATCH, MAX_MESSAGE, Packet, Parts, ReadFault};
 use byteorder::{BigEndian, ByteOrder};
 use std::cmp::Ordering;
 
@@ -28,15 +29,37 @@ pub fn read(bytes: &[u8]) -> Result<Packet<'_>, ReadFault>
     // A fault is the first in the order of faults.
     ensures fault { (f : ReadFault) → IsErrOf result f ↔ (first_fault NEWEST_VERSION bytes.now ≡ Some f) }
 {
-    let (kind, stream, fields) = read_header(bytes)?;
-    let body = read_body(kind, fields)?;
+    read_up_to(NEWEST_VERSION, bytes)
+}
+
+/// The same for a reader that knows version 01 alone, and so no batch.
+pub fn read_1(bytes: &[u8]) -> Result<Packet<'_>, ReadFault>
+    ensures found { IfOk result (λ p. Spells FIRST_VERSION bytes.now (packet_of p)) }
+    ensures complete { (p : OwnedPacket) → Spells FIRST_VERSION bytes.now p → IsOkAnd result (λ found. packet_of found ≡ p) }
+    ensures fits { IfOk result (λ p. CanBeWritten (body_of p.body)) }
+    ensures fault { (f : ReadFault) → IsErrOf result f ↔ (first_fault FIRST_VERSION bytes.now ≡ Some f) }
+{
+    read_up_to(FIRST_VERSION, bytes)
+}
+
+/// The same for a reader that knows the versions up to the newest.
+#[inline(always)]
+fn read_up_to(newest: u8, bytes: &[u8]) -> Result<Packet<'_>, ReadFault>
+    ensures found { IfOk result (λ p. Spells newest bytes.now (packet_of p)) }
+    ensures complete { (p : OwnedPacket) → Spells newest bytes.now p → IsOkAnd result (λ found. packet_of found ≡ p) }
+    ensures fits { IfOk result (λ p. CanBeWritten (body_of p.body)) }
+    ensures fault { (f : ReadFault) → IsErrOf result f ↔ (first_fault newest bytes.now ≡ Some f) }
+{
+    let (version, kind, stream, fields) = read_header(newest, bytes)?;
+    let body = read_body(version, kind, fields)?;
     Ok(Packet { stream, body })
 }
 
-/// The kind, the stream and the fields of what begins as a packet.
-fn read_header(bytes: &[u8]) -> Result<(u8, u32, &[u8]), ReadFault>
-    ensures found { IfOk result (λ h. (h.1 < 2 ^ 32) × (bytes.now ≡ header VERSION h.0 h.1 ++ h.2.now)) }
-    ensures fault { IfErr result (λ f. first_fault NEWEST_VERSION bytes.now ≡ Some f) }
+/// The version, the kind, the stream and the fields of what begins as a packet.
+fn read_header(newest: u8, bytes: &[u8]) -> Result<(u8, u8, u32, &[u8]), ReadFault>
+    ensures known { IfOk result (λ h. (1 ≤ h.0) × (h.0 ≤ newest)) }
+    ensures found { IfOk result (λ h. (h.2 < 2 ^ 32) × (bytes.now ≡ header h.0 h.1 h.2 ++ h.3.now)) }
+    ensures fault { IfErr result (λ f. first_fault newest bytes.now ≡ Some f) }
 {
     if bytes.len() < HEADER_LENGTH {
         return Err(ReadFault::Short);
@@ -44,16 +67,30 @@ fn read_header(bytes: &[u8]) -> Result<(u8, u32, &[u8]), ReadFault>
     if bytes[0] != MAGIC[0] || bytes[1] != MAGIC[1] {
         return Err(ReadFault::Magic);
     }
-    if bytes[2] != VERSION {
+    let version = bytes[2];
+    if version < FIRST_VERSION || version > newest {
         return Err(ReadFault::Version);
     }
     let stream = BigEndian::read_u32(&bytes[4..]);
-    Ok((bytes[3], stream, &bytes[HEADER_LENGTH..]))
+    Ok((version, bytes[3], stream, &bytes[HEADER_LENGTH..]))
 }
 
-/// What a packet of the kind says by these fields.
-fn read_body(kind: u8, fields: &[u8]) -> Result<Body<'_>, ReadFault>
-    ensures { IsReading kind fields.now result }
+/// What a packet of the version and the kind says by these fields.
+fn read_body(version: u8, kind: u8, fields: &[u8]) -> Result<Body<'_>, ReadFault>
+    ensures { IsReading version kind fields.now result }
+{
+    if version == FIRST_VERSION {
+        return read_body_1(kind, fields);
+    }
+    if version == BATCH_VERSION && kind == BATCH {
+        return read_batch(fields);
+    }
+    Err(ReadFault::Kind)
+}
+
+/// The same of version 01.
+fn read_body_1(kind: u8, fields: &[u8]) -> Result<Body<'_>, ReadFault>
+    ensures { IsReading FIRST_VERSION kind fields.now result }
 {
     match kind {
         NEEDUID => read_needuid(fields),
@@ -66,14 +103,14 @@ fn read_body(kind: u8, fields: &[u8]) -> Result<Body<'_>, ReadFault>
 }
 
 fn read_needuid(fields: &[u8]) -> Result<Body<'_>, ReadFault>
-    ensures { IsReading NEEDUID fields.now result }
+    ensures { IsReading FIRST_VERSION NEEDUID fields.now result }
 {
     expect_length(fields, NEEDUID_LENGTH)?;
     Ok(Body::NeedUid(BigEndian::read_u64(fields)))
 }
 
 fn read_accept(fields: &[u8]) -> Result<Body<'_>, ReadFault>
-    ensures { IsReading ACCEPT fields.now result }
+    ensures { IsReading FIRST_VERSION ACCEPT fields.now result }
 {
     expect_length(fields, ACCEPT_LENGTH)?;
     let jd = BigEndian::read_u64(fields);
@@ -82,7 +119,7 @@ fn read_accept(fields: &[u8]) -> Result<Body<'_>, ReadFault>
 }
 
 fn read_send(fields: &[u8]) -> Result<Body<'_>, ReadFault>
-    ensures { IsReading SEND fields.now result }
+    ensures { IsReading FIRST_VERSION SEND fields.now result }
 {
     if fields.len() < SEND_LENGTH {
         return Err(ReadFault::Short);
@@ -98,7 +135,7 @@ fn read_send(fields: &[u8]) -> Result<Body<'_>, ReadFault>
 }
 
 fn read_ack(fields: &[u8]) -> Result<Body<'_>, ReadFault>
-    ensures { IsReading ACK fields.now result }
+    ensures { IsReading FIRST_VERSION ACK fields.now result }
 {
     if fields.len() < ACK_LENGTH {
         return Err(ReadFault::Short);
@@ -115,10 +152,61 @@ fn read_ack(fields: &[u8]) -> Result<Body<'_>, ReadFault>
 }
 
 fn read_cleanup(fields: &[u8]) -> Result<Body<'_>, ReadFault>
-    ensures { IsReading CLEANUP fields.now result }
+    ensures { IsReading FIRST_VERSION CLEANUP fields.now result }
 {
     expect_length(fields, CLEANUP_LENGTH)?;
     Ok(Body::Cleanup(BigEndian::read_u64(fields)))
+}
+
+fn read_batch(fields: &[u8]) -> Result<Body<'_>, ReadFault>
+    ensures { IsReading BATCH_VERSION BATCH fields.now result }
+{
+    if fields.len() < BATCH_LENGTH {
+        return Err(ReadFault::Short);
+    }
+    let count = fields[8];
+    if count == 0 || usize::from(count) > MAX_BATCH {
+        return Err(ReadFault::Count);
+    }
+    let messages = &fields[BATCH_LENGTH..];
+    expect_messages(count, messages)?;
+    let batch = Parts::spelt(count, messages);
+    Ok(Body::Batch(BigEndian::read_u64(fields), batch))
+}
+
+/// Whether the bytes spell as many messages, each behind its length, and nothing behind them.
+fn expect_messages(count: u8, bytes: &[u8]) -> Result<(), ReadFault>
+    ensures ok { OnOk result (first_of (message_faults count bytes.now) ≡ None) }
+    ensures err { IfErr result (λ f. first_of (message_faults count bytes.now) ≡ Some f) }
+{
+    if count > 0 {
+        let rest = after_message(bytes)?;
+        return expect_messages(count - 1, rest);
+    }
+    if bytes.is_empty() {
+        Ok(())
+    } else {
+        Err(ReadFault::Long)
+    }
+}
+
+/// The bytes after the message that these begin with, behind its length.
+fn after_message(bytes: &[u8]) -> Result<&[u8], ReadFault>
+    ensures ok { IfOk result (λ rest. (more : ℕ) → first_of (message_faults (suc more) bytes.now) ≡ first_of (message_faults more rest.now)) }
+    ensures err { IfErr result (λ f. (more : ℕ) → first_of (message_faults (suc more) bytes.now) ≡ Some f) }
+{
+    if bytes.len() < LENGTH_LENGTH {
+        return Err(ReadFault::Short);
+    }
+    let given = usize::from(BigEndian::read_u16(bytes));
+    if given > MAX_MESSAGE {
+        return Err(ReadFault::Length);
+    }
+    let message = &bytes[LENGTH_LENGTH..];
+    if message.len() < given {
+        return Err(ReadFault::Short);
+    }
+    Ok(&message[given..])
 }
 
 /// Whether there are as many bytes as wanted: fewer are cut short, and more follow the packet.

@@ -74,6 +74,7 @@ nothing_unsent past side stream (act.Put m) reply is = tt
 nothing_unsent past side stream act.Get reply is = tt
 nothing_unsent past side stream act.Ack reply is = tt
 nothing_unsent past side stream (act.Start word) reply is = tt
+nothing_unsent past side stream (act.Batch word) reply is = tt
 nothing_unsent past side stream act.Resend reply is = tt
 nothing_unsent past Sender stream (act.Deliver packet word) reply is = absurd is
 nothing_unsent past Receiver stream (act.Deliver packet word) reply is = absurd is

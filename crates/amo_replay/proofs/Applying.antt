@@ -27,10 +27,10 @@ use Rattle.amo_world.specs.History.{stream_after, stream_before, emissions, HasR
 use Rattle.amo_packet.specs.declared.packet.OwnedPacket.{OwnedPacket}
 use Rattle.amo_packet.specs.Grammar.{spelling}
 use Rattle.amo_world.proofs.Kept.{emission_by}
-use Rattle.amo_world.proofs.Emitted.{start_is_done, resend_is_done, deliver_is_done, crash_is_done, recover_is_done, stands}
+use Rattle.amo_world.proofs.Emitted.{start_is_done, batch_is_done, resend_is_done, deliver_is_done, crash_is_done, recover_is_done, stands}
 use Rattle.amo_replay.specs.Transcript.{delivery, event_of, replied, is_new, uses_new_word, checked, applied}
 use Rattle.amo_schedule.specs.declared.line.ScheduleLine.{ScheduleLine}
-use Rattle.amo_schedule.specs.declared.line.ScheduleLine.TheVariants.{Put, Get, Ack, Start, Resend, Deliver, Crash, Recover}
+use Rattle.amo_schedule.specs.declared.line.ScheduleLine.TheVariants.{Put, Get, Ack, Start, Batch, Resend, Deliver, Crash, Recover}
 use Rattle.amo_replay.specs.Stop.{StopsAs}
 use Rattle.amo_replay.specs.declared.stop.Stop.{Stop}
 use Rattle.amo_replay.specs.declared.stop.Stop.TheVariants.{Ended, Failed}
@@ -61,7 +61,7 @@ ack_has s (sending.Send id c) w = refl
 get_has : (s : receiver.ReceiverState) (mode : ReceiverMode) → (receiver.get s mode).reply ≡ Some (unwrap_or (receiver.get s mode).reply reply.Done)
 get_has s receiving.Idle = refl
 get_has s (receiving.Accept jd id) = refl
-get_has s (receiving.Rcvd id m) = refl
+get_has s (receiving.Rcvd id b) = refl
 get_has s (receiving.Ack id) = refl
 get_has s receiving.Down = refl
 
@@ -81,6 +81,7 @@ line_right past (Put s m) = put_has (stream_after s past).sender.state (stream_a
 line_right past (Get s) = get_has (stream_after s past).receiver.state (stream_after s past).receiver.state.mode
 line_right past (Ack s) = ack_has (stream_after s past).sender.state (stream_after s past).sender.state.mode (stream_after s past).sender.state.waiting
 line_right past (Start s word) = is_done _ (start_is_done (stream_after s past) word)
+line_right past (Batch s word) = is_done _ (batch_is_done (stream_after s past) word)
 line_right past (Resend side s) = is_done _ (resend_is_done (stream_after s past) side)
 line_right past (Deliver number word) = delivers_right past number word (slice_get (emissions past) number)
 line_right past (Crash side s) = is_done _ (crash_is_done (stream_after s past) side)
@@ -101,6 +102,7 @@ line_honest past (Put s m) = tt
 line_honest past (Get s) = tt
 line_honest past (Ack s) = tt
 line_honest past (Start s word) = tt
+line_honest past (Batch s word) = tt
 line_honest past (Resend side s) = tt
 line_honest past (Deliver number word) = delivers_honest past number word (slice_get (emissions past) number) refl
 line_honest past (Crash side s) = tt

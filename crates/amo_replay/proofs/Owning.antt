@@ -216,6 +216,10 @@ pub starts_sender : (side : End) (act : Act) (word : ℕ) → act ≡ acts.Start
 starts_sender Sender act word is may = refl
 starts_sender Receiver act word is may = absurd (subst (IsHostActOf Receiver) is may)
 
+pub batches_sender : (side : End) (act : Act) (word : ℕ) → act ≡ acts.Batch word → IsHostActOf side act → side ≡ Sender
+batches_sender Sender act word is may = refl
+batches_sender Receiver act word is may = absurd (subst (IsHostActOf Receiver) is may)
+
 -- a book that was opened with these sides
 module _ {X : Type 0} where
   two_there : (f : ℕ → X) (xs : List X) → Lists f 2 xs → xs ≡ f 0 ∷ f 1 ∷ []

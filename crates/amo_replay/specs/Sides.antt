@@ -50,6 +50,7 @@ IsOwn history = Along (λ past e. e.pass ≡ 0) history
 -- an act that a side's host may make, but for deliveries
 abbrev pub IsHostActOf : End → Act → Type 0
 IsHostActOf Sender (act.Start word) = Unit {0}
+IsHostActOf Sender (act.Batch word) = Unit {0}
 IsHostActOf side act.Resend = Unit {0}
 IsHostActOf side act.Crash = Unit {0}
 IsHostActOf side act.Recover = Unit {0}

@@ -21,7 +21,7 @@ use Rattle.amo_text.specs.Hexadecimal.{hex}
 use Rattle.amo_text.specs.Reply.{reply_text}
 use Rattle.amo_schedule.specs.Schedule.{SpellsSchedule, IsMalformedAt}
 use Rattle.amo_schedule.specs.declared.line.ScheduleLine.{ScheduleLine}
-use Rattle.amo_schedule.specs.declared.line.ScheduleLine.TheVariants.{Put, Get, Ack, Start, Resend, Deliver, Crash, Recover}
+use Rattle.amo_schedule.specs.declared.line.ScheduleLine.TheVariants.{Put, Get, Ack, Start, Batch, Resend, Deliver, Crash, Recover}
 use Rattle.amo_replay.specs.declared.endings.Ending.{Ending}
 use Rattle.amo_replay.specs.declared.endings.Ending.TheVariants.{Done, Malformed, Unsent, Repeat}
 
@@ -39,6 +39,7 @@ event_of past (Put stream m) = Some (event_at Sender stream (act.Put m) reply.Do
 event_of past (Get stream) = Some (event_at Receiver stream act.Get reply.Done)
 event_of past (Ack stream) = Some (event_at Sender stream act.Ack reply.Done)
 event_of past (Start stream word) = Some (event_at Sender stream (act.Start word) reply.Done)
+event_of past (Batch stream word) = Some (event_at Sender stream (act.Batch word) reply.Done)
 event_of past (Resend side stream) = Some (event_at side stream act.Resend reply.Done)
 event_of past (Deliver number word) = option_map (delivery word) (slice_get (emissions past) number)
 event_of past (Crash side stream) = Some (event_at side stream act.Crash reply.Done)

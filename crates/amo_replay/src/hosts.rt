@@ -94,6 +94,7 @@ impl BothHosts {
             ScheduleLine::Get(stream) => (End::Receiver, stream, Act::Get),
             ScheduleLine::Ack(stream) => (End::Sender, stream, Act::Ack),
             ScheduleLine::Start(stream, word) => (End::Sender, stream, Act::Start(word)),
+            ScheduleLine::Batch(stream, word) => (End::Sender, stream, Act::Batch(word)),
             ScheduleLine::Resend(side, stream) => (side, stream, Act::Resend),
             ScheduleLine::Deliver(number, word) => return self.deliver(number, word, page),
             ScheduleLine::Crash(side, stream) => (side, stream, Act::Crash),

@@ -128,6 +128,7 @@ impl BookSides {
         let charge = &mut self.charges[place_of(side, stream)];
         match act {
             Act::Start(word) => Ok(self.book.start(pass, charge, word, buffer)?.length),
+            Act::Batch(word) => Ok(self.book.start_batch(pass, charge, word, buffer)?.length),
             Act::Resend => Ok(self.book.resend(pass, charge, buffer)?.length),
             Act::Crash => Ok(self.book.crash(pass, charge)?.length),
             Act::Recover => Ok(self.book.recover(pass, charge)?.length),

@@ -1,7 +1,7 @@
 -- What is back is all that a book gave out.
-use Rattle.std.proofs.Common.{◌≡◌, ℕ, List, [], ◌∷◌, ◌++◌, length, map}
+use Rattle.std.proofs.Common.{List, [], ◌∷◌, length, map}
 use Rattle.amo_book.specs.Book.{BookState, Each}
-use Rattle.amo_book.specs.Charge.{ChargeState, IsChargeOf}
+use Rattle.amo_book.specs.Charge.{IsChargeOf}
 use Rattle.amo_book.specs.Closed.{AllCharges}
 use Rattle.amo_host.specs.Station.{Station}
 use Rattle.amo_run.specs.declared.home.Home.{Home}

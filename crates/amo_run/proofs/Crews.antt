@@ -16,7 +16,6 @@ use Rattle.amo_run.specs.Told.{told, Tells}
 use Rattle.amo_run.specs.Engine.{tie, ties, Recorded}
 use Rattle.amo_run.specs.Crew.{Made, Adds, EachAt, IsNew, IsHome, joined, dealt, lent, SoFar}
 use Rattle.amo_run.specs.declared.work.PumpThread.{PumpThread}
-use Rattle.amo_run.proofs.Tellings.{tells_none}
 
 head_is : {A : Type 0} (d : A) → List A → A
 head_is d [] = d

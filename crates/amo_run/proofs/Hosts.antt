@@ -1,5 +1,5 @@
 -- The pumps of a host have its charges.
-use Rattle.std.proofs.Common.{◌≡◌, ℕ, zero, suc, ◌+◌, ◌*◌, ◌/◌, ◌%◌, ◌<◌, ◌≤◌, List, [], ◌∷◌, ◌++◌, length, map, slice_get, Some, refl, sym, ap, ◌∙◌, subst, append_assoc, append-nil, arith}
+use Rattle.std.proofs.Common.{◌≡◌, ℕ, zero, suc, ◌+◌, ◌*◌, ◌/◌, ◌%◌, ◌<◌, ◌≤◌, List, [], ◌∷◌, ◌++◌, length, map, slice_get, Some, refl, sym, ap, ◌∙◌, subst, append_assoc, arith}
 use Rattle.std.proofs.lemmas.List.{length-append, length-map}
 use Rattle.std.proofs.lemmas.Nat.{div-add-mod', mod_below}
 use Rattle.std.proofs.Math.Nat.{mul_comm}
@@ -7,7 +7,7 @@ use Rattle.amo_book.specs.Book.{BookState, Each}
 use Rattle.amo_book.specs.Charge.{ChargeState, IsChargeOf}
 use Rattle.amo_book.specs.Closed.{HasCharge}
 use Rattle.amo_host.specs.Charges.{CanBeDriven}
-use Rattle.amo_host.specs.Division.{IsPart, Divides, CanBeDivided}
+use Rattle.amo_host.specs.Division.{Divides, CanBeDivided}
 use Rattle.amo_host.specs.Station.{Station}
 use Rattle.amo_run.specs.Crew.{IsOurs, dealt}
 
@@ -64,7 +64,7 @@ each_map P f (x ∷ xs) h = (h.0, each_map P f xs h.1)
 
 module _ {W : Type 0} (charges : List ChargeState) (window pumps : ℕ) (words : List W) (stations : List (Station W)) where
   stations_ours : (b : BookState) → Divides charges window pumps words stations → Each (IsChargeOf b.id b.sides) charges → Each (IsOurs {W = W} b) stations
-  stations_ours b d h = each_of (IsOurs {W = W} b) stations (λ p s e. (each_of (IsChargeOf b.id b.sides) s.charges (λ k x at. each_at (IsChargeOf b.id b.sides) charges (p + pumps * k) x h (sym ((d.part p s e).each k) ∙ at)), (d.begins p s e).station))
+  stations_ours b d h = each_of (IsOurs {W = W} b) stations (λ p s e. (each_of (IsChargeOf b.id b.sides) s.charges (λ k x at. each_at (IsChargeOf b.id b.sides) charges (p + pumps * k) x h (sym ((d.part p s e).each k) ∙ at)), (d.begins p s e).station, (d.begins p s e).plain))
 
   stations_have : Divides charges window pumps words stations → 1 ≤ pumps → (place : ℕ) → HasCharge charges place → HasCharge (dealt stations) place
   stations_have d some place h =

@@ -1,5 +1,5 @@
 -- The lists of all passes, put together and sorted by position, are the history.
-use Rattle.std.proofs.Common.{◌≡◌, ◌≢◌, ℕ, zero, suc, ◌+◌, ◌%◌, ◌^◌, ◌<◌, ◌≤◌, ◌==◌, Bool, if◌then◌else◌, List, [], ◌∷◌, ◌++◌, length, map, reverse, get_or, inl, inr, ◌⊎◌, refl, sym, ap, ap₂, ◌∙◌, subst, append-nil, append_assoc, eq-eqb, ne_eqb, arith}
+use Rattle.std.proofs.Common.{◌≡◌, ◌≢◌, ℕ, zero, suc, ◌+◌, ◌^◌, ◌<◌, ◌≤◌, Bool, if◌then◌else◌, List, [], ◌∷◌, ◌++◌, length, map, reverse, get_or, inl, inr, ◌⊎◌, refl, sym, ap, ap₂, ◌∙◌, subst, append-nil, append_assoc, eq-eqb, ne_eqb, arith}
 use native.Mathlib.Decide.{ℕ_discrete}
 use mathlib.Core.Logic.{dite}
 use Rattle.std.specs.List.Sorted.{IsPermutation, IsNonDecreasingBy}
@@ -10,7 +10,7 @@ use Rattle.amo_world.specs.declared.event.Event.{Event}
 use Rattle.amo_world.specs.History.{events_of}
 use Rattle.amo_book.specs.Book.{BookState, Each}
 use Rattle.amo_book.specs.Closed.{StandsIn}
-use Rattle.amo_book.specs.Pass.{PassState, mine}
+use Rattle.amo_book.specs.Pass.{PassState}
 use Rattle.amo_book.specs.Rule.{AllBelow}
 use Rattle.amo_run.specs.Told.{position, placed, told}
 use Rattle.amo_run.specs.Crew.{EachAt, IsHome, joined}

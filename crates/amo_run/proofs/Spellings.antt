@@ -1,5 +1,5 @@
 -- The events of clients are of the book's sides, and a journal has a line for each.
-use Rattle.std.proofs.Common.{◌≡◌, ℕ, zero, suc, ◌<◌, ◌≤◌, Bool, true, false, List, [], ◌∷◌, ◌++◌, Option, Some, None, Result, Ok, Err, IfSome, IsErrOf, inl, inr, ◌⊎◌, ◌↔◌, slice_get, refl, ap, ap₂, sym, ◌∙◌, arith}
+use Rattle.std.proofs.Common.{◌≡◌, ℕ, zero, suc, ◌<◌, ◌≤◌, Bool, true, false, List, [], ◌∷◌, ◌++◌, Option, Some, None, Result, Ok, Err, IfSome, IsErrOf, inl, inr, ◌⊎◌, slice_get, refl, ap, ap₂, arith}
 use Rattle.std.proofs.lemmas.Bool.{cases_lt}
 use Rattle.std.proofs.lemmas.List.Elements.{All-append}
 use Rattle.amo_object.specs.declared.step.End.{End}
@@ -12,7 +12,7 @@ use Rattle.amo_core.specs.declared.reply.Reply.TheVariants as reply
 use Rattle.amo_world.specs.declared.event.Event.{Event}
 use Rattle.amo_book.specs.Book.{BookState}
 use Rattle.amo_book.specs.Calls.{HasSide, IsPutNoStream, put_answer, get_answer, ack_answer}
-use Rattle.amo_book.specs.Pass.{Answer, event}
+use Rattle.amo_book.specs.Pass.{event}
 use Rattle.amo_book.specs.declared.fault.PutFault.{PutFault}
 use Rattle.amo_book.specs.declared.fault.PutFault.TheVariants as put_fault
 use Rattle.amo_book.specs.declared.fault.GetFault.{GetFault}

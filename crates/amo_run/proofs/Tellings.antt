@@ -1,11 +1,10 @@
 -- What a pass tells, along a history that goes on.
-use Rattle.std.proofs.Common.{◌≡◌, ℕ, suc, ◌+◌, ◌%◌, ◌^◌, ◌<◌, ◌≤◌, ◌==◌, Bool, true, false, if◌then◌else◌, List, [], ◌∷◌, ◌++◌, length, refl, sym, ap, ap₂, ◌∙◌, subst, append_assoc, append-nil, eq-eqb, arith, Some, None, IfSome}
-use Rattle.std.proofs.lemmas.List.{length-append}
+use Rattle.std.proofs.Common.{◌≡◌, ℕ, suc, ◌^◌, ◌<◌, ◌≤◌, ◌==◌, Bool, true, false, if◌then◌else◌, List, [], ◌∷◌, ◌++◌, length, refl, sym, ap, ap₂, ◌∙◌, append_assoc, append-nil, eq-eqb, arith, Some, None, IfSome}
 use Rattle.amo_world.specs.declared.event.Event.{Event}
-use Rattle.amo_world.specs.History.{events_of, event_if, Extends}
+use Rattle.amo_world.specs.History.{events_of, event_if}
 use Rattle.amo_object.specs.declared.step.End.{End}
 use Rattle.amo_core.specs.declared.act.Act.{Act}
-use Rattle.amo_book.specs.Pass.{PassState, GrownBy, HasPosition, mine, Answer, Grown, Answered, event}
+use Rattle.amo_book.specs.Pass.{PassState, GrownBy, HasPosition, Answer, Grown, Answered, event}
 use Rattle.amo_run.specs.Told.{position, placed, told, Tells, made_by}
 
 -- an event of another pass changes nothing of what is told

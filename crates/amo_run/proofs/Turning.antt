@@ -1,6 +1,5 @@
 -- What a pump's calls do to its pass and its charges.
-use Rattle.std.proofs.Common.{◌≡◌, ℕ, Bool, true, false, zero, suc, ◌<◌, ◌^◌, List, [], ◌∷◌, ◌++◌, length, Option, Some, None, map, slice_get, slice_set, refl, sym, ap, ap₂, ◌∙◌, subst, append_assoc, append-nil, arith}
-use Rattle.std.specs.Borrow.{Bor}
+use Rattle.std.proofs.Common.{◌≡◌, ℕ, Bool, true, false, zero, suc, ◌<◌, ◌^◌, List, [], ◌∷◌, ◌++◌, Option, Some, None, slice_get, slice_set, refl, sym, ap, ap₂, ◌∙◌, subst, append_assoc, append-nil}
 use Rattle.amo_object.specs.declared.step.End.{End}
 use Rattle.amo_object.specs.declared.step.End.TheVariants as end
 use Rattle.amo_packet.specs.declared.packet.OwnedPacket.{OwnedPacket}
@@ -11,17 +10,15 @@ use Rattle.amo_core.specs.declared.reply.Reply.TheVariants as reply
 use Rattle.amo_world.specs.declared.event.Event.{Event}
 use Rattle.amo_book.specs.Book.{BookState}
 use Rattle.amo_book.specs.Charge.{ChargeState}
-use Rattle.amo_book.specs.Drive.{Driven}
 use Rattle.amo_book.specs.Pass.{PassState, event}
 use Rattle.amo_book.specs.declared.drive.Done.{Done}
 use Rattle.amo_host.specs.Station.{Station, IsStation, moved_past}
-use Rattle.amo_host.specs.Turn.{Happened, Nothing, TurnsAlone, TurnsWith, Turns, GoesDownOrUp, Fails}
+use Rattle.amo_host.specs.Turn.{Happened, Nothing, Starts, TurnsAlone, TurnsWith, GoesDownOrUp, Fails}
 use Rattle.amo_host.specs.declared.fault.PumpFault.{PumpFault}
 use Rattle.amo_host.specs.declared.turned.Kind.{Kind}
 use Rattle.amo_host.specs.declared.turned.Kind.TheVariants as kind
 use Rattle.amo_host.specs.declared.turned.Turned.{Turned}
 use Rattle.amo_host.specs.declared.turned.Turned.TheVariants.{Idle, Unread, Stranger, Did}
-use Rattle.std.specs.List.{All}
 use Rattle.std.specs.Option.{option_map}
 use Rattle.std.proofs.lemmas.Option.{slice_get-map}
 use Rattle.amo_host.specs.Charges.{stream_mode_of}
@@ -31,13 +28,12 @@ use Rattle.std.proofs.lemmas.List.Elements.{All-nil, All-cons, All-append}
 use Rattle.hex.specs.Hex.{IsBytes}
 use Rattle.amo_world.specs.History.{IsRight, stream_before}
 use Rattle.amo_world.specs.Stream.{Stream, reply_of}
-use Rattle.amo_book.specs.Book.{Each}
 use Rattle.amo_book.specs.Charge.{IsChargeOf}
 use Rattle.amo_audit.specs.Journal.{HasAct, HasReply, IsPacketOf}
 use Rattle.amo_audit.proofs.Packets.{packet_spelt}
 use Rattle.amo_run.specs.Fits.{Fits, AllFit}
 use Rattle.amo_run.specs.Told.{Tells}
-use Rattle.amo_run.specs.Engine.{tie, ties, Works, Advances, Recorded, IsSmall, act_told, done_at, told_of}
+use Rattle.amo_run.specs.Engine.{tie, ties, Stands, Works, Advances, Recorded, IsSmall, act_told, done_at, told_of}
 use Rattle.amo_run.proofs.Hosts.{each_at}
 use Rattle.amo_run.proofs.Tellings.{tells_none, tells_one, tells_more}
 
@@ -85,75 +81,81 @@ module _ {W : Type 0} (book : BookState) (s t : Station W) (v w : PassState) whe
   pub same_advances : Works book w t → t.charges ≡ s.charges → w ≡ v → Advances book v w s t []
   same_advances b c h = record { together = b; charges = ap ties c; tells = tells_none v w h; fit = fit_none book.sides }
 
-  nothing : (old new : List ℕ) → Works book w t → Nothing s t v w old new → Advances book v w s t []
-  nothing old new b h = same_advances b (ap (λ (x : Station W). x.charges) h.0) h.1
+  nothing : (old new : List ℕ) → Works book v s → Stands book w t → Nothing s t v w old new → Advances book v w s t []
+  nothing old new was b h = same_advances (b, ap (λ (x : Station W). x.batches) h.0 ∙ was.1) (ap (λ (x : Station W). x.charges) h.0) h.1
 
   -- an event at a charge of the book
-  happened : (r : Station W) (old new : List ℕ) (place now : ℕ) (a : Act) (resent : Bool) (side : End) (stream : ℕ) (done : Done) → r.charges ≡ s.charges → Works book v s → Works book w t
+  happened : (r : Station W) (old new : List ℕ) (place now : ℕ) (a : Act) (resent : Bool) (side : End) (stream : ℕ) (done : Done) → r.charges ≡ s.charges → r.batches ≡ s.batches → Works book v s → Stands book w t
       → Happened r t v w old new place now a resent side stream done → done.position < 2 ^ 64 → HasAct side stream a → HasReply a reply.Done → Advances book v w s t ((done.position, event v.number side stream a reply.Done) ∷ [])
-  happened r old new place now a resent side stream done same was b h small acts replies =
+  happened r old new place now a resent side stream done same plain was b h small acts replies =
       let e : Event = event v.number h.charge.side h.charge.stream a reply.Done in
       let one : Tells v w ((done.position, e) ∷ []) = tells_one v w e done.position h.driven.grown h.driven.answered refl small in
       let at : slice_get s.charges place ≡ Some h.charge = sym (ap (λ l. slice_get l place) same) ∙ h.at in
-      let ours : IsChargeOf book.id book.sides h.charge = each_at (IsChargeOf book.id book.sides) s.charges place h.charge was.0.1 at in
+      let ours : IsChargeOf book.id book.sides h.charge = each_at (IsChargeOf book.id book.sides) s.charges place h.charge was.0.0.1 at in
       let there : ◌≡◌ {A = End × ℕ} (side, stream) (h.charge.side, h.charge.stream) = ap₂ (λ (p : End) (q : ℕ). (p, q)) h.of_side h.of_stream in
       record {
-        together = b;
+        together = (b, h.batches ∙ plain ∙ was.1);
         charges = ap ties h.charges ∙ (ties_set r.charges place h.charge (record h.charge { mode = done.mode }) h.at refl ∙ ap ties same);
         tells = subst (λ (x : End × ℕ). Tells v w ((done.position, event v.number x.0 x.1 a reply.Done) ∷ [])) (sym there) one;
         fit = fit_one book.sides done.position (event v.number side stream a reply.Done) (record { place = h.charge.place; at = ours.1 ∙ sym (ap Some there); act = acts; reply = replies });
       }
 
-  fate : (a : Act) (k : Kind) (stream now : ℕ) (turned : Turned) → act_told k None ≡ Some a → ((side : End) (named : ℕ) → HasAct side named a) → HasReply a reply.Done → Works book v s → Works book w t → GoesDownOrUp a k stream now s t v w turned → IsSmall turned
+  fate : (a : Act) (k : Kind) (stream now : ℕ) (turned : Turned) → act_told k None ≡ Some a → ((side : End) (named : ℕ) → HasAct side named a) → HasReply a reply.Done → Works book v s → Stands book w t → GoesDownOrUp a k stream now s t v w turned → IsSmall turned
       → Advances book v w s t (told_of v.number None turned)
   fate a k stream now Idle is acts replies was b h small = absurd h
   fate a k stream now (Unread f) is acts replies was b h small = absurd h
-  fate a k stream now Stranger is acts replies was b h small = same_advances b (ap (λ (x : Station W). x.charges) h.1) h.2
+  fate a k stream now Stranger is acts replies was b h small = same_advances (b, ap (λ (x : Station W). x.batches) h.1 ∙ was.1) (ap (λ (x : Station W). x.charges) h.1) h.2
   fate a k stream now (Did side named j done) is acts replies was b (place, at, same, of, none, words, rest) small =
-      subst (λ (o : Option Act). Advances book v w s t (done_at v.number side named done.position o)) (sym (ap (λ x. act_told x None) of ∙ is)) (happened s rest.0 rest.1 place now a false side named done refl was b rest.2 small.0 (acts side named) replies)
+      subst (λ (o : Option Act). Advances book v w s t (done_at v.number side named done.position o)) (sym (ap (λ x. act_told x None) of ∙ is)) (happened s rest.0 rest.1 place now a false side named done refl refl was b rest.2 small.0 (acts side named) replies)
 
-  pub crash_advances : (stream now : ℕ) (turned : Turned) → Works book v s → Works book w t → GoesDownOrUp act.Crash kind.Crash stream now s t v w turned → IsSmall turned
+  pub crash_advances : (stream now : ℕ) (turned : Turned) → Works book v s → Stands book w t → GoesDownOrUp act.Crash kind.Crash stream now s t v w turned → IsSmall turned
       → Advances book v w s t (told_of v.number None turned)
   crash_advances stream now turned was b h small = fate act.Crash kind.Crash stream now turned refl crashes tt was b h small
 
-  pub recover_advances : (stream now : ℕ) (turned : Turned) → Works book v s → Works book w t → GoesDownOrUp act.Recover kind.Recover stream now s t v w turned → IsSmall turned
+  pub recover_advances : (stream now : ℕ) (turned : Turned) → Works book v s → Stands book w t → GoesDownOrUp act.Recover kind.Recover stream now s t v w turned → IsSmall turned
       → Advances book v w s t (told_of v.number None turned)
   recover_advances stream now turned was b h small = fate act.Recover kind.Recover stream now turned refl recovers tt was b h small
 
-  pub failed_advances : (to_come : W → ℕ → Option ℕ) (old new : List ℕ) (fault : PumpFault) → Works book w t → Fails to_come s t v w old new fault → Advances book v w s t []
-  failed_advances to_come old new fault b h = same_advances b h.charges h.pass
+  pub failed_advances : (to_come : W → ℕ → Option ℕ) (old new : List ℕ) (fault : PumpFault) → Works book v s → Stands book w t → Fails to_come s t v w old new fault → Advances book v w s t []
+  failed_advances to_come old new fault was b h = same_advances (b, h.batches ∙ was.1) h.charges h.pass
 
-  pub alone_advances : (to_come : W → ℕ → Option ℕ) (now : ℕ) (old new : List ℕ) (turned : Turned) → Works book v s → Works book w t → IsRight w.seen → TurnsAlone to_come now s t v w old new turned → IsSmall turned
-      → Advances book v w s t (told_of v.number None turned)
-  alone_advances to_come now old new Idle was b right h small = nothing old new b h.1
-  alone_advances to_come now old new (Unread f) was b right h small = absurd h
-  alone_advances to_come now old new Stranger was b right h small = absurd h
-  alone_advances to_come now old new (Did side stream kind.Resend done) was b right (place, next, words, h) small = happened s old new place now act.Resend true side stream done refl was b h small.0 (resends side stream) tt
-  alone_advances to_come now old new (Did side stream (kind.Start word) done) was b right (place, next, drew, h) small =
+  started_advances : (to_come : W → ℕ → Option ℕ) (now : ℕ) (old new : List ℕ) (word : ℕ) (side : End) (stream : ℕ) (done : Done) → Works book v s → Stands book w t → IsRight w.seen
+      → Starts to_come now s t v w old new word (act.Start word) side stream done → IsSmall (Did side stream (kind.Start word) done) → Advances book v w s t (told_of v.number None (Did side stream (kind.Start word) done))
+  started_advances to_come now old new word side stream done was b right (place, next, drew, h) small =
       let last : IsRight (event v.number h.charge.side h.charge.stream (act.Start word) reply.Done ∷ h.driven.grown.earlier) = subst IsRight h.driven.grown.seen right in
       let replied : reply_of (stream_before h.driven.grown.earlier (event v.number h.charge.side h.charge.stream (act.Start word) reply.Done)) side (act.Start word) ≡ Some reply.Done =
       ap (λ (x : End). reply_of (stream_before h.driven.grown.earlier (event v.number h.charge.side h.charge.stream (act.Start word) reply.Done)) x (act.Start word)) h.of_side ∙ last.0 in
-      happened (moved_past s place) old new place now (act.Start word) false side stream done refl was b h small.0 (starts (stream_before h.driven.grown.earlier (event v.number h.charge.side h.charge.stream (act.Start word) reply.Done)) side stream word replied small.1) tt
+      happened (moved_past s place) old new place now (act.Start word) false side stream done refl refl was b h small.0 (starts (stream_before h.driven.grown.earlier (event v.number h.charge.side h.charge.stream (act.Start word) reply.Done)) side stream word replied small.1) tt
+
+  pub alone_advances : (to_come : W → ℕ → Option ℕ) (now : ℕ) (old new : List ℕ) (turned : Turned) → Works book v s → Stands book w t → IsRight w.seen → TurnsAlone to_come now s t v w old new turned → IsSmall turned
+      → Advances book v w s t (told_of v.number None turned)
+  alone_advances to_come now old new Idle was b right h small = nothing old new was b h.1
+  alone_advances to_come now old new (Unread f) was b right h small = absurd h
+  alone_advances to_come now old new Stranger was b right h small = absurd h
+  alone_advances to_come now old new (Did side stream kind.Resend done) was b right (place, next, words, h) small = happened s old new place now act.Resend true side stream done refl refl was b h small.0 (resends side stream) tt
+  alone_advances to_come now old new (Did side stream (kind.Start word) done) was b right (plain, started) small = started_advances to_come now old new word side stream done was b right started small
+  alone_advances to_come now old new (Did side stream (kind.Batch word) done) was b right (together, started) small = absurd (let both : true ≡ false = sym together ∙ was.1 in cc)
   alone_advances to_come now old new (Did side stream (kind.Deliver word) done) was b right h small = absurd h
   alone_advances to_come now old new (Did side stream kind.Crash done) was b right h small = absurd h
   alone_advances to_come now old new (Did side stream kind.Recover done) was b right h small = absurd h
 
-  pub with_advances : (to_come : W → ℕ → Option ℕ) (newest now : ℕ) (bytes old new : List ℕ) (p : OwnedPacket) (turned : Turned) → Works book v s → Works book w t → IsBytes bytes
-      → ((q : OwnedPacket) → Spells newest bytes q → p ≡ q) → TurnsWith to_come newest bytes now s t v w old new turned → IsSmall turned
+  pub with_advances : (to_come : W → ℕ → Option ℕ) (newest now : ℕ) (bytes old new : List ℕ) (p : OwnedPacket) (turned : Turned) → Works book v s → Stands book w t → IsBytes bytes
+      → Spells 1 bytes p → ((q : OwnedPacket) → Spells newest bytes q → p ≡ q) → TurnsWith to_come newest bytes now s t v w old new turned → IsSmall turned
       → Advances book v w s t (told_of v.number (Some p) turned)
-  with_advances to_come newest now bytes old new p Idle was b known one h small = absurd h
-  with_advances to_come newest now bytes old new p (Unread f) was b known one h small = nothing old new b h.1
-  with_advances to_come newest now bytes old new p Stranger was b known one (q, spelt, strange, h) small = nothing old new b h
-  with_advances to_come newest now bytes old new p (Did side stream kind.Resend done) was b known one h small = absurd h
-  with_advances to_come newest now bytes old new p (Did side stream (kind.Start word) done) was b known one h small = absurd h
-  with_advances to_come newest now bytes old new p (Did side stream (kind.Deliver word) done) was b known one (q, place, spelt, meant, drew, h) small =
-      let whole = packet_spelt bytes newest q q known spelt refl in
-      let same : q.stream ≡ stream = for_stream s place q h.charge was.1 meant h.at ∙ sym h.of_stream in
-      let packet : IsPacketOf stream q = record { spellable = whole.0.0; bytes = whole.0.1; stream = same } in
+  with_advances to_come newest now bytes old new p Idle was b known first one h small = absurd h
+  with_advances to_come newest now bytes old new p (Unread f) was b known first one h small = nothing old new was b h.1
+  with_advances to_come newest now bytes old new p Stranger was b known first one (q, spelt, strange, h) small = nothing old new was b h
+  with_advances to_come newest now bytes old new p (Did side stream kind.Resend done) was b known first one h small = absurd h
+  with_advances to_come newest now bytes old new p (Did side stream (kind.Start word) done) was b known first one h small = absurd h
+  with_advances to_come newest now bytes old new p (Did side stream (kind.Batch word) done) was b known first one h small = absurd h
+  with_advances to_come newest now bytes old new p (Did side stream (kind.Deliver word) done) was b known first one (q, place, spelt, meant, drew, h) small =
+      let whole = packet_spelt bytes p q known first (sym (one q spelt)) in
+      let same : q.stream ≡ stream = for_stream s place q h.charge was.0.1 meant h.at ∙ sym h.of_stream in
+      let packet : IsPacketOf stream q = record { version = whole.0.1; spellable = whole.0.0; bytes = whole.0.2; stream = same } in
       subst (λ (x : OwnedPacket). Advances book v w s t ((done.position, event v.number side stream (act.Deliver x word) reply.Done) ∷ [])) (sym (one q spelt))
-      (happened s old new place now (act.Deliver q word) false side stream done refl was b h small.0 (delivers side stream q word packet small.1) tt)
-  with_advances to_come newest now bytes old new p (Did side stream kind.Crash done) was b known one h small = absurd h
-  with_advances to_come newest now bytes old new p (Did side stream kind.Recover done) was b known one h small = absurd h
+      (happened s old new place now (act.Deliver q word) false side stream done refl refl was b h small.0 (delivers side stream q word packet small.1) tt)
+  with_advances to_come newest now bytes old new p (Did side stream kind.Crash done) was b known first one h small = absurd h
+  with_advances to_come newest now bytes old new p (Did side stream kind.Recover done) was b known first one h small = absurd h
 
   pub recorded_turn : (old new more : List (ℕ × Event)) → Advances book v w s t more → new ≡ old ++ more → Recorded book v w s t old new
   recorded_turn old new more a added = record { more = more; added = added; advances = a }

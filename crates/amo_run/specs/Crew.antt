@@ -1,6 +1,5 @@
 -- What goes into the threads of a run, and what comes back.
 use Rattle.std.specs.Prelude.{◌≡◌, ℕ, suc, ◌+◌, ◌≤◌, false, List, [], ◌∷◌, ◌++◌, length, map, Vec, Result, Ok, Err}
-use Rattle.atomic_table.specs.Seated.{TableId}
 use Rattle.amo_object.specs.declared.step.End.{End}
 use Rattle.amo_world.specs.declared.event.Event.{Event}
 use Rattle.amo_world.specs.declared.fault.NoMemory.{NoMemory}
@@ -47,9 +46,9 @@ EachAt P k (x ∷ xs) = P k x × EachAt P (suc k) xs
 abbrev pub IsNew : BookState → ℕ → PassState → Type 0
 IsNew book p c = c ≡ first_pass book.id p
 
--- a pump whose charges are this book's
+-- a pump whose charges are this book's, and for which each message travels by itself
 abbrev pub IsOurs : {W : Type 0} → BookState → Station W → Type 0
-IsOurs book s = Each (IsChargeOf book.id book.sides) s.charges × IsStation s
+IsOurs book s = Each (IsChargeOf book.id book.sides) s.charges × IsStation s × (s.batches ≡ false)
 
 -- the thread was promised to give that pass back
 abbrev pub IsClient : BookState → ℕ → ClientThread → Type 0

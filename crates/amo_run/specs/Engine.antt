@@ -1,5 +1,5 @@
 -- What turns do to a pump, its pass and the record of its events.
-use Rattle.std.specs.Prelude.{◌≡◌, ℕ, ◌<◌, ◌^◌, List, [], ◌∷◌, ◌++◌, map, Option, Some, None, Result, Ok, Err}
+use Rattle.std.specs.Prelude.{◌≡◌, ℕ, false, ◌<◌, ◌^◌, List, [], ◌∷◌, ◌++◌, map, Option, Some, None, Result, Ok, Err}
 use Rattle.atomic_table.specs.Seated.{TableId}
 use Rattle.amo_object.specs.declared.step.End.{End}
 use Rattle.amo_packet.specs.declared.packet.OwnedPacket.{OwnedPacket}
@@ -28,8 +28,12 @@ abbrev pub ties : List ChargeState → List (TableId × (ℕ × (End × ℕ)))
 ties charges = map tie charges
 
 -- a pump, whose charges are this book's as the pass is
+abbrev pub Stands : {W : Type 0} → BookState → PassState → Station W → Type 0
+Stands book v s = BelongTogether book v s × IsStation s
+
+-- the same, and each message travels by itself, as the first version of journals has it
 abbrev pub Works : {W : Type 0} → BookState → PassState → Station W → Type 0
-Works book v s = BelongTogether book v s × IsStation s
+Works book v s = Stands book v s × (s.batches ≡ false)
 
 -- The pass's own events have grown by these, each of a side of the book. Pass and pump still belong together, and the charges are those that the pump had.
 pub record Advances {W : Type 0} (book : BookState) (v w : PassState) (s t : Station W) (made : List (ℕ × Event)) : Type 0 where
@@ -47,6 +51,7 @@ pub record Recorded {W : Type 0} (book : BookState) (v w : PassState) (s t : Sta
 -- the act of an event of this kind, with the packet that was handed in
 abbrev pub act_told : Kind → Option OwnedPacket → Option Act
 act_told (kind.Start word) packet = Some (act.Start word)
+act_told (kind.Batch word) packet = Some (act.Batch word)
 act_told kind.Resend packet = Some act.Resend
 act_told (kind.Deliver word) (Some packet) = Some (act.Deliver packet word)
 act_told (kind.Deliver word) None = None
@@ -66,6 +71,7 @@ told_of pass packet _ = []
 -- a word is a number of 64 bits
 abbrev pub HasWord : Kind → Type 0
 HasWord (kind.Start word) = word < 2 ^ 64
+HasWord (kind.Batch word) = word < 2 ^ 64
 HasWord (kind.Deliver word) = word < 2 ^ 64
 HasWord _ = Unit {0}
 

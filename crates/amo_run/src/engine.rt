@@ -10,7 +10,7 @@ use crate::source::Source;
 use amo_book::{Book, Pass};
 use amo_host::{Kind, Pump, PumpFault, Turned};
 use amo_net::{Link, MAX_DATAGRAM};
-use amo_packet::{MAX_PACKET, OwnedPacket, read};
+use amo_packet::{MAX_PACKET, OwnedPacket, read_1};
 use amo_word::{ChaChaWords, Words};
 use amo_world::{Act, Event, NoMemory, Reply};
 use std::alloc::Global;
@@ -46,6 +46,22 @@ pub struct Engine<L, W> {
     pub incarnation: u32,
 }
 
+/// Room for a datagram that comes, and for a packet that goes out. It is made once for all turns of a pump.
+#[derive(Drop)]
+pub struct Room {
+    heard: [u8; MAX_DATAGRAM],
+    said: [u8; MAX_PACKET],
+}
+
+impl Default for Room {
+    fn default() -> Room {
+        Room {
+            heard: [0; MAX_DATAGRAM],
+            said: [0; MAX_PACKET],
+        }
+    }
+}
+
 /// What a turn made: an event with its position, and the length of the packet that it emitted.
 #[derive(Drop)]
 pub struct Turn {
@@ -60,6 +76,7 @@ fn act_of(kind: Kind, packet: Option<OwnedPacket>) -> Option<Act>
 {
     match kind {
         Kind::Start(word) => Some(Act::Start(word)),
+        Kind::Batch(word) => Some(Act::Batch(word)),
         Kind::Resend => Some(Act::Resend),
         Kind::Deliver(word) => match packet {
             Some(packet) => Some(Act::Deliver(packet, word)),
@@ -121,7 +138,7 @@ fn turn_alone<W: Words + Drop>(
     }
 }
 
-/// A turn with a datagram. Its packet is copied for the event before the pump has it.
+/// A turn with a datagram. Its packet is copied for the event before the pump has it; one that has no line in a journal is none.
 #[tactic(auto, using(crate::proofs::Turning::failed_advances, crate::proofs::Turning::same_advances))]
 fn turn_with<W: Words + Drop>(
     alloc: Global,
@@ -136,7 +153,7 @@ fn turn_with<W: Words + Drop>(
     ensures { Advances book.now pass.old pass.new pump.old pump.new (made_in result) }
 {
     let number = pass.number();
-    let Ok(packet) = read(bytes) else {
+    let Ok(packet) = read_1(bytes) else {
         return Ok(turn_of(number, None, Turned::Idle));
     };
     let Ok(packet) = packet.copied(alloc) else {
@@ -273,31 +290,31 @@ impl<L: Link, W: Words + Drop> Engine<L, W> {
         alloc: Global,
         book: &Book,
         pass: &mut Pass,
+        room: &mut Room,
         tally: &mut Tally,
     ) -> Result<(), NoMemory>
         requires { Works book.now pass.old self.old.pump }
         ensures { Recorded book.now pass.old pass.new self.old.pump self.new.pump tally.old.made.items tally.new.made.items }
     {
         tally.reserve()?;
-        let mut buffer = [0; MAX_DATAGRAM];
-        let mut out = [0; MAX_PACKET];
-        let heard = self.hear(&mut buffer, tally);
+        let Room { heard, said } = room;
+        let length = self.hear(heard, tally);
         let now = self.turns;
-        let turned = match heard {
-            None => turn_alone(&mut self.pump, book, pass, now, &mut out),
+        let turned = match length {
+            None => turn_alone(&mut self.pump, book, pass, now, said),
             Some(length) => turn_with(
                 alloc,
                 &mut self.pump,
                 book,
                 pass,
                 now,
-                &buffer[..length],
-                &mut out,
+                &heard[..length],
+                said,
             ),
         };
         match tally.note(turned) {
             Ok(length) => {
-                self.send(&out, length, tally);
+                self.send(said, length, tally);
                 Ok(())
             }
             Err(PumpFault::NoMemory) => Err(NoMemory),
@@ -395,6 +412,7 @@ impl<L: Link> Engine<L, ChaChaWords> {
     /// The words of the next life.
     fn renew(&mut self)
         ensures charges { self.new.pump.charges ≡ self.old.pump.charges }
+        ensures starts { self.new.pump.batches ≡ self.old.pump.batches }
         ensures station { IsStation self.new.pump }
     {
         self.incarnation = self.incarnation.saturating_add(1);
@@ -420,11 +438,12 @@ impl<L: Link> Engine<L, ChaChaWords> {
         requires { Works book.now pass.old self.old.pump }
         ensures { Recorded book.now pass.old pass.new self.old.pump self.new.pump tally.old.made.items tally.new.made.items }
     {
+        let mut room = Room::default();
         'turns: for _ in rt.forever() {
             if self.plan.is_over() && progress.has_no_clients() {
                 break;
             }
-            self.turn(alloc, book, pass, tally)?;
+            self.turn(alloc, book, pass, &mut room, tally)?;
             self.turns = self.turns.saturating_add(1);
             self.follow_plan(rt, book, pass, streams, tally)?;
             tally.tell(progress, TOLD_AT_ONCE);

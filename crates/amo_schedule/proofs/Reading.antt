@@ -24,7 +24,7 @@ use Rattle.amo_packet.specs.Stream.{IsStream}
 use Rattle.amo_schedule.specs.declared.line.ScheduleLine.{ScheduleLine}
 use Rattle.amo_schedule.specs.declared.reader.LineText.{LineText}
 use Rattle.amo_schedule.specs.declared.reader.LineText.TheVariants as form
-use Rattle.amo_schedule.specs.declared.line.ScheduleLine.TheVariants.{Put, Get, Ack, Start, Resend, Deliver, Crash, Recover}
+use Rattle.amo_schedule.specs.declared.line.ScheduleLine.TheVariants.{Put, Get, Ack, Start, Batch, Resend, Deliver, Crash, Recover}
 
 -- the first field of a line
 abbrev pub command_of : ScheduleLine → List ℕ
@@ -51,6 +51,7 @@ arguments_fields (Put s m) known = (IsField-stream s known.0, (IsField-hex m kno
 arguments_fields (Get s) known = (IsField-stream s known, tt)
 arguments_fields (Ack s) known = (IsField-stream s known, tt)
 arguments_fields (Start s w) known = (IsField-stream s known.0, (IsField-decimal w known.1, tt))
+arguments_fields (Batch s w) known = (IsField-stream s known.0, (IsField-decimal w known.1, tt))
 arguments_fields (Resend side s) known = (IsField-letter_of side, (IsField-stream s known, tt))
 arguments_fields (Deliver k w) known = (IsField-decimal k known.0, (IsField-decimal w known.1, tt))
 arguments_fields (Crash side s) known = (IsField-letter_of side, (IsField-stream s known, tt))
@@ -78,6 +79,10 @@ fields_of-injective (Start s v) (Start t w) p q e =
     let st = stream-injective s t p.0 q.0 cc in
     let vw = decimal_injective v w p.1 q.1 cc in cc
 fields_of-injective (Start s v) l p q e = absurd (apart (Start s v) l refl e)
+fields_of-injective (Batch s v) (Batch t w) p q e =
+    let st = stream-injective s t p.0 q.0 cc in
+    let vw = decimal_injective v w p.1 q.1 cc in cc
+fields_of-injective (Batch s v) l p q e = absurd (apart (Batch s v) l refl e)
 fields_of-injective (Resend a s) (Resend b t) p q e =
     let ab = letter_of-injective a b cc in
     let st = stream-injective s t p q cc in cc
@@ -121,10 +126,6 @@ pub no_put : (rest : List ℕ) → ((s : ℕ) (m : List ℕ) → IsStream s → 
 no_put rest none (Put s m) known e = none s m known.0 known.1 (sym (parts_of (Put s m) (codes "put") rest (letters (codes "put") refl).0 e).1)
 no_put rest none line known e = other_command line (codes "put") rest (letters (codes "put") refl).0 refl e
 
-pub no_start : (rest : List ℕ) → ((s w : ℕ) → IsStream s → w < 2 ^ 64 → rest ≢ decimal s ++ 32 ∷ decimal w) → ReadsAs (codes "start" ++ 32 ∷ rest) None
-no_start rest none (Start s w) known e = none s w known.0 known.1 (sym (parts_of (Start s w) (codes "start") rest (letters (codes "start") refl).0 e).1)
-no_start rest none line known e = other_command line (codes "start") rest (letters (codes "start") refl).0 refl e
-
 pub no_deliver : (rest : List ℕ) → ((k w : ℕ) → k < 2 ^ 64 → w < 2 ^ 64 → rest ≢ decimal k ++ 32 ∷ decimal w) → ReadsAs (codes "deliver" ++ 32 ∷ rest) None
 no_deliver rest none (Deliver k w) known e = none k w known.0 known.1 (sym (parts_of (Deliver k w) (codes "deliver") rest (letters (codes "deliver") refl).0 e).1)
 no_deliver rest none line known e = other_command line (codes "deliver") rest (letters (codes "deliver") refl).0 refl e
@@ -139,6 +140,7 @@ named (Put s m) = (name.Put, refl)
 named (Get s) = (name.Get, refl)
 named (Ack s) = (name.Ack, refl)
 named (Start s w) = (name.Start, refl)
+named (Batch s w) = (name.Batch, refl)
 named (Resend side s) = (name.Resend, refl)
 named (Deliver k w) = (name.Deliver, refl)
 named (Crash side s) = (name.Crash, refl)

@@ -17,7 +17,7 @@ use Rattle.amo_schedule.specs.declared.fault.ScheduleFault.TheVariants.{NoMemory
 use Rattle.amo_schedule.specs.declared.line.ScheduleLine.{ScheduleLine}
 use Rattle.amo_schedule.specs.declared.reader.LineText.{LineText}
 use Rattle.amo_schedule.specs.declared.reader.LineText.TheVariants as form
-use Rattle.amo_schedule.specs.declared.line.ScheduleLine.TheVariants.{Put, Get, Ack, Start, Resend, Deliver, Crash, Recover}
+use Rattle.amo_schedule.specs.declared.line.ScheduleLine.TheVariants.{Put, Get, Ack, Start, Batch, Resend, Deliver, Crash, Recover}
 
 -- the fields of a line
 abbrev pub fields_of : ScheduleLine → List (List ℕ)
@@ -25,6 +25,7 @@ fields_of (Put stream m) = act_field name.Put ∷ decimal stream ∷ hex m ∷ [
 fields_of (Get stream) = act_field name.Get ∷ decimal stream ∷ []
 fields_of (Ack stream) = act_field name.Ack ∷ decimal stream ∷ []
 fields_of (Start stream word) = act_field name.Start ∷ decimal stream ∷ decimal word ∷ []
+fields_of (Batch stream word) = act_field name.Batch ∷ decimal stream ∷ decimal word ∷ []
 fields_of (Resend side stream) = act_field name.Resend ∷ letter_of side ∷ decimal stream ∷ []
 fields_of (Deliver number word) = act_field name.Deliver ∷ decimal number ∷ decimal word ∷ []
 fields_of (Crash side stream) = act_field name.Crash ∷ letter_of side ∷ decimal stream ∷ []
@@ -40,6 +41,7 @@ InRange (Put stream m) = IsStream stream × IsMessage m
 InRange (Get stream) = IsStream stream
 InRange (Ack stream) = IsStream stream
 InRange (Start stream word) = IsStream stream × (word < 2 ^ 64)
+InRange (Batch stream word) = IsStream stream × (word < 2 ^ 64)
 InRange (Resend side stream) = IsStream stream
 InRange (Deliver number word) = (number < 2 ^ 64) × (word < 2 ^ 64)
 InRange (Crash side stream) = IsStream stream

@@ -13,6 +13,8 @@ pub enum ScheduleLine {
     Ack(u32),
     /// `start S WORD`: the sender of stream S may start a handshake under this word.
     Start(u32, u64),
+    /// `batch S WORD`: the sender of stream S may start a handshake under this word for all messages that wait, at most four.
+    Batch(u32, u64),
     /// `resend s S` or `resend r S`: the sender, or the receiver, of stream S emits the packet of its mode again.
     Resend(End, u32),
     /// `deliver K WORD`: the packet that was emitted as number K, from 0, arrives at the other side of its stream.

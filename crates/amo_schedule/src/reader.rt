@@ -1,5 +1,5 @@
 //! Reads a line.
-ghost use Rattle.std.specs.Prelude.{◌≡◌, ◌≢◌, ℕ, ◌∷◌, ◌++◌, List, codes, IfSome, IfNone};
+ghost use Rattle.std.specs.Prelude.{◌≡◌, ◌≢◌, ◌<◌, ◌^◌, ℕ, ◌∷◌, ◌++◌, List, codes, IfSome, IfNone};
 ghost use Rattle.std.specs.Fmt.{decimal};
 ghost use Rattle.amo_object.specs.declared.step.End.{End};
 ghost use Rattle.amo_packet.specs.Stream.{IsStream};
@@ -57,12 +57,29 @@ fn read_ack(field: &[u8]) -> Option<ScheduleLine>
     Some(ScheduleLine::Ack(read_stream(field)?))
 }
 
+/// The stream and the word that these fields name.
+fn read_word_of_stream(fields: &[u8]) -> Option<(u32, u64)>
+    ensures found { IfSome result (λ at. IsStream at.0 × (at.1 < 2 ^ 64) × (fields.now ≡ decimal at.0 ++ 32 ∷ decimal at.1)) }
+    ensures none { IfNone result ((stream word : ℕ) → IsStream stream → word < 2 ^ 64 → fields.now ≢ decimal stream ++ 32 ∷ decimal word) }
+{
+    let (stream, word) = next_field(fields)?;
+    Some((read_stream(stream)?, read_decimal(word)?))
+}
+
 /// The start of which these are the fields after the first.
 fn read_start(fields: &[u8]) -> Option<ScheduleLine>
     ensures { ReadsAs (codes "start" ++ 32 ∷ fields.now) result }
 {
-    let (stream, word) = next_field(fields)?;
-    Some(ScheduleLine::Start(read_stream(stream)?, read_decimal(word)?))
+    let (stream, word) = read_word_of_stream(fields)?;
+    Some(ScheduleLine::Start(stream, word))
+}
+
+/// The start of a batch of which these are the fields after the first.
+fn read_batch(fields: &[u8]) -> Option<ScheduleLine>
+    ensures { ReadsAs (codes "batch" ++ 32 ∷ fields.now) result }
+{
+    let (stream, word) = read_word_of_stream(fields)?;
+    Some(ScheduleLine::Batch(stream, word))
 }
 
 /// The delivery of which these are the fields after the first.
@@ -117,6 +134,7 @@ fn parse(text: &[u8]) -> Option<LineText<'_>>
         ActName::Get => other(read_get(fields)),
         ActName::Ack => other(read_ack(fields)),
         ActName::Start => other(read_start(fields)),
+        ActName::Batch => other(read_batch(fields)),
         ActName::Resend => other(read_resend(fields)),
         ActName::Deliver => other(read_deliver(fields)),
         ActName::Crash => other(read_crash(fields)),

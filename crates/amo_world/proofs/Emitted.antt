@@ -10,6 +10,7 @@ use Rattle.amo_object.specs.declared.step.End.TheVariants.{Sender, Receiver}
 use Rattle.amo_packet.specs.declared.packet.OwnedPacket.{OwnedPacket}
 use Rattle.amo_packet.specs.declared.packet.OwnedBody.{OwnedBody}
 use Rattle.amo_packet.specs.declared.packet.OwnedBody.TheVariants as packet
+use Rattle.amo_packet.specs.Batch.{Batch, alone}
 use Rattle.amo_core.specs.declared.act.Act.{Act}
 use Rattle.amo_core.specs.declared.act.Act.TheVariants as act
 use Rattle.amo_core.specs.declared.reply.Reply.TheVariants.{Done}
@@ -64,6 +65,13 @@ sender_start s (sending.Quiet got) (m ∷ w) word = (refl, refl, refl)
 sender_start s (sending.NeedId jd c) w word = (refl, tt, refl)
 sender_start s (sending.Send id c) w word = (refl, tt, refl)
 
+sender_batch : (s : sender.SenderState) (mode : SenderMode) (w : List (List ℕ)) (word : ℕ) → SenderActs s.stream (sender.start_batch s mode w word)
+sender_batch s sending.Down w word = (refl, tt, refl)
+sender_batch s (sending.Quiet got) [] word = (refl, tt, refl)
+sender_batch s (sending.Quiet got) (m ∷ w) word = (refl, refl, refl)
+sender_batch s (sending.NeedId jd c) w word = (refl, tt, refl)
+sender_batch s (sending.Send id c) w word = (refl, tt, refl)
+
 sender_resend : (s : sender.SenderState) (mode : SenderMode) → SenderActs s.stream (sender.resend s mode)
 sender_resend s sending.Down = (refl, tt, refl)
 sender_resend s (sending.Quiet got) = (refl, tt, refl)
@@ -92,6 +100,7 @@ sender_deliver s (packet.Accept jd id) = sender_accept s s.mode jd id
 sender_deliver s (packet.Send id m) = (refl, tt, refl)
 sender_deliver s (packet.Ack id got) = sender_acked s s.mode id got
 sender_deliver s (packet.Cleanup id) = (refl, tt, refl)
+sender_deliver s (packet.Batch id b) = (refl, tt, refl)
 
 sender_recover : (s : sender.SenderState) (mode : SenderMode) → SenderActs s.stream (sender.recover s mode)
 sender_recover s sending.Down = (refl, tt, refl)
@@ -104,6 +113,7 @@ sender_row s (act.Put m) = sender_put s s.mode m
 sender_row s act.Get = (refl, tt)
 sender_row s act.Ack = sender_ack s s.mode s.waiting
 sender_row s (act.Start word) = let acts = sender_start s s.mode s.waiting word in (acts.0, acts.1)
+sender_row s (act.Batch word) = let acts = sender_batch s s.mode s.waiting word in (acts.0, acts.1)
 sender_row s act.Resend = let acts = sender_resend s s.mode in (acts.0, acts.1)
 sender_row s (act.Deliver p word) = let acts = sender_deliver s p.body in (acts.0, acts.1)
 sender_row s act.Crash = (refl, tt)
@@ -126,12 +136,12 @@ receiver_needuid s (receiving.Rcvd id m) jd word = (refl, tt, refl)
 receiver_needuid s (receiving.Ack id) jd word = (refl, tt, refl)
 receiver_needuid s receiving.Down jd word = (refl, tt, refl)
 
-receiver_send : (s : receiver.ReceiverState) (mode : ReceiverMode) (id : ℕ) (m : List ℕ) → ReceiverActs s.stream (receiver.send s mode id m)
-receiver_send s receiving.Idle id m = (refl, refl, refl)
-receiver_send s (receiving.Accept jd accepted) id m = receiver_acts_either s.stream _ _ _ (refl, tt, refl) (refl, refl, refl)
-receiver_send s (receiving.Rcvd under held) id m = receiver_acts_either s.stream _ _ _ (refl, tt, refl) (refl, refl, refl)
-receiver_send s (receiving.Ack under) id m = (refl, refl, refl)
-receiver_send s receiving.Down id m = (refl, tt, refl)
+receiver_batch : (s : receiver.ReceiverState) (mode : ReceiverMode) (id : ℕ) (m : Batch) → ReceiverActs s.stream (receiver.batch s mode id m)
+receiver_batch s receiving.Idle id m = (refl, refl, refl)
+receiver_batch s (receiving.Accept jd accepted) id m = receiver_acts_either s.stream _ _ _ (refl, tt, refl) (refl, refl, refl)
+receiver_batch s (receiving.Rcvd under held) id m = receiver_acts_either s.stream _ _ _ (refl, tt, refl) (refl, refl, refl)
+receiver_batch s (receiving.Ack under) id m = (refl, refl, refl)
+receiver_batch s receiving.Down id m = (refl, tt, refl)
 
 same_number : (n : ℕ) (b : Bool) (s t : receiver.ReceiverState) → s.stream ≡ n → t.stream ≡ n → (if b then s else t).stream ≡ n
 same_number n true s t p q = p
@@ -147,7 +157,8 @@ receiver_cleanup s receiving.Down id = (refl, tt, refl)
 receiver_deliver : (s : receiver.ReceiverState) (body : OwnedBody) (word : ℕ) → ReceiverActs s.stream (receiver.deliver s body word)
 receiver_deliver s (packet.NeedUid jd) word = receiver_needuid s s.mode jd word
 receiver_deliver s (packet.Accept jd id) word = (refl, tt, refl)
-receiver_deliver s (packet.Send id m) word = receiver_send s s.mode id m
+receiver_deliver s (packet.Send id m) word = receiver_batch s s.mode id (alone m)
+receiver_deliver s (packet.Batch id b) word = receiver_batch s s.mode id b
 receiver_deliver s (packet.Ack id got) word = (refl, tt, refl)
 receiver_deliver s (packet.Cleanup id) word = receiver_cleanup s s.mode id
 
@@ -177,6 +188,7 @@ receiver_row s (act.Put m) = (refl, tt)
 receiver_row s act.Get = receiver_get s s.mode
 receiver_row s act.Ack = (refl, tt)
 receiver_row s (act.Start word) = (refl, tt)
+receiver_row s (act.Batch word) = (refl, tt)
 receiver_row s act.Resend = let acts = receiver_resend s s.mode in (acts.0, acts.1)
 receiver_row s (act.Deliver p word) = let acts = receiver_deliver s p.body word in (acts.0, acts.1)
 receiver_row s act.Crash = (refl, tt)
@@ -185,6 +197,9 @@ receiver_row s act.Recover = let acts = receiver_recover s s.mode in (acts.0, ac
 -- each act of the host has the reply Done
 pub start_is_done : (s : Stream) (word : ℕ) → reply_of s Sender (act.Start word) ≡ Some Done
 start_is_done s word = (sender_start s.sender.state s.sender.state.mode s.sender.state.waiting word).2
+
+pub batch_is_done : (s : Stream) (word : ℕ) → reply_of s Sender (act.Batch word) ≡ Some Done
+batch_is_done s word = (sender_batch s.sender.state s.sender.state.mode s.sender.state.waiting word).2
 
 pub resend_is_done : (s : Stream) (side : End) → reply_of s side act.Resend ≡ Some Done
 resend_is_done s Sender = (sender_resend s.sender.state s.sender.state.mode).2

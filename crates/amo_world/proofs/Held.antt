@@ -2,6 +2,7 @@
 use Rattle.std.proofs.Common.{◌≡◌, ℕ, Bool, true, false, eqb, if◌then◌else◌, List, [], ◌∷◌, ◌++◌, length, refl, ap}
 use Rattle.amo_packet.specs.declared.packet.OwnedBody.{OwnedBody}
 use Rattle.amo_packet.specs.declared.packet.OwnedBody.TheVariants as packet
+use Rattle.amo_packet.specs.Batch.{Batch, alone}
 use Rattle.amo_core.specs.declared.act.Act.{Act}
 use Rattle.amo_core.specs.declared.act.Act.TheVariants as act
 use Rattle.amo_core.specs.declared.reply.Reply.TheVariants as reply
@@ -67,8 +68,8 @@ module _ (s : sender.SenderState) where
   accept : (mode : SenderMode) (jd id : ℕ) → s.mode ≡ mode → SenderHolds (sender.held_by mode) (sender.accept s mode jd id)
   accept sending.Down jd id is = ap sender.held_by is
   accept (sending.Quiet got) jd id is = ap sender.held_by is
-  accept (sending.NeedId asked c) jd id is = either (SenderHolds (c ∷ [])) (eqb asked jd) _ _ refl (ap sender.held_by is)
-  accept (sending.Send under c) jd id is = either (SenderHolds (c ∷ [])) (eqb under id) _ _ (ap sender.held_by is) (ap sender.held_by is)
+  accept (sending.NeedId asked c) jd id is = either (SenderHolds (sender.messages_in c)) (eqb asked jd) _ _ refl (ap sender.held_by is)
+  accept (sending.Send under c) jd id is = either (SenderHolds (sender.messages_in c)) (eqb under id) _ _ (ap sender.held_by is) (ap sender.held_by is)
 
   ack : (mode : SenderMode) (id : ℕ) (got : Bool) → (¬ (sender.is_sending mode id ≡ true)) → SenderHolds (sender.held_by s.mode) (sender.ack s mode id got)
   ack sending.Down id got other = refl
@@ -82,12 +83,14 @@ module _ (s : sender.SenderState) where
   deliver (packet.Send id m) other = refl
   deliver (packet.Ack id got) other = ack s.mode id got other
   deliver (packet.Cleanup id) other = refl
+  deliver (packet.Batch id b) other = refl
 
 pub sender_holds : (s : sender.SenderState) (a : Act) → (¬ (MayChangeSender s.mode a)) → SenderHolds (sender.held_by s.mode) (sender.row s a)
 sender_holds s (act.Put m) other = put s s.mode m
 sender_holds s act.Get other = refl
 sender_holds s act.Ack other = get_ack s s.mode s.waiting
 sender_holds s (act.Start word) other = absurd (other tt)
+sender_holds s (act.Batch word) other = absurd (other tt)
 sender_holds s act.Resend other = resend s s.mode
 sender_holds s (act.Deliver p word) other = deliver s p.body other
 sender_holds s act.Crash other = absurd (other tt)
@@ -106,12 +109,12 @@ module _ (s : receiver.ReceiverState) where
   needuid (receiving.Ack id) jd word is = ap receiver.held_by is
   needuid receiving.Down jd word is = ap receiver.held_by is
 
-  send : (mode : ReceiverMode) (id : ℕ) (m : List ℕ) → (¬ (receiver.is_accepting mode id ≡ true)) → ReceiverHolds (receiver.held_by s.mode) (receiver.send s mode id m)
-  send receiving.Idle id m other = refl
-  send (receiving.Accept jd accepted) id m other = second (ReceiverHolds (receiver.held_by s.mode)) (eqb accepted id) _ _ other refl
-  send (receiving.Rcvd under held) id m other = either (ReceiverHolds (receiver.held_by s.mode)) (eqb under id) _ _ refl refl
-  send (receiving.Ack under) id m other = refl
-  send receiving.Down id m other = refl
+  batch : (mode : ReceiverMode) (id : ℕ) (m : Batch) → (¬ (receiver.is_accepting mode id ≡ true)) → ReceiverHolds (receiver.held_by s.mode) (receiver.batch s mode id m)
+  batch receiving.Idle id m other = refl
+  batch (receiving.Accept jd accepted) id m other = second (ReceiverHolds (receiver.held_by s.mode)) (eqb accepted id) _ _ other refl
+  batch (receiving.Rcvd under held) id m other = either (ReceiverHolds (receiver.held_by s.mode)) (eqb under id) _ _ refl refl
+  batch (receiving.Ack under) id m other = refl
+  batch receiving.Down id m other = refl
 
   ended : (b : Bool) → receiver.held_by s.mode ≡ [] → ReceiverHolds [] (receiver.quietly (if b then record s { mode = receiving.Idle } else s))
   ended true none = refl
@@ -127,7 +130,8 @@ module _ (s : receiver.ReceiverState) where
   receive : (body : OwnedBody) (word : ℕ) → (¬ (IsSendForReceiver s.mode body)) → ReceiverHolds (receiver.held_by s.mode) (receiver.deliver s body word)
   receive (packet.NeedUid jd) word other = needuid s.mode jd word refl
   receive (packet.Accept jd id) word other = refl
-  receive (packet.Send id m) word other = send s.mode id m other
+  receive (packet.Send id m) word other = batch s.mode id (alone m) other
+  receive (packet.Batch id b) word other = batch s.mode id b other
   receive (packet.Ack id got) word other = refl
   receive (packet.Cleanup id) word other = cleanup s.mode id refl
 
@@ -150,6 +154,7 @@ receiver_holds s (act.Put m) other = refl
 receiver_holds s act.Get other = absurd (other tt)
 receiver_holds s act.Ack other = refl
 receiver_holds s (act.Start word) other = refl
+receiver_holds s (act.Batch word) other = refl
 receiver_holds s act.Resend other = emit s s.mode
 receiver_holds s (act.Deliver p word) other = receive s p.body word other
 receiver_holds s act.Crash other = absurd (other tt)

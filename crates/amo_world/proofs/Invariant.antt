@@ -4,6 +4,8 @@ use Rattle.std.specs.List.{Contains}
 use Rattle.amo_packet.specs.declared.packet.OwnedPacket.{OwnedPacket}
 use Rattle.amo_core.specs.declared.sender.SenderMode.{SenderMode}
 use Rattle.amo_core.specs.declared.sender.SenderMode.TheVariants as sending
+use Rattle.amo_packet.specs.Batch.{messages}
+use Rattle.amo_core.specs.Sender.{messages_in}
 use Rattle.amo_core.specs.declared.receiver.ReceiverMode.{ReceiverMode}
 use Rattle.amo_core.specs.declared.receiver.ReceiverMode.TheVariants as receiving
 use Rattle.amo_world.specs.Stream.{Stream}
@@ -19,8 +21,8 @@ pub record PacketFacts (from_sender from_receiver : List OwnedPacket) : Type 0 w
   -- an identifier is accepted before any other packet bears it
   pub accepted_first : (id : ℕ) → Any (IsPastAccept id) from_sender → Any (IsAccept id) from_receiver
   pub accepted_before : (id : ℕ) → Any (IsPastAccept id) from_receiver → Any (IsAccept id) from_receiver
-  -- one message is sent under an identifier
-  pub one_message : (id : ℕ) (m n : List ℕ) → Any (IsSend id m) from_sender → Any (IsSend id n) from_sender → m ≡ n
+  -- the same messages are sent under an identifier, whenever they are
+  pub one_message : (id : ℕ) (m n : List (List ℕ)) → Any (IsSend id m) from_sender → Any (IsSend id n) from_sender → m ≡ n
 
 -- the receiver took a message under an identifier
 abbrev pub Took : ReceiverMode → ℕ → Type 0
@@ -41,28 +43,28 @@ pub record AskingFacts (jd : ℕ) (at : ReceiverMode) (from_sender from_receiver
   pub asked : Any (IsNeeduid jd) from_sender
   pub untouched : (id : ℕ) → Any (IsAcceptFor jd id) from_receiver → IsUntouched id at from_sender from_receiver
 
--- what is not taken yet of a message sent under an identifier, as far as the receiver has the identifier
-abbrev pub Untaken : ReceiverMode → ℕ → List ℕ → List (List ℕ) → Type 0
-Untaken (receiving.Accept jd accepted) id m untaken = accepted ≡ id → untaken ≡ m ∷ []
-Untaken (receiving.Rcvd under held) id m untaken = under ≡ id → untaken ≡ held ∷ []
-Untaken (receiving.Ack under) id m untaken = under ≡ id → untaken ≡ []
-Untaken receiving.Idle id m untaken = Unit {0}
-Untaken receiving.Down id m untaken = Unit {0}
+-- what is not taken yet of messages sent under an identifier, as far as the receiver has the identifier
+abbrev pub Untaken : ReceiverMode → ℕ → List (List ℕ) → List (List ℕ) → Type 0
+Untaken (receiving.Accept jd accepted) id sent untaken = accepted ≡ id → untaken ≡ sent
+Untaken (receiving.Rcvd under held) id sent untaken = under ≡ id → untaken ≡ messages held
+Untaken (receiving.Ack under) id sent untaken = under ≡ id → untaken ≡ []
+Untaken receiving.Idle id sent untaken = Unit {0}
+Untaken receiving.Down id sent untaken = Unit {0}
 
--- of a sender that sends a message
-pub record SendingFacts (id : ℕ) (m : List ℕ) (at : ReceiverMode) (from_sender from_receiver : List OwnedPacket)
+-- of a sender that sends messages
+pub record SendingFacts (id : ℕ) (sent : List (List ℕ)) (at : ReceiverMode) (from_sender from_receiver : List OwnedPacket)
     (untaken : List (List ℕ)) : Type 0 where
-  pub was_sent : Any (IsSend id m) from_sender
+  pub was_sent : Any (IsSend id sent) from_sender
   pub no_cleanup : Any (IsCleanup id) from_sender → ⊥
   pub if_got : Any (IsAck id true) from_receiver → untaken ≡ []
   pub if_lost : Any (IsAck id false) from_receiver → has at id ≡ false
-  pub untaken_is : Untaken at id m untaken
+  pub untaken_is : Untaken at id sent untaken
 
 -- of the sender's mode
 abbrev pub SenderFacts : SenderMode → List (List ℕ) → ReceiverMode → List OwnedPacket → List OwnedPacket → List (List ℕ) → Type 0
 SenderFacts (sending.Quiet got) waiting at from_sender from_receiver untaken = Unit {0}
-SenderFacts (sending.NeedId jd m) waiting at from_sender from_receiver untaken = AskingFacts jd at from_sender from_receiver
-SenderFacts (sending.Send id m) waiting at from_sender from_receiver untaken = SendingFacts id m at from_sender from_receiver untaken
+SenderFacts (sending.NeedId jd load) waiting at from_sender from_receiver untaken = AskingFacts jd at from_sender from_receiver
+SenderFacts (sending.Send id load) waiting at from_sender from_receiver untaken = SendingFacts id (messages_in load) at from_sender from_receiver untaken
 SenderFacts sending.Down waiting at from_sender from_receiver untaken = waiting ≡ []
 
 -- of the receiver's mode: what it has it accepted

@@ -9,6 +9,9 @@ use Rattle.amo_object.specs.declared.step.End.TheVariants.{Sender, Receiver}
 use Rattle.amo_packet.specs.declared.packet.OwnedPacket.{OwnedPacket}
 use Rattle.amo_packet.specs.declared.packet.OwnedBody.{OwnedBody}
 use Rattle.amo_packet.specs.declared.packet.OwnedBody.TheVariants as packet
+use Rattle.amo_packet.specs.Batch.{Batch, alone, messages, batch_from}
+use Rattle.amo_core.specs.declared.payload.Payload.{Payload}
+use Rattle.amo_core.specs.declared.payload.Payload.TheVariants as payload
 use Rattle.amo_core.specs.declared.act.Act.{Act}
 use Rattle.amo_core.specs.declared.act.Act.TheVariants as act
 use Rattle.amo_core.specs.declared.sender.SenderMode.{SenderMode}
@@ -40,7 +43,7 @@ identifiers j k e = ap (λ (x : Key). x.identifier) e
 kinds : (j k : Key) → j ≡ k → j.kind ≡ k.kind
 kinds j k e = ap (λ (x : Key). x.kind) e
 
--- what two packets of one key say is one, where an identifier is accepted for one needuid and one message is sent under it
+-- what two packets of one key say is one, where an identifier is accepted for one needuid and the same messages are sent under it
 module _ (from_sender from_receiver : List OwnedPacket) (facts : PacketFacts from_sender from_receiver) where
   one_accept : (p q : OwnedPacket) (jd asked a b : ℕ) → Contains from_receiver p → Contains from_receiver q → p.body ≡ packet.Accept jd a → q.body ≡ packet.Accept asked b
       → a ≡ b → packet.Accept jd a ≡ packet.Accept asked b
@@ -53,40 +56,60 @@ module _ (from_sender from_receiver : List OwnedPacket) (facts : PacketFacts fro
   one_send : (p q : OwnedPacket) (a b : ℕ) (m n : List ℕ) → Contains from_sender p → Contains from_sender q → p.body ≡ packet.Send a m → q.body ≡ packet.Send b n
       → a ≡ b → packet.Send a m ≡ packet.Send b n
   one_send p q a b m n cp cq is_p is_q same =
-      let first = any-contains (IsSend a m) from_sender p cp (subst (IsSend a m) (sym is_p) (refl, refl)) in
-      let second = any-contains (IsSend a n) from_sender q cq (subst (IsSend a n) (sym is_q) (sym same, refl)) in
-      ap (λ (x : List ℕ). packet.Send a x) (facts.one_message a m n first second) ∙ ap (λ (x : ℕ). packet.Send x n) same
+      let first = any-contains (IsSend a (m ∷ [])) from_sender p cp (subst (IsSend a (m ∷ [])) (sym is_p) (refl, refl)) in
+      let second = any-contains (IsSend a (n ∷ [])) from_sender q cq (subst (IsSend a (n ∷ [])) (sym is_q) (sym same, refl)) in
+      ap (λ (x : List (List ℕ)). packet.Send a (batch_from x).first) (facts.one_message a (m ∷ []) (n ∷ []) first second) ∙ ap (λ (x : ℕ). packet.Send x n) same
+
+  one_batch : (p q : OwnedPacket) (a b : ℕ) (m n : Batch) → Contains from_sender p → Contains from_sender q → p.body ≡ packet.Batch a m → q.body ≡ packet.Batch b n
+      → a ≡ b → packet.Batch a m ≡ packet.Batch b n
+  one_batch p q a b m n cp cq is_p is_q same =
+      let first = any-contains (IsSend a (messages m)) from_sender p cp (subst (IsSend a (messages m)) (sym is_p) (refl, refl)) in
+      let second = any-contains (IsSend a (messages n)) from_sender q cq (subst (IsSend a (messages n)) (sym is_q) (sym same, refl)) in
+      ap (λ (x : List (List ℕ)). packet.Batch a (batch_from x)) (facts.one_message a (messages m) (messages n) first second)
+      ∙ ap (λ (x : ℕ). packet.Batch x n) same
 
 -- a packet that emits neither a message nor an identifier is told from others by its key alone
 alike : (p q : OwnedPacket) (b c : OwnedBody) → p.body ≡ b → q.body ≡ c
     → ((jd asked a x : ℕ) → p.body ≡ packet.Accept jd a → q.body ≡ packet.Accept asked x → a ≡ x → packet.Accept jd a ≡ packet.Accept asked x)
     → ((a x : ℕ) (m n : List ℕ) → p.body ≡ packet.Send a m → q.body ≡ packet.Send x n → a ≡ x → packet.Send a m ≡ packet.Send x n)
+    → ((a x : ℕ) (m n : Batch) → p.body ≡ packet.Batch a m → q.body ≡ packet.Batch x n → a ≡ x → packet.Batch a m ≡ packet.Batch x n)
     → (key_of b).identifier ≡ (key_of c).identifier → (key_of b).kind ≡ (key_of c).kind → b ≡ c
-alike p q (packet.NeedUid a) (packet.NeedUid x) is_p is_q accepts sends same kinds = cc
-alike p q (packet.NeedUid a) (packet.Accept jd x) is_p is_q accepts sends same kinds = absurd cc
-alike p q (packet.NeedUid a) (packet.Send x n) is_p is_q accepts sends same kinds = absurd cc
-alike p q (packet.NeedUid a) (packet.Ack x g) is_p is_q accepts sends same kinds = absurd cc
-alike p q (packet.NeedUid a) (packet.Cleanup x) is_p is_q accepts sends same kinds = absurd cc
-alike p q (packet.Accept jd a) (packet.NeedUid x) is_p is_q accepts sends same kinds = absurd cc
-alike p q (packet.Accept jd a) (packet.Accept asked x) is_p is_q accepts sends same kinds = accepts jd asked a x is_p is_q same
-alike p q (packet.Accept jd a) (packet.Send x n) is_p is_q accepts sends same kinds = absurd cc
-alike p q (packet.Accept jd a) (packet.Ack x g) is_p is_q accepts sends same kinds = absurd cc
-alike p q (packet.Accept jd a) (packet.Cleanup x) is_p is_q accepts sends same kinds = absurd cc
-alike p q (packet.Send a m) (packet.NeedUid x) is_p is_q accepts sends same kinds = absurd cc
-alike p q (packet.Send a m) (packet.Accept jd x) is_p is_q accepts sends same kinds = absurd cc
-alike p q (packet.Send a m) (packet.Send x n) is_p is_q accepts sends same kinds = sends a x m n is_p is_q same
-alike p q (packet.Send a m) (packet.Ack x g) is_p is_q accepts sends same kinds = absurd cc
-alike p q (packet.Send a m) (packet.Cleanup x) is_p is_q accepts sends same kinds = absurd cc
-alike p q (packet.Ack a f) (packet.NeedUid x) is_p is_q accepts sends same kinds = absurd cc
-alike p q (packet.Ack a f) (packet.Accept jd x) is_p is_q accepts sends same kinds = absurd cc
-alike p q (packet.Ack a f) (packet.Send x n) is_p is_q accepts sends same kinds = absurd cc
-alike p q (packet.Ack a f) (packet.Ack x g) is_p is_q accepts sends same kinds = cc
-alike p q (packet.Ack a f) (packet.Cleanup x) is_p is_q accepts sends same kinds = absurd cc
-alike p q (packet.Cleanup a) (packet.NeedUid x) is_p is_q accepts sends same kinds = absurd cc
-alike p q (packet.Cleanup a) (packet.Accept jd x) is_p is_q accepts sends same kinds = absurd cc
-alike p q (packet.Cleanup a) (packet.Send x n) is_p is_q accepts sends same kinds = absurd cc
-alike p q (packet.Cleanup a) (packet.Ack x g) is_p is_q accepts sends same kinds = absurd cc
-alike p q (packet.Cleanup a) (packet.Cleanup x) is_p is_q accepts sends same kinds = cc
+alike p q (packet.NeedUid a) (packet.NeedUid x) is_p is_q accepts sends batches same kinds = cc
+alike p q (packet.NeedUid a) (packet.Accept jd x) is_p is_q accepts sends batches same kinds = absurd cc
+alike p q (packet.NeedUid a) (packet.Send x n) is_p is_q accepts sends batches same kinds = absurd cc
+alike p q (packet.NeedUid a) (packet.Ack x g) is_p is_q accepts sends batches same kinds = absurd cc
+alike p q (packet.NeedUid a) (packet.Cleanup x) is_p is_q accepts sends batches same kinds = absurd cc
+alike p q (packet.NeedUid a) (packet.Batch x n) is_p is_q accepts sends batches same kinds = absurd cc
+alike p q (packet.Accept jd a) (packet.NeedUid x) is_p is_q accepts sends batches same kinds = absurd cc
+alike p q (packet.Accept jd a) (packet.Accept asked x) is_p is_q accepts sends batches same kinds = accepts jd asked a x is_p is_q same
+alike p q (packet.Accept jd a) (packet.Send x n) is_p is_q accepts sends batches same kinds = absurd cc
+alike p q (packet.Accept jd a) (packet.Ack x g) is_p is_q accepts sends batches same kinds = absurd cc
+alike p q (packet.Accept jd a) (packet.Cleanup x) is_p is_q accepts sends batches same kinds = absurd cc
+alike p q (packet.Accept jd a) (packet.Batch x n) is_p is_q accepts sends batches same kinds = absurd cc
+alike p q (packet.Send a m) (packet.NeedUid x) is_p is_q accepts sends batches same kinds = absurd cc
+alike p q (packet.Send a m) (packet.Accept jd x) is_p is_q accepts sends batches same kinds = absurd cc
+alike p q (packet.Send a m) (packet.Send x n) is_p is_q accepts sends batches same kinds = sends a x m n is_p is_q same
+alike p q (packet.Send a m) (packet.Ack x g) is_p is_q accepts sends batches same kinds = absurd cc
+alike p q (packet.Send a m) (packet.Cleanup x) is_p is_q accepts sends batches same kinds = absurd cc
+alike p q (packet.Send a m) (packet.Batch x n) is_p is_q accepts sends batches same kinds = absurd cc
+alike p q (packet.Ack a f) (packet.NeedUid x) is_p is_q accepts sends batches same kinds = absurd cc
+alike p q (packet.Ack a f) (packet.Accept jd x) is_p is_q accepts sends batches same kinds = absurd cc
+alike p q (packet.Ack a f) (packet.Send x n) is_p is_q accepts sends batches same kinds = absurd cc
+alike p q (packet.Ack a f) (packet.Ack x g) is_p is_q accepts sends batches same kinds = cc
+alike p q (packet.Ack a f) (packet.Cleanup x) is_p is_q accepts sends batches same kinds = absurd cc
+alike p q (packet.Ack a f) (packet.Batch x n) is_p is_q accepts sends batches same kinds = absurd cc
+alike p q (packet.Cleanup a) (packet.NeedUid x) is_p is_q accepts sends batches same kinds = absurd cc
+alike p q (packet.Cleanup a) (packet.Accept jd x) is_p is_q accepts sends batches same kinds = absurd cc
+alike p q (packet.Cleanup a) (packet.Send x n) is_p is_q accepts sends batches same kinds = absurd cc
+alike p q (packet.Cleanup a) (packet.Ack x g) is_p is_q accepts sends batches same kinds = absurd cc
+alike p q (packet.Cleanup a) (packet.Cleanup x) is_p is_q accepts sends batches same kinds = cc
+alike p q (packet.Cleanup a) (packet.Batch x n) is_p is_q accepts sends batches same kinds = absurd cc
+alike p q (packet.Batch a m) (packet.NeedUid x) is_p is_q accepts sends batches same kinds = absurd cc
+alike p q (packet.Batch a m) (packet.Accept jd x) is_p is_q accepts sends batches same kinds = absurd cc
+alike p q (packet.Batch a m) (packet.Send x n) is_p is_q accepts sends batches same kinds = absurd cc
+alike p q (packet.Batch a m) (packet.Ack x g) is_p is_q accepts sends batches same kinds = absurd cc
+alike p q (packet.Batch a m) (packet.Cleanup x) is_p is_q accepts sends batches same kinds = absurd cc
+alike p q (packet.Batch a m) (packet.Batch x n) is_p is_q accepts sends batches same kinds = batches a x m n is_p is_q same
 
 -- a sender emits no accept, and a receiver no send
 
@@ -124,17 +147,29 @@ sender_start s (sending.Quiet got) (m ∷ w) word = tt
 sender_start s (sending.NeedId jd c) w word = tt
 sender_start s (sending.Send id c) w word = tt
 
+sender_batch : (s : sender.SenderState) (mode : SenderMode) (w : List (List ℕ)) (word : ℕ) → EmitsAsSender (sender.start_batch s mode w word)
+sender_batch s sending.Down w word = tt
+sender_batch s (sending.Quiet got) [] word = tt
+sender_batch s (sending.Quiet got) (m ∷ w) word = tt
+sender_batch s (sending.NeedId jd c) w word = tt
+sender_batch s (sending.Send id c) w word = tt
+
+carries_as_sender : (id : ℕ) (load : Payload) → IsOfSender (sender.carrying id load)
+carries_as_sender id (payload.Message m) = tt
+carries_as_sender id (payload.Batch b) = tt
+
 sender_resend : (s : sender.SenderState) (mode : SenderMode) → EmitsAsSender (sender.resend s mode)
 sender_resend s sending.Down = tt
 sender_resend s (sending.Quiet got) = tt
 sender_resend s (sending.NeedId jd c) = tt
-sender_resend s (sending.Send id c) = tt
+sender_resend s (sending.Send id c) = carries_as_sender id c
 
 sender_accept : (s : sender.SenderState) (mode : SenderMode) (jd id : ℕ) → EmitsAsSender (sender.accept s mode jd id)
 sender_accept s sending.Down jd id = tt
 sender_accept s (sending.Quiet got) jd id = tt
 sender_accept s (sending.NeedId asked c) jd id =
-    sender_either (asked == jd) (sender.emitting (record s { mode = sending.Send id c }) (packet.Send id c)) (sender.emitting s (packet.Cleanup id)) tt tt
+    sender_either (asked == jd) (sender.emitting (record s { mode = sending.Send id c }) (sender.carrying id c)) (sender.emitting s (packet.Cleanup id))
+    (carries_as_sender id c) tt
 sender_accept s (sending.Send under c) jd id = sender_either (under == id) (sender.quietly s) (sender.emitting s (packet.Cleanup id)) tt tt
 
 sender_cleaning_up : (s : sender.SenderState) (id : ℕ) (got : Bool) → EmitsAsSender (sender.cleaning_up s id got)
@@ -155,6 +190,7 @@ sender_deliver s (packet.Accept jd id) = sender_accept s s.mode jd id
 sender_deliver s (packet.Send id m) = tt
 sender_deliver s (packet.Ack id got) = sender_ack s s.mode id got
 sender_deliver s (packet.Cleanup id) = tt
+sender_deliver s (packet.Batch id b) = tt
 
 sender_recover : (s : sender.SenderState) (mode : SenderMode) → EmitsAsSender (sender.recover s mode)
 sender_recover s sending.Down = tt
@@ -167,6 +203,7 @@ emits_as_sender s (act.Put m) = sender_put s s.mode m
 emits_as_sender s act.Get = tt
 emits_as_sender s act.Ack = sender_get_ack s s.mode s.waiting
 emits_as_sender s (act.Start word) = sender_start s s.mode s.waiting word
+emits_as_sender s (act.Batch word) = sender_batch s s.mode s.waiting word
 emits_as_sender s act.Resend = sender_resend s s.mode
 emits_as_sender s (act.Deliver p word) = sender_deliver s p.body
 emits_as_sender s act.Crash = tt
@@ -191,13 +228,13 @@ receiver_needuid s (receiving.Rcvd id m) jd word = tt
 receiver_needuid s (receiving.Ack id) jd word = tt
 receiver_needuid s receiving.Down jd word = tt
 
-receiver_send : (s : receiver.ReceiverState) (mode : ReceiverMode) (id : ℕ) (m : List ℕ) → EmitsAsReceiver (receiver.send s mode id m)
-receiver_send s receiving.Idle id m = tt
-receiver_send s (receiving.Accept jd accepted) id m =
+receiver_batch : (s : receiver.ReceiverState) (mode : ReceiverMode) (id : ℕ) (m : Batch) → EmitsAsReceiver (receiver.batch s mode id m)
+receiver_batch s receiving.Idle id m = tt
+receiver_batch s (receiving.Accept jd accepted) id m =
     receiver_either (accepted == id) (receiver.quietly (record s { mode = receiving.Rcvd id m })) (receiver.emitting s (packet.Ack id false)) tt tt
-receiver_send s (receiving.Rcvd under held) id m = receiver_either (under == id) (receiver.quietly s) (receiver.emitting s (packet.Ack id false)) tt tt
-receiver_send s (receiving.Ack under) id m = tt
-receiver_send s receiving.Down id m = tt
+receiver_batch s (receiving.Rcvd under held) id m = receiver_either (under == id) (receiver.quietly s) (receiver.emitting s (packet.Ack id false)) tt tt
+receiver_batch s (receiving.Ack under) id m = tt
+receiver_batch s receiving.Down id m = tt
 
 receiver_cleanup : (s : receiver.ReceiverState) (mode : ReceiverMode) (id : ℕ) → EmitsAsReceiver (receiver.cleanup s mode id)
 receiver_cleanup s receiving.Idle id = tt
@@ -209,7 +246,8 @@ receiver_cleanup s receiving.Down id = tt
 receiver_deliver : (s : receiver.ReceiverState) (body : OwnedBody) (word : ℕ) → EmitsAsReceiver (receiver.deliver s body word)
 receiver_deliver s (packet.NeedUid jd) word = receiver_needuid s s.mode jd word
 receiver_deliver s (packet.Accept jd id) word = tt
-receiver_deliver s (packet.Send id m) word = receiver_send s s.mode id m
+receiver_deliver s (packet.Send id m) word = receiver_batch s s.mode id (alone m)
+receiver_deliver s (packet.Batch id b) word = receiver_batch s s.mode id b
 receiver_deliver s (packet.Ack id got) word = tt
 receiver_deliver s (packet.Cleanup id) word = receiver_cleanup s s.mode id
 
@@ -239,6 +277,7 @@ emits_as_receiver s (act.Put m) = tt
 emits_as_receiver s act.Get = receiver_get s s.mode
 emits_as_receiver s act.Ack = tt
 emits_as_receiver s (act.Start word) = tt
+emits_as_receiver s (act.Batch word) = tt
 emits_as_receiver s act.Resend = receiver_resend s s.mode
 emits_as_receiver s (act.Deliver p word) = receiver_deliver s p.body word
 emits_as_receiver s act.Crash = tt
@@ -256,6 +295,7 @@ emission_alike s Sender a p q facts is c same =
     alike q p q.body p.body refl refl
     (λ jd asked x y is_q is_p e. absurd (subst IsOfSender is_p of_sender))
     (λ x y m n is_q is_p e. one_send from_sender s.receiver.emitted facts.packets q p x y m n before now is_q is_p e)
+    (λ x y m n is_q is_p e. one_batch from_sender s.receiver.emitted facts.packets q p x y m n before now is_q is_p e)
     (identifiers _ _ same) (kinds _ _ same)
 emission_alike s Receiver a p q facts is c same =
     let from_receiver = option_to_list (receiver.row s.receiver.state a).emitted ++ s.receiver.emitted in
@@ -265,6 +305,7 @@ emission_alike s Receiver a p q facts is c same =
     let of_receiver : IsOfReceiver p.body = subst (λ (o : Option OwnedPacket). IfSome o (λ x. IsOfReceiver x.body)) is (emits_as_receiver s.receiver.state a) in
     alike q p q.body p.body refl refl
     (λ jd asked x y is_q is_p e. one_accept s.sender.emitted from_receiver facts.packets q p jd asked x y before now is_q is_p e)
+    (λ x y m n is_q is_p e. absurd (subst IsOfReceiver is_p of_receiver))
     (λ x y m n is_q is_p e. absurd (subst IsOfReceiver is_p of_receiver))
     (identifiers _ _ same) (kinds _ _ same)
 
@@ -279,6 +320,15 @@ start_emits s (sending.NeedId jd m) waiting word w is = absurd cc
 start_emits s (sending.Send id m) waiting word w is = absurd cc
 start_emits s sending.Down waiting word w is = absurd cc
 
+batch_emits : (s : sender.SenderState) (mode : SenderMode) (waiting : List (List ℕ)) (word w : ℕ) → option_map (λ (p : OwnedPacket). word) (sender.start_batch s mode waiting word).emitted ≡ Some w
+    → (p : OwnedPacket) × ((sender.start_batch s mode waiting word).emitted ≡ Some p) × (key_of p.body ≡ key NeedUid w)
+batch_emits s (sending.Quiet got) [] word w is = absurd cc
+batch_emits s (sending.Quiet got) (m ∷ rest) word w is =
+    (record { stream = s.stream; body = packet.NeedUid word }, refl, ap (λ (o : Option ℕ). key NeedUid (unwrap_or o 0)) is)
+batch_emits s (sending.NeedId jd m) waiting word w is = absurd cc
+batch_emits s (sending.Send id m) waiting word w is = absurd cc
+batch_emits s sending.Down waiting word w is = absurd cc
+
 needuid_emits : (s : receiver.ReceiverState) (mode : ReceiverMode) (body : OwnedBody) (word w : ℕ) → s.mode ≡ mode → receiver.accepted_word mode body word ≡ Some w
     → (p : OwnedPacket) × ((receiver.deliver s body word).emitted ≡ Some p) × (key_of p.body ≡ key Accept w)
 needuid_emits s receiving.Idle (packet.NeedUid jd) word w at is =
@@ -287,6 +337,7 @@ needuid_emits s receiving.Idle (packet.Accept jd id) word w at is = absurd cc
 needuid_emits s receiving.Idle (packet.Send id m) word w at is = absurd cc
 needuid_emits s receiving.Idle (packet.Ack id got) word w at is = absurd cc
 needuid_emits s receiving.Idle (packet.Cleanup id) word w at is = absurd cc
+needuid_emits s receiving.Idle (packet.Batch id b) word w at is = absurd cc
 needuid_emits s (receiving.Accept jd id) body word w at is = absurd cc
 needuid_emits s (receiving.Rcvd id m) body word w at is = absurd cc
 needuid_emits s (receiving.Ack id) body word w at is = absurd cc
@@ -298,6 +349,7 @@ word_emission s Sender (act.Put m) w is = absurd cc
 word_emission s Sender act.Get w is = absurd cc
 word_emission s Sender act.Ack w is = absurd cc
 word_emission s Sender (act.Start word) w is = start_emits s.sender.state s.sender.state.mode s.sender.state.waiting word w is
+word_emission s Sender (act.Batch word) w is = batch_emits s.sender.state s.sender.state.mode s.sender.state.waiting word w is
 word_emission s Sender act.Resend w is = absurd cc
 word_emission s Sender (act.Deliver p word) w is = absurd cc
 word_emission s Sender act.Crash w is = absurd cc
@@ -306,6 +358,7 @@ word_emission s Receiver (act.Put m) w is = absurd cc
 word_emission s Receiver act.Get w is = absurd cc
 word_emission s Receiver act.Ack w is = absurd cc
 word_emission s Receiver (act.Start word) w is = absurd cc
+word_emission s Receiver (act.Batch word) w is = absurd cc
 word_emission s Receiver act.Resend w is = absurd cc
 word_emission s Receiver (act.Deliver p word) w is = needuid_emits s.receiver.state s.receiver.state.mode p.body word w refl is
 word_emission s Receiver act.Crash w is = absurd cc
@@ -360,6 +413,7 @@ is_needuid (packet.Accept jd id) w same kind = absurd cc
 is_needuid (packet.Send id m) w same kind = absurd cc
 is_needuid (packet.Ack id got) w same kind = absurd cc
 is_needuid (packet.Cleanup id) w same kind = absurd cc
+is_needuid (packet.Batch id b) w same kind = absurd cc
 
 is_accept : (b : OwnedBody) (w : ℕ) → (key_of b).identifier ≡ w → (key_of b).kind ≡ Accept → IsAccept w b
 is_accept (packet.NeedUid jd) w same kind = absurd cc
@@ -367,6 +421,7 @@ is_accept (packet.Accept jd id) w same kind = same
 is_accept (packet.Send id m) w same kind = absurd cc
 is_accept (packet.Ack id got) w same kind = absurd cc
 is_accept (packet.Cleanup id) w same kind = absurd cc
+is_accept (packet.Batch id b) w same kind = absurd cc
 
 pub word_used : (s : Stream) (side : End) (w : ℕ) → Invariant s → HasWord (emitted_by s side) side w → Contains (words_of s side) w
 word_used s Sender w facts (p, c, same) = facts.needuid_words w (any-contains (IsNeeduid w) s.sender.emitted p c (is_needuid p.body w (identifiers _ _ same) (kinds _ _ same)))

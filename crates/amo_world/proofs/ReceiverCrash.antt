@@ -8,7 +8,9 @@ use Rattle.amo_core.specs.declared.sender.SenderMode.{SenderMode}
 use Rattle.amo_core.specs.declared.sender.SenderMode.TheVariants as sending
 use Rattle.amo_core.specs.declared.receiver.ReceiverMode.{ReceiverMode}
 use Rattle.amo_core.specs.declared.receiver.ReceiverMode.TheVariants as receiving
+use Rattle.amo_packet.specs.Batch.{Batch, messages}
 use Rattle.amo_core.specs.Sender as sender
+use Rattle.amo_core.specs.declared.payload.Payload.{Payload}
 use Rattle.amo_world.specs.Stream.{Stream, after}
 use Rattle.amo_world.specs.Doubt.{entry, Moves, set_down}
 use Rattle.amo_world.specs.View.{entries, has, received, current, is_known_in_doubt, view_of, view}
@@ -30,16 +32,17 @@ module _ (waiting : List (List ℕ)) (from_sender from_receiver : List OwnedPack
       Moves (set_down (view_of mode waiting at from_sender from_receiver untaken) Receiver true) []
       (view_of mode waiting receiving.Down from_sender from_receiver untaken)
 
-  -- a message that the sender sends may still be lost
-  forgets_sent : (untaken : List (List ℕ)) (id x : ℕ) (m n : List ℕ) → eqb id x ≡ true → untaken ≡ m ∷ []
-      → Forgets (sending.Send x n) (receiving.Rcvd id m) untaken
-  forgets_sent untaken id x m n same is =
-      subst (λ (u : List (List ℕ)). Forgets (sending.Send x n) (receiving.Rcvd id m) u) (sym is)
+  -- what the sender sends may still be lost
+  forgets_sent : (untaken : List (List ℕ)) (id x : ℕ) (b : Batch) (n : Payload) → eqb id x ≡ true → untaken ≡ messages b
+      → Forgets (sending.Send x n) (receiving.Rcvd id b) untaken
+  forgets_sent untaken id x b n same is =
+      subst (λ (u : List (List ℕ)). Forgets (sending.Send x n) (receiving.Rcvd id b) u) (sym is)
       (moves-to
-      (marks (set_down (view_of (sending.Send x n) waiting (receiving.Rcvd id m) from_sender from_receiver (m ∷ [])) Receiver true)
-      (entry true m ∷ entries false waiting)
-      (is_known_in_doubt (sending.Send x n) waiting (m ∷ []) receiving.Down) (or_down (sender.is_down (sending.Send x n)))
-      (rw same (refl, same-refl (entries false waiting))))
+      (marks (set_down (view_of (sending.Send x n) waiting (receiving.Rcvd id b) from_sender from_receiver (messages b)) Receiver true)
+      (entries true (messages b) ++ entries false waiting)
+      (is_known_in_doubt (sending.Send x n) waiting (messages b) receiving.Down) (or_down (sender.is_down (sending.Send x n)))
+      (rw same (same-append (entries false (messages b)) (entries false waiting) (entries true (messages b)) (entries false waiting)
+      (entries_same false true (messages b)) (same-refl (entries false waiting)))))
       (state-eq _ _ refl refl refl refl refl))
 
   -- what the receiver held for a sender that forgot it is lost, and what the sender sends is in doubt
@@ -62,7 +65,7 @@ module _ (waiting : List (List ℕ)) (from_sender from_receiver : List OwnedPack
       same_current : (mode : SenderMode) → IsListed mode at
           → SameMessages (current mode at from_receiver untaken) (current mode receiving.Down from_receiver untaken)
       same_current (sending.Quiet got) is = tt
-      same_current (sending.NeedId jd m) is = (refl, tt)
+      same_current (sending.NeedId jd load) is = entries_same _ _ (sender.messages_in load)
       same_current (sending.Send x m) is = rw is (entries_same (not (has at x)) true untaken)
       same_current sending.Down is = tt
 

@@ -1,5 +1,5 @@
 -- The invariant is kept by each row of the receiver's table.
-use Rattle.std.proofs.Common.{◌≡◌, ℕ, Bool, true, false, Option, None, IfSome, List, ◌∷◌, ◌++◌, refl, sym, ◌∙◌, subst, inl, inr, ⊎_elim}
+use Rattle.std.proofs.Common.{◌≡◌, ℕ, Bool, true, false, Option, None, IfSome, List, [], ◌∷◌, ◌++◌, refl, sym, ◌∙◌, subst, inl, inr, ⊎_elim}
 use Rattle.std.specs.List.{Contains}
 use Rattle.std.specs.Option.{option_to_list}
 use Rattle.std.proofs.lemmas.Bool.Decides.{eqb_tells}
@@ -7,6 +7,7 @@ use Rattle.amo_object.specs.declared.step.End.TheVariants.{Receiver}
 use Rattle.amo_packet.specs.declared.packet.OwnedPacket.{OwnedPacket}
 use Rattle.amo_packet.specs.declared.packet.OwnedBody.{OwnedBody}
 use Rattle.amo_packet.specs.declared.packet.OwnedBody.TheVariants as packet
+use Rattle.amo_packet.specs.Batch.{Batch, alone, messages}
 use Rattle.amo_core.specs.declared.act.Act.{Act}
 use Rattle.amo_core.specs.declared.act.Act.TheVariants as act
 use Rattle.amo_core.specs.Row.{Row}
@@ -47,7 +48,7 @@ receiver_on : (p : OwnedPacket) (at : ReceiverMode) (from_receiver : List OwnedP
     → ReceiverFacts at (p ∷ from_receiver)
 receiver_on p Idle from_receiver f = tt
 receiver_on p (Accept jd id) from_receiver f = inr f
-receiver_on p (Rcvd id m) from_receiver f = inr f
+receiver_on p (Rcvd id b) from_receiver f = inr f
 receiver_on p (Ack id) from_receiver f = inr f
 receiver_on p Down from_receiver f = tt
 
@@ -148,7 +149,7 @@ module _ (n : ℕ) (mode : SenderMode) (waiting : List (List ℕ)) (from_sender 
   }
 
   -- the facts hold once the receiver acks that nothing was got under an identifier that it does not have
-  acks_lost : (at : ReceiverMode) (id : ℕ) (m : List ℕ) → Before at → Any (IsSend id m) from_sender → has at id ≡ false
+  acks_lost : (at : ReceiverMode) (id : ℕ) (m : List (List ℕ)) → Before at → Any (IsSend id m) from_sender → has at id ≡ false
       → InvariantAt mode waiting at from_sender (bears (packet.Ack id false) ∷ from_receiver) untaken sender_words receiver_words
   acks_lost at id m f came lacks = let name : Any (IsPastAccept id) from_sender = send_is_past id m from_sender came in
       acks at id false f (f.packets.accepted_first id name)
@@ -170,33 +171,42 @@ module _ (n : ℕ) (mode : SenderMode) (waiting : List (List ℕ)) (from_sender 
     | inl h ↦ rw h.0 (accepts_again wanted jd id h.1 f)
     | inr h ↦ rw h.0 f
   ]
-  needuid_keeps (Rcvd id m) jd word f ask new = f
+  needuid_keeps (Rcvd id b) jd word f ask new = f
   needuid_keeps (Ack id) jd word f ask new = f
   needuid_keeps Down jd word f ask new = f
 
-  -- the facts hold after a send comes
-  send_keeps : (at : ReceiverMode) (id : ℕ) (m : List ℕ) (word : ℕ) → Before at → Any (IsSend id m) from_sender
-      → After (receiver.send (state at) at id m) (receiver.accepted_word at (packet.Send id m) word)
-  send_keeps Idle id m word f came = acks_lost Idle id m f came refl
-  send_keeps (Accept jd given) id m word f came = elim (eqb_tells given id) [
+  -- the facts hold after a batch comes, and so after a send
+  batch_keeps : (at : ReceiverMode) (id : ℕ) (b : Batch) → Before at → Any (IsSend id (messages b)) from_sender
+      → After (receiver.batch (state at) at id b) None
+  batch_keeps Idle id b f came = acks_lost Idle id (messages b) f came refl
+  batch_keeps (Accept jd given) id b f came = elim (eqb_tells given id) [
     | inl h ↦ rw h.0 (takes (subst (λ x. Before (Accept jd x)) h.1 f))
-    | inr h ↦ rw h.0 (acks_lost (Accept jd given) id m f came h.0)
+    | inr h ↦ rw h.0 (acks_lost (Accept jd given) id (messages b) f came h.0)
   ]
     where
-      takes : Before (Accept jd id) → Before (Rcvd id m)
+      takes : Before (Accept jd id) → Before (Rcvd id b)
       takes g =
-          with_receiver (Accept jd id) (Rcvd id m) g
-          (known_taken waiting from_sender from_receiver untaken mode jd id m g.packets came g.sender)
+          with_receiver (Accept jd id) (Rcvd id b) g
+          (known_taken waiting from_sender from_receiver untaken mode jd id b g.packets came g.sender)
           (accepted jd id from_receiver g.receiver)
-  send_keeps (Rcvd under held) id m word f came = elim (eqb_tells under id) [
+  batch_keeps (Rcvd under held) id b f came = elim (eqb_tells under id) [
     | inl h ↦ rw h.0 f
-    | inr h ↦ rw h.0 (acks_lost (Rcvd under held) id m f came h.0)
+    | inr h ↦ rw h.0 (acks_lost (Rcvd under held) id (messages b) f came h.0)
   ]
-  send_keeps (Ack under) id m word f came = elim (eqb_tells under id) [
+  batch_keeps (Ack under) id b f came = elim (eqb_tells under id) [
     | inl h ↦ rw h.0 (acks_got under id h.1 f)
-    | inr h ↦ rw h.0 (acks_lost (Ack under) id m f came h.0)
+    | inr h ↦ rw h.0 (acks_lost (Ack under) id (messages b) f came h.0)
   ]
-  send_keeps Down id m word f came = f
+  batch_keeps Down id b f came = f
+
+  -- a send and a batch use up no word
+  no_word : (at : ReceiverMode) (id : ℕ) (m : List ℕ) (word : ℕ) → receiver.accepted_word at (packet.Send id m) word ≡ None
+  no_word Idle id m word = refl
+  no_word at id m word = refl
+
+  no_word_of_batch : (at : ReceiverMode) (id : ℕ) (b : Batch) (word : ℕ) → receiver.accepted_word at (packet.Batch id b) word ≡ None
+  no_word_of_batch Idle id b word = refl
+  no_word_of_batch at id b word = refl
 
   -- the facts hold after a cleanup comes
   cleanup_keeps : (at : ReceiverMode) (id word : ℕ) → Before at
@@ -231,7 +241,10 @@ module _ (n : ℕ) (mode : SenderMode) (waiting : List (List ℕ)) (from_sender 
       → After (receiver.deliver (state at) body word) (receiver.accepted_word at body word)
   deliver_keeps at (packet.NeedUid jd) word f said new = needuid_keeps at jd word f (said (IsNeeduid jd) refl) new
   deliver_keeps at (packet.Accept jd id) word f said new = accept_keeps at jd id word f
-  deliver_keeps at (packet.Send id m) word f said new = send_keeps at id m word f (said (IsSend id m) (refl, refl))
+  deliver_keeps at (packet.Send id m) word f said new =
+      rw (no_word at id m word) (batch_keeps at id (alone m) f (said (IsSend id (m ∷ [])) (refl, refl)))
+  deliver_keeps at (packet.Batch id b) word f said new =
+      rw (no_word_of_batch at id b word) (batch_keeps at id b f (said (IsSend id (messages b)) (refl, refl)))
   deliver_keeps at (packet.Ack id got) word f said new = ack_keeps at id got word f
   deliver_keeps at (packet.Cleanup id) word f said new = cleanup_keeps at id word f
 
@@ -239,7 +252,7 @@ module _ (n : ℕ) (mode : SenderMode) (waiting : List (List ℕ)) (from_sender 
   resend_keeps : (at : ReceiverMode) → Before at → After (receiver.resend (state at) at) None
   resend_keeps Idle f = f
   resend_keeps (Accept jd id) f = accepts_again jd jd id refl f
-  resend_keeps (Rcvd id m) f = f
+  resend_keeps (Rcvd id b) f = f
   resend_keeps (Ack id) f = acks_got id id refl f
   resend_keeps Down f = f
 
@@ -247,7 +260,7 @@ module _ (n : ℕ) (mode : SenderMode) (waiting : List (List ℕ)) (from_sender 
   recover_keeps : (at : ReceiverMode) → Before at → After (receiver.recover (state at) at) None
   recover_keeps Idle f = f
   recover_keeps (Accept jd id) f = f
-  recover_keeps (Rcvd id m) f = f
+  recover_keeps (Rcvd id b) f = f
   recover_keeps (Ack id) f = f
   recover_keeps Down f = rests Down f
 
@@ -265,13 +278,17 @@ module _ (n : ℕ) (mode : SenderMode) (waiting : List (List ℕ)) (from_sender 
       (untaken_once_got act.Get mode at untaken) sender_words receiver_words)
   get_keeps Idle f = with_untaken Idle Idle act.Get from_receiver receiver_words tt f
   get_keeps (Accept jd id) f = with_untaken (Accept jd id) (Accept jd id) act.Get from_receiver receiver_words tt f
-  get_keeps (Rcvd id m) f = record {
+  get_keeps (Rcvd id b) f = record {
     packets = f.packets;
-    sender = known_got waiting from_sender from_receiver untaken mode id m f.sender;
-    receiver = f.receiver;
+    sender = known_got waiting from_sender from_receiver untaken mode id b.first b.rest f.sender;
+    receiver = with_rest_accepted id b.rest f.receiver;
     needuid_words = f.needuid_words;
     accept_words = f.accept_words;
   }
+    where
+      with_rest_accepted : (id : ℕ) (rest : List (List ℕ)) → Any (IsAccept id) from_receiver → ReceiverFacts (receiver.with_rest id rest) from_receiver
+      with_rest_accepted id [] f = f
+      with_rest_accepted id (m ∷ rest) f = f
   get_keeps (Ack id) f = with_untaken (Ack id) (Ack id) act.Get from_receiver receiver_words tt f
   get_keeps Down f = with_untaken Down Down act.Get from_receiver receiver_words tt f
 
@@ -289,6 +306,7 @@ module _ (n : ℕ) (mode : SenderMode) (waiting : List (List ℕ)) (from_sender 
   row_keeps at act.Get f came new = get_keeps at f
   row_keeps at act.Ack f came new = with_untaken at _ act.Ack _ _ tt f
   row_keeps at (act.Start word) f came new = with_untaken at _ (act.Start word) _ _ tt f
+  row_keeps at (act.Batch word) f came new = with_untaken at _ (act.Batch word) _ _ tt f
   row_keeps at act.Resend f came new = with_untaken at _ act.Resend _ _ tt (resend_keeps at f)
   row_keeps at (act.Deliver p word) f came new =
       with_untaken at _ (act.Deliver p word) _ _ tt (deliver_keeps at p.body word f (λ P is. any-contains P from_sender p came is) new)

@@ -8,12 +8,16 @@ use Rattle.amo_object.specs.declared.step.Step.TheVariants as step
 use Rattle.amo_object.specs.Queue.{status_of}
 use Rattle.amo_packet.specs.declared.packet.OwnedPacket.{OwnedPacket}
 use Rattle.amo_packet.specs.declared.packet.OwnedBody.TheVariants as packet
+use Rattle.amo_packet.specs.Batch.{Batch, batch, messages}
 use Rattle.amo_core.specs.declared.act.Act.TheVariants as act
 use Rattle.amo_core.specs.declared.sender.SenderMode.{SenderMode}
 use Rattle.amo_core.specs.declared.sender.SenderMode.TheVariants as sending
 use Rattle.amo_core.specs.declared.receiver.ReceiverMode.{ReceiverMode}
 use Rattle.amo_core.specs.declared.receiver.ReceiverMode.TheVariants as receiving
 use Rattle.amo_core.specs.Sender as sender
+use Rattle.amo_core.specs.Receiver.{with_rest}
+use Rattle.amo_core.specs.declared.payload.Payload.{Payload}
+use Rattle.amo_core.specs.declared.payload.Payload.TheVariants as payload
 use Rattle.amo_world.specs.Doubt.{Entry, entry, DoubtState, MovesUnmarking, settled_before}
 use Rattle.amo_core.specs.Receiver.{is_holding, is_acking}
 use Rattle.amo_world.specs.View.{entries, carried, is_lost_accept, may_meet_lost_accept, received, current, known, is_known_in_doubt, is_receiver_down, view_of}
@@ -21,7 +25,7 @@ use Rattle.amo_world.proofs.Moving.{state-eq}
 use Rattle.amo_world.proofs.Unmarking.{stays, quietly_then, calls, moves-to, HasFewerMarks, fewer-refl, fewer-append, unmarks, fewer_marks, settled_without, leaves}
 use Rattle.amo_world.proofs.Untaken.{TakesNothing}
 use Rattle.amo_world.proofs.Packets.{Any, IsAcceptFor, IsPastAccept}
-use Rattle.amo_world.proofs.Views.{same_either_way, eqb_same, eqb_swap, carried_none, lost_fewer, lost_same, entries_doubted, DoubtsNoMore, not_fewer, current_fewer}
+use Rattle.amo_world.proofs.Views.{same_either_way, eqb_same, eqb_swap, carried_none, lost_fewer, lost_same, entries_fewer, entries_doubted, DoubtsNoMore, not_fewer, current_fewer}
 
 -- the sender does not wait for what another receiver gave, if this one did not give it
 abbrev pub GivesNoMore : SenderMode → ReceiverMode → ReceiverMode → Type 0
@@ -93,7 +97,8 @@ stays_known mode (w ∷ waiting) at from_receiver untaken to listed =
     settled_before_some (current mode at from_receiver untaken) (entries false waiting) (entry false w)
     (known mode (w ∷ waiting) untaken) to
 stays_known (sending.Quiet got) [] at from_receiver untaken to listed = settled_status got [] to
-stays_known (sending.NeedId jd m) [] at from_receiver untaken to listed = refl
+stays_known (sending.NeedId jd (payload.Message m)) [] at from_receiver untaken to listed = refl
+stays_known (sending.NeedId jd (payload.Batch b)) [] at from_receiver untaken to listed = refl
 stays_known (sending.Send id m) [] at from_receiver [] to listed = settled_yes (current (sending.Send id m) at from_receiver [] ++ []) to
 stays_known (sending.Send id m) [] at from_receiver (n ∷ untaken) to listed = rw listed refl
 stays_known sending.Down [] at from_receiver untaken to listed = refl
@@ -121,60 +126,80 @@ away_not_sending id (sending.Quiet got) from_receiver away = refl
 away_not_sending id sending.Down from_receiver away = refl
 
 -- the mark of the status depends on what the receiver gave away
-same_known : (waiting untaken : List (List ℕ)) (id : ℕ) (m : List ℕ) (a b : ReceiverMode) → is_acking a id ≡ is_acking b id
+same_known : (waiting untaken : List (List ℕ)) (id : ℕ) (m : Payload) (a b : ReceiverMode) → is_acking a id ≡ is_acking b id
     → is_known_in_doubt (sending.Send id m) waiting untaken a ≡ is_known_in_doubt (sending.Send id m) waiting untaken b
 same_known [] [] id m a b same = ap (λ (h : Bool). not h) same
 same_known [] (n ∷ untaken) id m a b same = refl
 same_known (w ∷ waiting) untaken id m a b same = refl
 
--- a message that the sender sends comes, under the identifier that is accepted
+-- what the sender sends comes, under the identifier that is accepted
 pub takes_sent : (waiting : List (List ℕ)) (from_sender from_receiver : List OwnedPacket) (untaken : List (List ℕ)) (jd id under : ℕ)
-    (m : List ℕ)
-    → eqb under id ≡ true → untaken ≡ m ∷ []
-    → MovesUnmarking (view_of (sending.Send under m) waiting (receiving.Accept jd id) from_sender from_receiver untaken) []
-    (view_of (sending.Send under m) waiting (receiving.Rcvd id m) from_sender from_receiver untaken)
-takes_sent waiting from_sender from_receiver untaken jd id under m same is =
+    (load : Payload) (b : Batch)
+    → eqb under id ≡ true → untaken ≡ messages b
+    → MovesUnmarking (view_of (sending.Send under load) waiting (receiving.Accept jd id) from_sender from_receiver untaken) []
+    (view_of (sending.Send under load) waiting (receiving.Rcvd id b) from_sender from_receiver untaken)
+takes_sent waiting from_sender from_receiver untaken jd id under load b same is =
     let back : eqb id under ≡ true = eqb_swap id under ∙ same in
     subst
     (λ (u : List (List ℕ)). MovesUnmarking
-    (view_of (sending.Send under m) waiting (receiving.Accept jd id) from_sender from_receiver u) []
-    (view_of (sending.Send under m) waiting (receiving.Rcvd id m) from_sender from_receiver u))
+    (view_of (sending.Send under load) waiting (receiving.Accept jd id) from_sender from_receiver u) []
+    (view_of (sending.Send under load) waiting (receiving.Rcvd id b) from_sender from_receiver u))
     (sym is)
     (moves-to (stays _) (state-eq _ _
-    (rw (same, back) refl)
+    (rw (same, back) (ap (λ (h : Bool). entry false b.first ∷ (entries (not h) b.rest ++ entries false waiting)) back))
     refl
-    (known_while_untaken (sending.Send under m) waiting m [] (receiving.Accept jd id) ∙ sym
-    (known_while_untaken (sending.Send under m) waiting m [] (receiving.Rcvd id m)))
+    (known_while_untaken (sending.Send under load) waiting b.first b.rest (receiving.Accept jd id) ∙ sym
+    (known_while_untaken (sending.Send under load) waiting b.first b.rest (receiving.Rcvd id b)))
     refl
     refl))
 
--- the client takes the message that the sender sends
+-- the client takes the first message of what the sender sends
 pub gives_sent : (waiting : List (List ℕ)) (from_sender from_receiver : List OwnedPacket) (untaken : List (List ℕ)) (id x : ℕ)
-    (m n : List ℕ) → eqb id x ≡ true → untaken ≡ m ∷ []
-    → MovesUnmarking (view_of (sending.Send x n) waiting (receiving.Rcvd id m) from_sender from_receiver untaken) (step.Get m ∷ [])
-    (view_of (sending.Send x n) waiting (receiving.Ack id) from_sender from_receiver [])
-gives_sent waiting from_sender from_receiver untaken id x m n same is =
+    (m : List ℕ) (rest : List (List ℕ)) (load : Payload) → eqb id x ≡ true → untaken ≡ m ∷ rest
+    → MovesUnmarking (view_of (sending.Send x load) waiting (receiving.Rcvd id (batch m rest)) from_sender from_receiver untaken) (step.Get m ∷ [])
+    (view_of (sending.Send x load) waiting (with_rest id rest) from_sender from_receiver rest)
+gives_sent waiting from_sender from_receiver untaken id x m rest load same is =
     subst
-    (λ (u : List (List ℕ)). MovesUnmarking (view_of (sending.Send x n) waiting (receiving.Rcvd id m) from_sender from_receiver u)
-    (step.Get m ∷ []) (view_of (sending.Send x n) waiting (receiving.Ack id) from_sender from_receiver []))
+    (λ (u : List (List ℕ)). MovesUnmarking (view_of (sending.Send x load) waiting (receiving.Rcvd id (batch m rest)) from_sender from_receiver u)
+    (step.Get m ∷ []) (view_of (sending.Send x load) waiting (with_rest id rest) from_sender from_receiver rest))
     (sym is)
-    (moves-to
-    (calls (view_of (sending.Send x n) waiting (receiving.Rcvd id m) from_sender from_receiver (m ∷ [])) (step.Get m) (refl, refl))
-    (state-eq _ _ (rw same refl) (settled_at waiting) (in_doubt waiting) refl refl))
+    (by_rest rest)
   where
+    -- the last one is taken, and the status becomes known
     settled_at : (waiting : List (List ℕ))
-        → settled_before (current (sending.Send x n) (receiving.Rcvd id m) from_receiver (m ∷ []) ++ entries false waiting)
-        (known (sending.Send x n) waiting (m ∷ [])) Yes ≡ known (sending.Send x n) waiting []
+        → settled_before (current (sending.Send x load) (receiving.Rcvd id (batch m [])) from_receiver (m ∷ []) ++ entries false waiting)
+        (known (sending.Send x load) waiting (m ∷ [])) Yes ≡ known (sending.Send x load) waiting []
     settled_at [] = rw same refl
     settled_at (w ∷ waiting) =
-        settled_before_some (current (sending.Send x n) (receiving.Rcvd id m) from_receiver (m ∷ [])) (entries false waiting)
+        settled_before_some (current (sending.Send x load) (receiving.Rcvd id (batch m [])) from_receiver (m ∷ [])) (entries false waiting)
         (entry false w) Open Yes
 
     in_doubt : (waiting : List (List ℕ))
-        → is_known_in_doubt (sending.Send x n) waiting (m ∷ [])
-        (receiving.Rcvd id m) ≡ is_known_in_doubt (sending.Send x n) waiting [] (receiving.Ack id)
+        → is_known_in_doubt (sending.Send x load) waiting (m ∷ []) (receiving.Rcvd id (batch m []))
+        ≡ is_known_in_doubt (sending.Send x load) waiting [] (receiving.Ack id)
     in_doubt [] = rw same refl
     in_doubt (w ∷ waiting) = refl
+
+    -- others are left, and the status stays open
+    open_still : (n : List ℕ) (rest waiting : List (List ℕ))
+        → known (sending.Send x load) waiting (m ∷ n ∷ rest) ≡ known (sending.Send x load) waiting (n ∷ rest)
+    open_still n rest [] = refl
+    open_still n rest (w ∷ waiting) = refl
+
+    by_rest : (rest : List (List ℕ))
+        → MovesUnmarking (view_of (sending.Send x load) waiting (receiving.Rcvd id (batch m rest)) from_sender from_receiver (m ∷ rest))
+        (step.Get m ∷ []) (view_of (sending.Send x load) waiting (with_rest id rest) from_sender from_receiver rest)
+    by_rest [] =
+        moves-to
+        (calls (view_of (sending.Send x load) waiting (receiving.Rcvd id (batch m [])) from_sender from_receiver (m ∷ [])) (step.Get m) (refl, refl))
+        (state-eq _ _ (rw same refl) (settled_at waiting) (in_doubt waiting) refl refl)
+    by_rest (n ∷ rest) =
+        moves-to
+        (calls (view_of (sending.Send x load) waiting (receiving.Rcvd id (batch m (n ∷ rest))) from_sender from_receiver (m ∷ n ∷ rest)) (step.Get m)
+        (refl, refl))
+        (state-eq _ _ (rw same refl) (open_still n rest waiting)
+        (known_while_untaken (sending.Send x load) waiting m (n ∷ rest) (receiving.Rcvd id (batch m (n ∷ rest)))
+        ∙ sym (known_while_untaken (sending.Send x load) waiting n rest (receiving.Rcvd id (batch n rest)))) refl refl)
 
 -- while the sender is in one mode, both sides emitted what they did, and this was not taken
 module _ (mode : SenderMode) (waiting : List (List ℕ)) (from_sender from_receiver : List OwnedPacket) (untaken : List (List ℕ)) where
@@ -207,7 +232,7 @@ module _ (mode : SenderMode) (waiting : List (List ℕ)) (from_sender from_recei
     where
       same_current : (mode : SenderMode) → current mode at from_receiver untaken ≡ current mode at (p ∷ from_receiver) untaken
       same_current (sending.Quiet got) = refl
-      same_current (sending.NeedId jd m) = ap (λ (b : Bool). entry b m ∷ []) (sym (same jd))
+      same_current (sending.NeedId jd load) = ap (λ (b : Bool). entries b (sender.messages_in load)) (sym (same jd))
       same_current (sending.Send id m) = refl
       same_current sending.Down = refl
 
@@ -248,12 +273,12 @@ module _ (mode : SenderMode) (waiting : List (List ℕ)) (from_sender from_recei
       gives_no_more (sending.Send x m) = λ e. refl
       gives_no_more sending.Down = tt
 
-  -- a message that the sender sent comes, under the identifier that is accepted: where it does not send it any more
-  pub takes_forgotten : (jd id : ℕ) (m : List ℕ) → sender.is_sending mode id ≡ false → carried from_sender id ≡ m ∷ []
+  -- what the sender sent comes, under the identifier that is accepted: where it does not send it any more
+  pub takes_forgotten : (jd id : ℕ) (m : Batch) → sender.is_sending mode id ≡ false → carried from_sender id ≡ messages m
       → MovesUnmarking (At (receiving.Accept jd id)) [] (At (receiving.Rcvd id m))
   takes_forgotten jd id m forgotten carries =
       doubts_less (receiving.Accept jd id) (receiving.Rcvd id m) from_receiver
-      (rw (forgotten, carries) (refl, (λ e. refl), tt)) (no_more mode forgotten) (gives_no_more mode) refl
+      (rw (forgotten, carries) (entries_fewer true false (messages m) (λ e. refl))) (no_more mode forgotten) (gives_no_more mode) refl
     where
       no_more : (mode : SenderMode) → sender.is_sending mode id ≡ false
           → DoubtsNoMore mode (receiving.Accept jd id) (receiving.Rcvd id m) from_receiver from_receiver
@@ -319,33 +344,59 @@ module _ (mode : SenderMode) (waiting : List (List ℕ)) (from_sender from_recei
       gives_no_more (sending.Quiet got) far = tt
       gives_no_more sending.Down far = tt
 
-  -- the client takes the message, whose sender knows nothing of it any more
-  pub gives_away : (id : ℕ) (m : List ℕ) → IsListed mode (receiving.Rcvd id m)
-      → MovesUnmarking (At (receiving.Rcvd id m)) (step.Get m ∷ []) (At (receiving.Ack id))
-  gives_away id m listed =
+  -- the client takes the first message that the receiver holds, whose sender knows nothing of it any more
+  pub gives_away : (id : ℕ) (m : List ℕ) (rest : List (List ℕ)) → IsListed mode (receiving.Rcvd id (batch m rest))
+      → MovesUnmarking (At (receiving.Rcvd id (batch m rest))) (step.Get m ∷ []) (At (with_rest id rest))
+  gives_away id m [] listed =
       moves-to
-      (calls (At (receiving.Rcvd id m)) (step.Get m) (refl, refl))
+      (calls (At (receiving.Rcvd id (batch m []))) (step.Get m) (refl, refl))
       (state-eq _ _
       (ap (λ (es : List Entry). es ++ entries false waiting) (same_current mode listed))
-      (stays_known mode waiting (receiving.Rcvd id m) from_receiver untaken Yes listed)
+      (stays_known mode waiting (receiving.Rcvd id (batch m [])) from_receiver untaken Yes listed)
       (same_doubt mode listed)
       refl
       refl)
     where
-      same_current : (mode : SenderMode) → IsListed mode (receiving.Rcvd id m)
-          → current mode (receiving.Rcvd id m) from_receiver untaken ≡ current mode (receiving.Ack id) from_receiver untaken
+      same_current : (mode : SenderMode) → IsListed mode (receiving.Rcvd id (batch m []))
+          → current mode (receiving.Rcvd id (batch m [])) from_receiver untaken ≡ current mode (receiving.Ack id) from_receiver untaken
       same_current (sending.Quiet got) is = refl
-      same_current (sending.NeedId jd n) is =
-          ap (λ (b : Bool). entry b n ∷ []) (lost_same (receiving.Rcvd id m) (receiving.Ack id) jd from_receiver (λ x. refl))
+      same_current (sending.NeedId jd load) is =
+          ap (λ (b : Bool). entries b (sender.messages_in load))
+          (lost_same (receiving.Rcvd id (batch m [])) (receiving.Ack id) jd from_receiver (λ x. refl))
       same_current (sending.Send x n) is = rw is refl
       same_current sending.Down is = refl
 
-      same_doubt : (mode : SenderMode) → IsListed mode (receiving.Rcvd id m)
-          → is_known_in_doubt mode waiting untaken (receiving.Rcvd id m) ≡ is_known_in_doubt mode waiting untaken (receiving.Ack id)
+      same_doubt : (mode : SenderMode) → IsListed mode (receiving.Rcvd id (batch m []))
+          → is_known_in_doubt mode waiting untaken (receiving.Rcvd id (batch m [])) ≡ is_known_in_doubt mode waiting untaken (receiving.Ack id)
       same_doubt (sending.Quiet got) is = refl
       same_doubt (sending.NeedId jd n) is = refl
-      same_doubt (sending.Send x n) is = same_known waiting untaken x n (receiving.Rcvd id m) (receiving.Ack id) (sym is)
+      same_doubt (sending.Send x n) is = same_known waiting untaken x n (receiving.Rcvd id (batch m [])) (receiving.Ack id) (sym is)
       same_doubt sending.Down is = refl
+  gives_away id m (n ∷ rest) listed =
+      moves-to
+      (calls (At (receiving.Rcvd id (batch m (n ∷ rest)))) (step.Get m) (refl, refl))
+      (state-eq _ _
+      (ap (λ (es : List Entry). entries false (n ∷ rest) ++ (es ++ entries false waiting)) (same_current mode))
+      refl
+      (same_doubt mode)
+      refl
+      refl)
+    where
+      same_current : (mode : SenderMode)
+          → current mode (receiving.Rcvd id (batch m (n ∷ rest))) from_receiver untaken ≡ current mode (receiving.Rcvd id (batch n rest)) from_receiver untaken
+      same_current (sending.Quiet got) = refl
+      same_current (sending.NeedId jd load) =
+          ap (λ (b : Bool). entries b (sender.messages_in load))
+          (lost_same (receiving.Rcvd id (batch m (n ∷ rest))) (receiving.Rcvd id (batch n rest)) jd from_receiver (λ x. refl))
+      same_current (sending.Send x load) = refl
+      same_current sending.Down = refl
+
+      same_doubt : (mode : SenderMode)
+          → is_known_in_doubt mode waiting untaken (receiving.Rcvd id (batch m (n ∷ rest))) ≡ is_known_in_doubt mode waiting untaken (receiving.Rcvd id (batch n rest))
+      same_doubt (sending.Quiet got) = refl
+      same_doubt (sending.NeedId jd load) = refl
+      same_doubt (sending.Send x load) = same_known waiting untaken x load (receiving.Rcvd id (batch m (n ∷ rest))) (receiving.Rcvd id (batch n rest)) refl
+      same_doubt sending.Down = refl
 
   -- a receiver is up again
   pub rises : MovesUnmarking (At receiving.Down) (step.Recover Receiver ∷ []) (At receiving.Idle)
@@ -357,8 +408,8 @@ module _ (mode : SenderMode) (waiting : List (List ℕ)) (from_sender from_recei
       same_current : (mode : SenderMode)
           → current mode receiving.Down from_receiver untaken ≡ current mode receiving.Idle from_receiver untaken
       same_current (sending.Quiet got) = refl
-      same_current (sending.NeedId jd m) =
-          ap (λ (b : Bool). entry b m ∷ []) (lost_same receiving.Down receiving.Idle jd from_receiver (λ x. refl))
+      same_current (sending.NeedId jd load) =
+          ap (λ (b : Bool). entries b (sender.messages_in load)) (lost_same receiving.Down receiving.Idle jd from_receiver (λ x. refl))
       same_current (sending.Send x m) = refl
       same_current sending.Down = refl
 

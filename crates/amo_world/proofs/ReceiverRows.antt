@@ -10,6 +10,7 @@ use Rattle.amo_object.specs.declared.step.Step.TheVariants as step
 use Rattle.amo_packet.specs.declared.packet.OwnedPacket.{OwnedPacket}
 use Rattle.amo_packet.specs.declared.packet.OwnedBody.{OwnedBody}
 use Rattle.amo_packet.specs.declared.packet.OwnedBody.TheVariants as packet
+use Rattle.amo_packet.specs.Batch.{Batch, batch, alone, messages}
 use Rattle.amo_core.specs.declared.act.Act.{Act}
 use Rattle.amo_core.specs.declared.act.Act.TheVariants as act
 use Rattle.amo_core.specs.declared.reply.Reply.{Reply}
@@ -20,11 +21,12 @@ use Rattle.amo_core.specs.declared.receiver.ReceiverMode.{ReceiverMode}
 use Rattle.amo_core.specs.declared.receiver.ReceiverMode.TheVariants as receiving
 use Rattle.amo_core.specs.Row.{Row}
 use Rattle.amo_core.specs.Receiver as receiver
+use Rattle.amo_core.specs.Sender.{messages_in}
 use Rattle.amo_world.specs.Stream.{Stream, after, reply_of, untaken_once_got}
 use Rattle.amo_world.specs.History.{WasEmitted, IsNewWord}
 use Rattle.amo_world.specs.Served.{call_of}
 use Rattle.amo_world.specs.Doubt.{DoubtState, MovesUnmarking}
-use Rattle.amo_world.specs.View.{view_of, view}
+use Rattle.amo_world.specs.View.{carried, view_of, view}
 use Rattle.amo_world.proofs.Unmarking.{stays, calls, moves-to}
 use Rattle.amo_world.proofs.Untaken.{TakesNothing, untaken_unless_got}
 use Rattle.amo_world.proofs.Packets.{Any, IsSend, IsCleanup, IsPastAccept, any-contains, cleanup_is_past}
@@ -47,36 +49,30 @@ module _ (n : ℕ) (mode : SenderMode) (waiting : List (List ℕ)) (from_sender 
   Goes at row left steps =
       MovesUnmarking (At mode at) steps (view_of mode waiting row.state.mode from_sender (option_to_list row.emitted ++ from_receiver) left)
 
-  -- a send is delivered under the identifier that is accepted
-  takes : (jd id : ℕ) (m : List ℕ) → Before mode (receiving.Accept jd id) → Any (IsSend id m) from_sender
-      → MovesUnmarking (At mode (receiving.Accept jd id)) [] (At mode (receiving.Rcvd id m))
-  takes jd id m f a = by_mode mode f
+  -- a batch is delivered under the identifier that is accepted
+  takes : (jd id : ℕ) (b : Batch) → Before mode (receiving.Accept jd id) → Any (IsSend id (messages b)) from_sender
+      → MovesUnmarking (At mode (receiving.Accept jd id)) [] (At mode (receiving.Rcvd id b))
+  takes jd id b f a = by_mode mode f
     where
+      carries : (mode : SenderMode) → Before mode (receiving.Accept jd id) → carried from_sender id ≡ messages b
+      carries mode f = carried_is from_sender id (messages b) a (λ y c. f.packets.one_message id y (messages b) c a)
+
       by_mode : (mode : SenderMode) → Before mode (receiving.Accept jd id) → MovesUnmarking (At mode (receiving.Accept jd id)) []
-          (At mode (receiving.Rcvd id m))
+          (At mode (receiving.Rcvd id b))
       by_mode (sending.Quiet got) f =
-          takes_forgotten (sending.Quiet got) waiting from_sender from_receiver untaken jd id m refl
-          (carried_is from_sender id m a (λ y b. f.packets.one_message id y m b a))
+          takes_forgotten (sending.Quiet got) waiting from_sender from_receiver untaken jd id b refl (carries (sending.Quiet got) f)
       by_mode (sending.NeedId asked x) f =
-          takes_forgotten (sending.NeedId asked x) waiting from_sender from_receiver untaken jd id m refl
-          (carried_is from_sender id m a (λ y b. f.packets.one_message id y m b a))
+          takes_forgotten (sending.NeedId asked x) waiting from_sender from_receiver untaken jd id b refl (carries (sending.NeedId asked x) f)
       by_mode sending.Down f =
-          takes_forgotten sending.Down waiting from_sender from_receiver untaken jd id m refl
-          (carried_is from_sender id m a (λ y b. f.packets.one_message id y m b a))
+          takes_forgotten sending.Down waiting from_sender from_receiver untaken jd id b refl (carries sending.Down f)
       by_mode (sending.Send under x) f = elim (eqb_tells under id) [
         | inl k ↦
-            let same : x ≡ m =
-            f.packets.one_message under x m f.sender.was_sent (subst (λ (y : ℕ). Any (IsSend y m) from_sender) (sym k.1) a) in
-            subst
-            (λ (y : List ℕ). MovesUnmarking
-            (At (sending.Send under y) (receiving.Accept jd id)) []
-            (At (sending.Send under y) (receiving.Rcvd id m)))
-            (sym same)
-            (takes_sent waiting from_sender from_receiver untaken jd id under m k.0
-            (f.sender.untaken_is (sym k.1) ∙ ap (λ (y : List ℕ). y ∷ []) same))
+            takes_sent waiting from_sender from_receiver untaken jd id under x b k.0
+            (f.sender.untaken_is (sym k.1)
+            ∙ f.packets.one_message under (messages_in x) (messages b) f.sender.was_sent
+            (subst (λ (y : ℕ). Any (IsSend y (messages b)) from_sender) (sym k.1) a))
         | inr k ↦
-            takes_forgotten (sending.Send under x) waiting from_sender from_receiver untaken jd id m k.0
-            (carried_is from_sender id m a (λ y b. f.packets.one_message id y m b a))
+            takes_forgotten (sending.Send under x) waiting from_sender from_receiver untaken jd id b k.0 (carries (sending.Send under x) f)
       ]
 
   -- what is cleaned up the sender does not want any more
@@ -118,24 +114,24 @@ module _ (n : ℕ) (mode : SenderMode) (waiting : List (List ℕ)) (from_sender 
   needuid_row (receiving.Ack id) jd word f fresh = stays _
   needuid_row receiving.Down jd word f fresh = stays _
 
-  -- a send is delivered
-  send_row : (at : ReceiverMode) (id : ℕ) (m : List ℕ) → Before mode at → Any (IsSend id m) from_sender
-      → Goes at (receiver.send (record { stream = n; mode = at }) at id m) untaken []
-  send_row receiving.Idle id m f a = acks_with mode waiting from_sender from_receiver untaken receiving.Idle n id false
-  send_row (receiving.Accept jd accepted) id m f a = elim (eqb_tells accepted id) [
+  -- a batch is delivered, and so is a send
+  batch_row : (at : ReceiverMode) (id : ℕ) (b : Batch) → Before mode at → Any (IsSend id (messages b)) from_sender
+      → Goes at (receiver.batch (record { stream = n; mode = at }) at id b) untaken []
+  batch_row receiving.Idle id b f a = acks_with mode waiting from_sender from_receiver untaken receiving.Idle n id false
+  batch_row (receiving.Accept jd accepted) id b f a = elim (eqb_tells accepted id) [
     | inl h ↦ rw h.0
-        (subst (λ (x : ℕ). MovesUnmarking (At mode (receiving.Accept jd x)) [] (At mode (receiving.Rcvd id m))) (sym h.1)
-        (takes jd id m
+        (subst (λ (x : ℕ). MovesUnmarking (At mode (receiving.Accept jd x)) [] (At mode (receiving.Rcvd id b))) (sym h.1)
+        (takes jd id b
         (subst (λ (x : ℕ). Before mode (receiving.Accept jd x)) h.1 f) a))
     | inr h ↦ rw h.0 (acks_with mode waiting from_sender from_receiver untaken (receiving.Accept jd accepted) n id false)
   ]
-  send_row (receiving.Rcvd under held) id m f a = elim (eqb_tells under id) [
+  batch_row (receiving.Rcvd under held) id b f a = elim (eqb_tells under id) [
     | inl h ↦ rw h.0 (stays _)
     | inr h ↦ rw h.0 (acks_with mode waiting from_sender from_receiver untaken (receiving.Rcvd under held) n id false)
   ]
-  send_row (receiving.Ack under) id m f a =
+  batch_row (receiving.Ack under) id b f a =
       acks_with mode waiting from_sender from_receiver untaken (receiving.Ack under) n id (eqb under id)
-  send_row receiving.Down id m f a = stays _
+  batch_row receiving.Down id b f a = stays _
 
   -- a cleanup is delivered
   cleanup_row : (at : ReceiverMode) (id : ℕ) → Before mode at → Any (IsCleanup id) from_sender
@@ -164,7 +160,8 @@ module _ (n : ℕ) (mode : SenderMode) (waiting : List (List ℕ)) (from_sender 
       → Goes at (receiver.deliver (record { stream = n; mode = at }) body word) untaken []
   deliver_row at (packet.NeedUid jd) word f said fresh = needuid_row at jd word f fresh
   deliver_row at (packet.Accept jd id) word f said fresh = stays _
-  deliver_row at (packet.Send id m) word f said fresh = send_row at id m f (said (IsSend id m) (refl, refl))
+  deliver_row at (packet.Send id m) word f said fresh = batch_row at id (alone m) f (said (IsSend id (m ∷ [])) (refl, refl))
+  deliver_row at (packet.Batch id b) word f said fresh = batch_row at id b f (said (IsSend id (messages b)) (refl, refl))
   deliver_row at (packet.Ack id got) word f said fresh = stays _
   deliver_row at (packet.Cleanup id) word f said fresh = cleanup_row at id f (said (IsCleanup id) refl)
 
@@ -191,38 +188,41 @@ module _ (n : ℕ) (mode : SenderMode) (waiting : List (List ℕ)) (from_sender 
       (rw (called, untaken_unless_got mode at act.Get untaken h) m)
 
   -- or there is one
-  gets : (id : ℕ) (m : List ℕ) → Before mode (receiving.Rcvd id m)
-      → MovesUnmarking (At mode (receiving.Rcvd id m)) (step.Get m ∷ [])
-      (view_of mode waiting (receiving.Ack id) from_sender from_receiver (untaken_once_got act.Get mode (receiving.Rcvd id m) untaken))
-  gets id m f = by_mode mode f
+  gets : (id : ℕ) (m : List ℕ) (rest : List (List ℕ)) → Before mode (receiving.Rcvd id (batch m rest))
+      → MovesUnmarking (At mode (receiving.Rcvd id (batch m rest))) (step.Get m ∷ [])
+      (view_of mode waiting (receiver.with_rest id rest) from_sender from_receiver
+      (untaken_once_got act.Get mode (receiving.Rcvd id (batch m rest)) untaken))
+  gets id m rest f = by_mode mode f
     where
-      by_mode : (mode : SenderMode) → Before mode (receiving.Rcvd id m)
-          → MovesUnmarking (At mode (receiving.Rcvd id m)) (step.Get m ∷ [])
-          (view_of mode waiting (receiving.Ack id) from_sender from_receiver (untaken_once_got act.Get mode (receiving.Rcvd id m) untaken))
-      by_mode (sending.Quiet got) f = gives_away (sending.Quiet got) waiting from_sender from_receiver untaken id m tt
-      by_mode (sending.NeedId jd x) f = gives_away (sending.NeedId jd x) waiting from_sender from_receiver untaken id m tt
+      by_mode : (mode : SenderMode) → Before mode (receiving.Rcvd id (batch m rest))
+          → MovesUnmarking (At mode (receiving.Rcvd id (batch m rest))) (step.Get m ∷ [])
+          (view_of mode waiting (receiver.with_rest id rest) from_sender from_receiver
+          (untaken_once_got act.Get mode (receiving.Rcvd id (batch m rest)) untaken))
+      by_mode (sending.Quiet got) f = gives_away (sending.Quiet got) waiting from_sender from_receiver untaken id m rest tt
+      by_mode (sending.NeedId jd x) f = gives_away (sending.NeedId jd x) waiting from_sender from_receiver untaken id m rest tt
       by_mode (sending.Send under x) f = elim (eqb_tells id under) [
         | inl h ↦
             let given =
-            gives_sent waiting from_sender from_receiver untaken id under m x h.0 (f.sender.untaken_is h.1) in rw h.0 (rw h.0 at given)
+            gives_sent waiting from_sender from_receiver untaken id under m rest x h.0 (f.sender.untaken_is h.1) in rw h.0 (rw h.0 at given)
         | inr h ↦
-            let given = gives_away (sending.Send under x) waiting from_sender from_receiver untaken id m h.0 in rw h.0 (rw h.0 at given)
+            let given = gives_away (sending.Send under x) waiting from_sender from_receiver untaken id m rest h.0 in rw h.0 (rw h.0 at given)
       ]
-      by_mode sending.Down f = gives_away sending.Down waiting from_sender from_receiver untaken id m tt
+      by_mode sending.Down f = gives_away sending.Down waiting from_sender from_receiver untaken id m rest tt
 
   get_row : (at : ReceiverMode) (r : Reply) → Before mode at → (receiver.get (record { stream = n; mode = at }) at).reply ≡ Some r
       → Goes at (receiver.get (record { stream = n; mode = at }) at)
       (untaken_once_got act.Get mode at untaken) (option_to_list (call_of Receiver act.Get r))
   get_row receiving.Idle r f is = gets_none receiving.Idle reply.Nothing r [] tt is refl (stays _)
   get_row (receiving.Accept jd id) r f is = gets_none (receiving.Accept jd id) reply.Nothing r [] tt is refl (stays _)
-  get_row (receiving.Rcvd id m) r f is =
-      let same : reply.Got m ≡ r = cc in
+  get_row (receiving.Rcvd id b) r f is =
+      let same : reply.Got b.first ≡ r = cc in
       subst
-      (λ (x : Reply). MovesUnmarking (At mode (receiving.Rcvd id m))
+      (λ (x : Reply). MovesUnmarking (At mode (receiving.Rcvd id b))
       (option_to_list (call_of Receiver act.Get x))
-      (view_of mode waiting (receiving.Ack id) from_sender from_receiver (untaken_once_got act.Get mode (receiving.Rcvd id m) untaken)))
+      (view_of mode waiting (receiver.with_rest id b.rest) from_sender from_receiver
+      (untaken_once_got act.Get mode (receiving.Rcvd id b) untaken)))
       same
-      (gets id m f)
+      (gets id b.first b.rest f)
   get_row (receiving.Ack id) r f is = gets_none (receiving.Ack id) reply.Nothing r [] tt is refl (stays _)
   get_row receiving.Down r f is =
       gets_none receiving.Down reply.Down r (step.DownReply Receiver ∷ []) tt is refl (calls _ (step.DownReply Receiver) refl)
@@ -245,6 +245,7 @@ receiver_moves s act.Get r calm f honest fresh is =
     s.sender.words s.receiver.words s.receiver.state.mode r f is
 receiver_moves s act.Ack r calm f honest fresh is = cc
 receiver_moves s (act.Start word) r calm f honest fresh is = cc
+receiver_moves s (act.Batch word) r calm f honest fresh is = cc
 receiver_moves s act.Resend r calm f honest fresh is =
     resend_row s.receiver.state.stream s.sender.state.mode s.sender.state.waiting s.sender.emitted s.receiver.emitted s.untaken
     s.sender.words s.receiver.words s.receiver.state.mode

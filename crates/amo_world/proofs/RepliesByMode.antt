@@ -76,12 +76,12 @@ module _ (s : receiver.ReceiverState) where
   get_down (receiving.Ack id) is = absurd cc
   get_down receiving.Down is = refl
 
-  got : (at : ReceiverMode) (m : List ℕ) → receiver.held_by at ≡ m ∷ [] → (receiver.get s at).reply ≡ Some (reply.Got m)
-  got receiving.Idle m is = absurd cc
-  got (receiving.Accept jd id) m is = absurd cc
-  got (receiving.Rcvd id held) m is = let same : held ≡ m = cc in ap (λ (x : List ℕ). Some (reply.Got x)) same
-  got (receiving.Ack id) m is = absurd cc
-  got receiving.Down m is = absurd cc
+  got : (at : ReceiverMode) (m : List ℕ) (rest : List (List ℕ)) → receiver.held_by at ≡ m ∷ rest → (receiver.get s at).reply ≡ Some (reply.Got m)
+  got receiving.Idle m rest is = absurd cc
+  got (receiving.Accept jd id) m rest is = absurd cc
+  got (receiving.Rcvd id held) m rest is = let same : held.first ≡ m = cc in ap (λ (x : List ℕ). Some (reply.Got x)) same
+  got (receiving.Ack id) m rest is = absurd cc
+  got receiving.Down m rest is = absurd cc
 
   nothing : (at : ReceiverMode) → receiver.kind at ≢ mode.Down → receiver.held_by at ≡ [] → (receiver.get s at).reply ≡ Some reply.Nothing
   nothing receiving.Idle up none = refl
@@ -119,8 +119,8 @@ module _ (s : Stream) where
   pub get_while_down : receiver.kind s.receiver.state.mode ≡ mode.Down → reply_of s Receiver act.Get ≡ Some reply.Down
   get_while_down is = get_down s.receiver.state s.receiver.state.mode is
 
-  pub get_while_held : (m : List ℕ) → receiver.held_by s.receiver.state.mode ≡ m ∷ [] → reply_of s Receiver act.Get ≡ Some (reply.Got m)
-  get_while_held m is = got s.receiver.state s.receiver.state.mode m is
+  pub get_while_held : (m : List ℕ) (rest : List (List ℕ)) → receiver.held_by s.receiver.state.mode ≡ m ∷ rest → reply_of s Receiver act.Get ≡ Some (reply.Got m)
+  get_while_held m rest is = got s.receiver.state s.receiver.state.mode m rest is
 
   pub get_while_empty : receiver.kind s.receiver.state.mode ≢ mode.Down → receiver.held_by s.receiver.state.mode ≡ [] → reply_of s Receiver act.Get ≡ Some reply.Nothing
   get_while_empty up none = nothing s.receiver.state s.receiver.state.mode up none

@@ -7,6 +7,8 @@ use Rattle.amo_packet.specs.declared.packet.OwnedPacket.{OwnedPacket}
 use Rattle.amo_core.specs.declared.act.Act.TheVariants as act
 use Rattle.amo_core.specs.declared.sender.SenderMode.{SenderMode}
 use Rattle.amo_core.specs.declared.sender.SenderMode.TheVariants as sending
+use Rattle.amo_core.specs.Sender.{messages_in}
+use Rattle.amo_core.specs.declared.payload.Payload.{Payload}
 use Rattle.amo_core.specs.declared.receiver.ReceiverMode.{ReceiverMode}
 use Rattle.amo_core.specs.declared.receiver.ReceiverMode.TheVariants as receiving
 use Rattle.amo_world.specs.Stream.{Stream, after}
@@ -17,7 +19,7 @@ use Rattle.amo_world.proofs.Unmarking.{AllDoubted, settled_without, leaves}
 use Rattle.amo_world.proofs.Marking.{settles_while_down, marks, SameMessages, same-refl, same-append, doubt_all, doubt_all-same, doubt_all-doubted}
 use Rattle.amo_world.proofs.Packets.{Any, IsSend}
 use Rattle.amo_world.proofs.Invariant.{PacketFacts, SendingFacts, SenderFacts, Invariant}
-use Rattle.amo_world.proofs.Views.{carried_is, received_unless_sending}
+use Rattle.amo_world.proofs.Views.{carried_is, entries_same, received_unless_sending}
 
 -- a status that is No stays so when messages leave
 settled_without-no : (group later : List Entry) → settled_without group later No ≡ No
@@ -61,31 +63,32 @@ forgotten_besides mode waiting at from_sender from_receiver untaken is =
       doubted = doubt_all-doubted others;
     }
 
--- a message that is sent under the identifier that the receiver accepts stays
-forgotten_while_accepting : (id : ℕ) (m : List ℕ) (waiting : List (List ℕ)) (jd accepted : ℕ)
+-- what is sent under the identifier that the receiver accepts stays
+forgotten_while_accepting : (id : ℕ) (m : Payload) (waiting : List (List ℕ)) (jd accepted : ℕ)
     (from_sender from_receiver : List OwnedPacket) (untaken : List (List ℕ))
-    → eqb id accepted ≡ true → untaken ≡ m ∷ [] → carried from_sender accepted ≡ m ∷ []
+    → eqb id accepted ≡ true → untaken ≡ messages_in m → carried from_sender accepted ≡ messages_in m
     → Forgotten (sending.Send id m) waiting (receiving.Accept jd accepted) from_sender from_receiver untaken
 forgotten_while_accepting id m waiting jd accepted from_sender from_receiver untaken same one sent_once = record {
   group = doubt_all (entries false waiting);
   same = rw (same, one, sent_once)
-      (same-append (entries (not (eqb accepted id)) (m ∷ [])) (entries false waiting) (entries true (m ∷ []))
+      (same-append (entries (not (eqb accepted id)) (messages_in m)) (entries false waiting) (entries true (messages_in m))
       (doubt_all (entries false waiting))
-      (refl, tt) (doubt_all-same (entries false waiting)));
+      (entries_same (not (eqb accepted id)) true (messages_in m)) (doubt_all-same (entries false waiting)));
   doubted = doubt_all-doubted (entries false waiting);
 }
 
--- the same while a message is sent under some identifier
-forgotten_while_sent : (id : ℕ) (m : List ℕ) (waiting : List (List ℕ)) (at : ReceiverMode) (from_sender from_receiver : List OwnedPacket)
+-- the same while something is sent under some identifier
+forgotten_while_sent : (id : ℕ) (m : Payload) (waiting : List (List ℕ)) (at : ReceiverMode) (from_sender from_receiver : List OwnedPacket)
     (untaken : List (List ℕ))
-    → ((x y : List ℕ) → Any (IsSend id x) from_sender → Any (IsSend id y) from_sender → x ≡ y)
-    → SendingFacts id m at from_sender from_receiver untaken
+    → ((x y : List (List ℕ)) → Any (IsSend id x) from_sender → Any (IsSend id y) from_sender → x ≡ y)
+    → SendingFacts id (messages_in m) at from_sender from_receiver untaken
     → Forgotten (sending.Send id m) waiting at from_sender from_receiver untaken
 forgotten_while_sent id m waiting (receiving.Accept jd accepted) from_sender from_receiver untaken one facts =
     elim (eqb_tells id accepted) [
       | inl h ↦
           forgotten_while_accepting id m waiting jd accepted from_sender from_receiver untaken h.0 (facts.untaken_is (sym h.1))
-          (subst (λ (x : ℕ). carried from_sender x ≡ m ∷ []) h.1 (carried_is from_sender id m facts.was_sent (λ n s. one n m s facts.was_sent)))
+          (subst (λ (x : ℕ). carried from_sender x ≡ messages_in m) h.1
+          (carried_is from_sender id (messages_in m) facts.was_sent (λ n s. one n (messages_in m) s facts.was_sent)))
       | inr h ↦ forgotten_besides (sending.Send id m) waiting (receiving.Accept jd accepted) from_sender from_receiver untaken (rw h.0 refl)
     ]
 forgotten_while_sent id m waiting (receiving.Rcvd under held) from_sender from_receiver untaken one facts =

@@ -12,16 +12,18 @@ use Rattle.amo_core.specs.declared.sender.SenderMode.TheVariants as sending
 use Rattle.amo_core.specs.declared.receiver.ReceiverMode.{ReceiverMode}
 use Rattle.amo_core.specs.declared.receiver.ReceiverMode.TheVariants as receiving
 use Rattle.amo_core.specs.Sender as sender
+use Rattle.amo_core.specs.declared.payload.Payload.{Payload}
+use Rattle.amo_core.specs.declared.payload.Payload.TheVariants as payload
 use Rattle.amo_world.specs.Stream.{untaken_once_sent}
 use Rattle.amo_world.specs.Doubt.{Entry, DoubtState, settled_before, MovesUnmarking}
 use Rattle.amo_core.specs.Receiver.{is_holding, is_acking}
-use Rattle.amo_world.specs.View.{entries, has, carried, received, current, known, is_known_in_doubt, view_of}
+use Rattle.amo_world.specs.View.{entries, has, carried_by, carried, may_meet_lost_accept, received, current, known, is_known_in_doubt, view_of}
 use Rattle.amo_world.proofs.Moving.{state-eq}
 use Rattle.amo_world.proofs.Unmarking.{stays, quietly_then, moves-to, same_parts, settles, leaves, HasFewerMarks, fewer-refl, fewer-append, fewer_marks}
 use Rattle.amo_world.proofs.Untaken.{untaken_unless_sent}
 use Rattle.amo_world.proofs.Packets.{Any, IsAcceptFor, IsAck, IsPastAccept}
 use Rattle.amo_world.proofs.Invariant.{Took, IsUntouched, Untaken, SendingFacts, SenderFacts}
-use Rattle.amo_world.proofs.Views.{same_either_way, carried_none, received_same, lost_is_met, entries_doubted}
+use Rattle.amo_world.proofs.Views.{same_either_way, carried_none, received_same, lost_is_met, entries_doubted, entries_fewer}
 
 -- the view of a stream once a row has left its sender so
 abbrev pub left_by : Row sender.SenderState → SenderMode → ReceiverMode → List OwnedPacket → List OwnedPacket → List (List ℕ) → DoubtState
@@ -49,16 +51,23 @@ holds_none (receiving.Ack under) id none = refl
 holds_none receiving.Idle id none = refl
 holds_none receiving.Down id none = refl
 
--- a message sent for the first time under an identifier, and still sent, is no part of what the receiver may be sent besides
-received_once_sent : (n jd id : ℕ) (m : List ℕ) (at : ReceiverMode) (from_sender : List OwnedPacket)
+-- what is carried under other identifiers is what it was
+carrying_apart : (id accepted : ℕ) (load : Payload) (earlier : List (List ℕ)) → eqb id accepted ≡ false
+    → carried_by (sender.carrying id load) accepted earlier ≡ earlier
+carrying_apart id accepted (payload.Message m) earlier apart = rw apart refl
+carrying_apart id accepted (payload.Batch b) earlier apart = rw apart refl
+
+-- what is sent for the first time under an identifier, and still sent, is no part of what the receiver may be sent besides
+received_once_sent : (n jd id : ℕ) (m : Payload) (at : ReceiverMode) (from_sender : List OwnedPacket)
     → (Any (IsPastAccept id) from_sender → ⊥)
     → received (sending.NeedId jd m) at from_sender ≡ received (sending.Send id m) at
-    (record { stream = n; body = packet.Send id m } ∷ from_sender)
+    (record { stream = n; body = sender.carrying id m } ∷ from_sender)
 received_once_sent n jd id m (receiving.Accept asked accepted) from_sender none = elim (eqb_tells id accepted) [
   | inl h ↦
       rw h.0 (ap (λ (ms : List (List ℕ)). entries true ms)
       (carried_none from_sender accepted (subst (λ (x : ℕ). Any (IsPastAccept x) from_sender → ⊥) h.1 none)))
-  | inr h ↦ rw h.0 refl
+  | inr h ↦
+      rw h.0 (ap (λ (ms : List (List ℕ)). entries true ms) (sym (carrying_apart id accepted m (carried from_sender accepted) h.0)))
 ]
 received_once_sent n jd id m (receiving.Rcvd under held) from_sender none = refl
 received_once_sent n jd id m (receiving.Ack under) from_sender none = refl
@@ -70,23 +79,26 @@ is_false : (b : Bool) → not b ≡ true → b ≡ false
 is_false true e = absurd cc
 is_false false e = refl
 
--- a message about to be sent is marked where it was taken up under an accept that is lost
-current_once_sent : (jd id : ℕ) (m : List ℕ) (at : ReceiverMode) (from_receiver : List OwnedPacket) (untaken : List (List ℕ))
+-- what is about to be sent is marked where it was taken up under an accept that is lost
+current_once_sent : (jd id : ℕ) (m : Payload) (at : ReceiverMode) (from_receiver : List OwnedPacket) (untaken : List (List ℕ))
     → Any (IsAcceptFor jd id) from_receiver → (Took at id → ⊥)
-    → HasFewerMarks (current (sending.NeedId jd m) at from_receiver untaken) (current (sending.Send id m) at from_receiver (m ∷ []))
+    → HasFewerMarks (current (sending.NeedId jd m) at from_receiver untaken) (current (sending.Send id m) at from_receiver (sender.messages_in m))
 current_once_sent jd id m at from_receiver untaken accept none =
-    rw (holds_none at id none) (refl, (λ lost. lost_is_met at jd id from_receiver accept (is_false (has at id) lost)), tt)
+    rw (holds_none at id none) (entries_fewer (may_meet_lost_accept at jd from_receiver) (not (has at id)) (sender.messages_in m)
+    (λ lost. lost_is_met at jd id from_receiver accept (is_false (has at id) lost)))
 
--- a message about to be sent, or sent and not taken, leaves the status open
-known_once_sent : (jd id : ℕ) (m : List ℕ) (waiting untaken : List (List ℕ))
-    → known (sending.NeedId jd m) waiting untaken ≡ known (sending.Send id m) waiting (m ∷ [])
-known_once_sent jd id m [] untaken = refl
+-- what is about to be sent, or sent and not taken, leaves the status open
+known_once_sent : (jd id : ℕ) (m : Payload) (waiting untaken : List (List ℕ))
+    → known (sending.NeedId jd m) waiting untaken ≡ known (sending.Send id m) waiting (sender.messages_in m)
+known_once_sent jd id (payload.Message m) [] untaken = refl
+known_once_sent jd id (payload.Batch b) [] untaken = refl
 known_once_sent jd id m (w ∷ waiting) untaken = refl
 
--- the status is in no doubt while the message sent is not taken
-known_in_no_doubt : (id : ℕ) (m : List ℕ) (waiting : List (List ℕ)) (at : ReceiverMode)
-    → is_known_in_doubt (sending.Send id m) waiting (m ∷ []) at ≡ true → ⊥
-known_in_no_doubt id m [] at e = cc
+-- the status is in no doubt while nothing of what is sent is taken
+known_in_no_doubt : (id : ℕ) (m : Payload) (waiting : List (List ℕ)) (at : ReceiverMode)
+    → is_known_in_doubt (sending.Send id m) waiting (sender.messages_in m) at ≡ true → ⊥
+known_in_no_doubt id (payload.Message m) [] at e = cc
+known_in_no_doubt id (payload.Batch b) [] at e = cc
 known_in_no_doubt id m (w ∷ waiting) at e = cc
 
 -- the receiver accepts this identifier
@@ -95,8 +107,9 @@ IsAccepting (receiving.Accept jd accepted) id = accepted ≡ id
 IsAccepting _ id = ⊥
 
 -- an identifier under which all was taken is not accepted
-not_accepting_once_taken : (at : ReceiverMode) (id : ℕ) (m : List ℕ) → Untaken at id m [] → IsAccepting at id → ⊥
-not_accepting_once_taken (receiving.Accept jd accepted) id m untaken is = let none : [] ≡ m ∷ [] = untaken is in cc
+not_accepting_once_taken : (at : ReceiverMode) (id : ℕ) (m : Payload) → Untaken at id (sender.messages_in m) [] → IsAccepting at id → ⊥
+not_accepting_once_taken (receiving.Accept jd accepted) id (payload.Message m) untaken is = let none : [] ≡ m ∷ [] = untaken is in cc
+not_accepting_once_taken (receiving.Accept jd accepted) id (payload.Batch b) untaken is = let none : [] ≡ b.first ∷ b.rest = untaken is in cc
 not_accepting_once_taken (receiving.Rcvd under held) id m untaken is = is
 not_accepting_once_taken (receiving.Ack under) id m untaken is = is
 not_accepting_once_taken receiving.Idle id m untaken is = is
@@ -111,7 +124,7 @@ not_accepting_once_lost receiving.Idle id lost is = is
 not_accepting_once_lost receiving.Down id lost is = is
 
 -- what the receiver may be sent besides is the same once its ack was delivered, where the ack is not for the identifier that it accepts
-received_once_acked : (id : ℕ) (m : List ℕ) (got : Bool) (at : ReceiverMode) (from_sender : List OwnedPacket) → (IsAccepting at id → ⊥)
+received_once_acked : (id : ℕ) (m : Payload) (got : Bool) (at : ReceiverMode) (from_sender : List OwnedPacket) → (IsAccepting at id → ⊥)
     → received (sending.Send id m) at from_sender ≡ received (sending.Quiet got) at from_sender
 received_once_acked id m got (receiving.Accept jd accepted) from_sender apart = elim (eqb_tells id accepted) [
   | inl h ↦ absurd (apart (sym h.1))
@@ -127,7 +140,7 @@ same_list : (xs us ys vs zs : List Entry) → xs ≡ us → ys ≡ vs → xs ++ 
 same_list xs us ys vs zs first second = rw (first, second) refl
 
 -- once all was taken, the status is the same before the ack is delivered and after it
-known_once_got : (id : ℕ) (m : List ℕ) (waiting : List (List ℕ))
+known_once_got : (id : ℕ) (m : Payload) (waiting : List (List ℕ))
     → known (sending.Send id m) waiting [] ≡ known (sending.Quiet true) waiting []
 known_once_got id m [] = refl
 known_once_got id m (w ∷ waiting) = refl
@@ -137,9 +150,9 @@ known_for_sure : (got : Bool) (waiting untaken : List (List ℕ)) (at : Receiver
     → is_known_in_doubt (sending.Quiet got) waiting untaken at ≡ true → ⊥
 known_for_sure got waiting untaken at e = cc
 
--- the receiver acks that its client took the message
-acks_got : (id : ℕ) (m : List ℕ) (waiting : List (List ℕ)) (at : ReceiverMode) (from_sender from_receiver : List OwnedPacket)
-    → Untaken at id m []
+-- the receiver acks that its client took what was sent
+acks_got : (id : ℕ) (m : Payload) (waiting : List (List ℕ)) (at : ReceiverMode) (from_sender from_receiver : List OwnedPacket)
+    → Untaken at id (sender.messages_in m) []
     → MovesUnmarking (view_of (sending.Send id m) waiting at from_sender from_receiver []) []
     (view_of (sending.Quiet true) waiting at from_sender from_receiver [])
 acks_got id m waiting at from_sender from_receiver untaken =
@@ -170,13 +183,13 @@ not_given_once_lost receiving.Idle id lost = refl
 not_given_once_lost receiving.Down id lost = refl
 
 -- what is sent under an identifier that the receiver does not have is in doubt
-current_once_lost : (id : ℕ) (m : List ℕ) (at : ReceiverMode) (from_receiver : List OwnedPacket) (untaken : List (List ℕ))
+current_once_lost : (id : ℕ) (m : Payload) (at : ReceiverMode) (from_receiver : List OwnedPacket) (untaken : List (List ℕ))
     → has at id ≡ false
     → current (sending.Send id m) at from_receiver untaken ≡ entries true untaken
 current_once_lost id m at from_receiver untaken lost = rw (not_held_once_lost at id lost, lost) refl
 
 -- the list of a sender whose message the receiver lost
-list_once_lost : (id : ℕ) (m : List ℕ) (waiting : List (List ℕ)) (at : ReceiverMode) (from_sender from_receiver : List OwnedPacket)
+list_once_lost : (id : ℕ) (m : Payload) (waiting : List (List ℕ)) (at : ReceiverMode) (from_sender from_receiver : List OwnedPacket)
     (untaken : List (List ℕ)) → has at id ≡ false
     → received (sending.Send id m) at from_sender ++ (current (sending.Send id m) at from_receiver untaken ++ entries false waiting)
     ≡ received (sending.Quiet false) at from_sender ++ (entries true untaken ++ entries false waiting)
@@ -186,20 +199,20 @@ list_once_lost id m waiting at from_sender from_receiver untaken lost =
     (current_once_lost id m at from_receiver untaken lost)
 
 -- once the message sent has left, the status is No, unless another message waits
-settled_once_lost : (id : ℕ) (m n : List ℕ) (waiting untaken : List (List ℕ))
+settled_once_lost : (id : ℕ) (m : Payload) (n : List ℕ) (waiting untaken : List (List ℕ))
     → settled_before (entries false waiting)
     (known (sending.Send id m) waiting (n ∷ untaken)) No ≡ known (sending.Quiet false) waiting (n ∷ untaken)
 settled_once_lost id m n [] untaken = refl
 settled_once_lost id m n (w ∷ waiting) untaken = refl
 
 -- where the message sent was not taken, the status is in no doubt before the ack is delivered, nor after it
-known_in_no_more_doubt : (id : ℕ) (m n : List ℕ) (waiting untaken : List (List ℕ)) (at : ReceiverMode)
+known_in_no_more_doubt : (id : ℕ) (m : Payload) (n : List ℕ) (waiting untaken : List (List ℕ)) (at : ReceiverMode)
     → is_known_in_doubt (sending.Send id m) waiting (n ∷ untaken) at ≡ is_known_in_doubt (sending.Quiet false) waiting (n ∷ untaken) at
 known_in_no_more_doubt id m n [] untaken at = refl
 known_in_no_more_doubt id m n (w ∷ waiting) untaken at = refl
 
 -- the receiver acks that it does not have the message
-acks_lost : (id : ℕ) (m : List ℕ) (waiting : List (List ℕ)) (at : ReceiverMode) (from_sender from_receiver : List OwnedPacket)
+acks_lost : (id : ℕ) (m : Payload) (waiting : List (List ℕ)) (at : ReceiverMode) (from_sender from_receiver : List OwnedPacket)
     (untaken : List (List ℕ)) → has at id ≡ false
     → MovesUnmarking (view_of (sending.Send id m) waiting at from_sender from_receiver untaken) []
     (view_of (sending.Quiet false) waiting at from_sender from_receiver untaken)
@@ -230,20 +243,20 @@ module _ (n : ℕ) (at : ReceiverMode) (from_sender from_receiver : List OwnedPa
   abbrev GoesQuietly : SenderMode → List (List ℕ) → Row sender.SenderState → Type 0
   GoesQuietly mode waiting row = MovesUnmarking (At mode waiting) [] (left_by row mode at from_sender from_receiver untaken)
 
-  -- the first accept for the needuid comes: the message is sent under it
-  sends : (jd id : ℕ) (m : List ℕ) (waiting : List (List ℕ)) → Any (IsAcceptFor jd id) from_receiver → IsUntouched id at from_sender from_receiver
+  -- the first accept for the needuid comes: what was asked for is sent under it
+  sends : (jd id : ℕ) (m : Payload) (waiting : List (List ℕ)) → Any (IsAcceptFor jd id) from_receiver → IsUntouched id at from_sender from_receiver
       → MovesUnmarking (At (sending.NeedId jd m) waiting) []
-      (view_of (sending.Send id m) waiting at (record { stream = n; body = packet.Send id m } ∷ from_sender) from_receiver (m ∷ []))
+      (view_of (sending.Send id m) waiting at (record { stream = n; body = sender.carrying id m } ∷ from_sender) from_receiver (sender.messages_in m))
   sends jd id m waiting accept untouched =
-      let more : List OwnedPacket = record { stream = n; body = packet.Send id m } ∷ from_sender in
+      let more : List OwnedPacket = record { stream = n; body = sender.carrying id m } ∷ from_sender in
       fewer_marks _ _
       (fewer-append (received (sending.NeedId jd m) at from_sender)
       (current (sending.NeedId jd m) at from_receiver untaken ++ entries false waiting)
-      (received (sending.Send id m) at more) (current (sending.Send id m) at from_receiver (m ∷ []) ++ entries false waiting)
+      (received (sending.Send id m) at more) (current (sending.Send id m) at from_receiver (sender.messages_in m) ++ entries false waiting)
       (subst (λ (es : List Entry). HasFewerMarks (received (sending.NeedId jd m) at from_sender) es)
       (received_once_sent n jd id m at from_sender untouched.sender_not_past) (fewer-refl _))
       (fewer-append (current (sending.NeedId jd m) at from_receiver untaken) (entries false waiting)
-      (current (sending.Send id m) at from_receiver (m ∷ [])) (entries false waiting)
+      (current (sending.Send id m) at from_receiver (sender.messages_in m)) (entries false waiting)
       (current_once_sent jd id m at from_receiver untaken accept untouched.not_taken) (fewer-refl _)))
       (known_once_sent jd id m waiting untaken)
       (λ e. absurd (known_in_no_doubt id m waiting at e))
@@ -267,7 +280,7 @@ module _ (n : ℕ) (at : ReceiverMode) (from_sender from_receiver : List OwnedPa
   accepts sending.Down waiting jd id facts accept = stays _
 
   -- an ack to a sender that sends, under its identifier
-  acks_own : (id : ℕ) (m : List ℕ) (got : Bool) (waiting : List (List ℕ)) → SendingFacts id m at from_sender from_receiver untaken
+  acks_own : (id : ℕ) (m : Payload) (got : Bool) (waiting : List (List ℕ)) → SendingFacts id (sender.messages_in m) at from_sender from_receiver untaken
       → Any (IsAck id got) from_receiver
       → GoesQuietly (sending.Send id m) waiting (sender.cleaning_up (of (sending.Quiet got) waiting) id got)
   acks_own id m true waiting facts ack =
@@ -275,7 +288,7 @@ module _ (n : ℕ) (at : ReceiverMode) (from_sender from_receiver : List OwnedPa
       (subst (λ (ms : List (List ℕ)). MovesUnmarking (view_of (sending.Send id m) waiting at from_sender from_receiver ms) []
       (view_of (sending.Quiet true) waiting at from_sender from_receiver ms)) (sym (facts.if_got ack))
       (acks_got id m waiting at from_sender from_receiver
-      (subst (λ (ms : List (List ℕ)). Untaken at id m ms) (facts.if_got ack) facts.untaken_is)))
+      (subst (λ (ms : List (List ℕ)). Untaken at id (sender.messages_in m) ms) (facts.if_got ack) facts.untaken_is)))
       (emits (sending.Quiet true) waiting at from_sender _ from_receiver untaken (λ i. refl))
   acks_own id m false waiting facts ack = acks_lost id m waiting at from_sender from_receiver untaken (facts.if_lost ack)
 

@@ -12,6 +12,9 @@ use Rattle.amo_core.specs.declared.act.Act.TheVariants as act
 use Rattle.amo_core.specs.declared.reply.Reply.TheVariants as reply
 use Rattle.amo_core.specs.Row.{Row, silent}
 use Rattle.amo_core.specs.Sender as sender
+use Rattle.amo_core.specs.Sender.{messages_in, carrying}
+use Rattle.amo_core.specs.declared.payload.Payload.{Payload}
+use Rattle.amo_core.specs.declared.payload.Payload.TheVariants as payload
 use Rattle.amo_core.specs.declared.sender.SenderMode.{SenderMode}
 use Rattle.amo_core.specs.declared.sender.SenderMode.TheVariants.{Quiet, NeedId, Send, Down}
 use Rattle.amo_core.specs.declared.receiver.ReceiverMode.{ReceiverMode}
@@ -19,13 +22,13 @@ use Rattle.amo_core.specs.declared.receiver.ReceiverMode.TheVariants as receivin
 use Rattle.amo_world.specs.Stream.{Stream, after, untaken_once_sent}
 use Rattle.amo_world.specs.History.{WasEmitted, IsNewWord}
 use Rattle.amo_world.proofs.Lists.{contains_first, contains_other}
-use Rattle.amo_world.proofs.Packets.{Any, IsAcceptFor, IsAccept, IsSend, IsAck, IsCleanup, IsPastAccept, any-contains, accepted, send_is_past, ack_is_past, cleanup_is_past}
+use Rattle.amo_world.proofs.Packets.{Any, IsAcceptFor, IsAccept, IsSend, IsAck, IsCleanup, IsPastAccept, any-contains, accepted, send_is_past, ack_is_past, cleanup_is_past, carrying_sends, carrying_only, carrying_bears, carrying_no_needuid, carrying_no_cleanup}
 use Rattle.amo_world.proofs.Invariant.{PacketFacts, IsUntouched, AskingFacts, Untaken, SendingFacts, SenderFacts, InvariantAt, Invariant}
 
 -- the facts of the packets hold once the sender emitted one more, which bears what was accepted, and the one message of its identifier
 packets_more : (p : OwnedPacket) (from_sender from_receiver : List OwnedPacket) → PacketFacts from_sender from_receiver
     → ((id : ℕ) → IsPastAccept id p.body → Any (IsAccept id) from_receiver)
-    → ((id : ℕ) (m n : List ℕ) → IsSend id m p.body → Any (IsSend id n) (p ∷ from_sender) → m ≡ n)
+    → ((id : ℕ) (m n : List (List ℕ)) → IsSend id m p.body → Any (IsSend id n) (p ∷ from_sender) → m ≡ n)
     → PacketFacts (p ∷ from_sender) from_receiver
 packets_more p from_sender from_receiver f named same = record {
   asked = λ jd id accept. inr (f.asked jd id accept);
@@ -35,7 +38,7 @@ packets_more p from_sender from_receiver f named same = record {
   one_message = one;
 }
   where
-    one : (id : ℕ) (m n : List ℕ) → Any (IsSend id m) (p ∷ from_sender) → Any (IsSend id n) (p ∷ from_sender) → m ≡ n
+    one : (id : ℕ) (m n : List (List ℕ)) → Any (IsSend id m) (p ∷ from_sender) → Any (IsSend id n) (p ∷ from_sender) → m ≡ n
     one id m n (inl now) other = same id m n now other
     one id m n (inr earlier) (inl now) = sym (same id n m now (inr earlier))
     one id m n (inr earlier) (inr other) = f.one_message id m n earlier other
@@ -56,7 +59,7 @@ asks_on p jd at from_sender from_receiver f apart = record {
 }
 
 -- a sender that sends a message sends on, once it emitted one packet more, which does not clean up its identifier
-sends_on : (p : OwnedPacket) (id : ℕ) (m : List ℕ) (at : ReceiverMode) (from_sender from_receiver : List OwnedPacket)
+sends_on : (p : OwnedPacket) (id : ℕ) (m : List (List ℕ)) (at : ReceiverMode) (from_sender from_receiver : List OwnedPacket)
     (untaken : List (List ℕ)) → SendingFacts id m at from_sender from_receiver untaken → (IsCleanup id p.body → ⊥)
     → SendingFacts id m at (p ∷ from_sender) from_receiver untaken
 sends_on p id m at from_sender from_receiver untaken f apart = record {
@@ -67,9 +70,9 @@ sends_on p id m at from_sender from_receiver untaken f apart = record {
   untaken_is = f.untaken_is;
 }
 
--- a message that is sent under an untouched identifier is untaken
-untaken_first : (id : ℕ) (m : List ℕ) (at : ReceiverMode) (from_sender from_receiver : List OwnedPacket)
-    → IsUntouched id at from_sender from_receiver → Untaken at id m (m ∷ [])
+-- what is sent under an untouched identifier is untaken
+untaken_first : (id : ℕ) (m : List (List ℕ)) (at : ReceiverMode) (from_sender from_receiver : List OwnedPacket)
+    → IsUntouched id at from_sender from_receiver → Untaken at id m m
 untaken_first id m receiving.Idle from_sender from_receiver u = tt
 untaken_first id m (receiving.Accept jd accepted) from_sender from_receiver u = λ same. refl
 untaken_first id m (receiving.Rcvd under held) from_sender from_receiver u = λ same. absurd (u.not_taken same)
@@ -116,6 +119,17 @@ module _ (n : ℕ) (at : ReceiverMode) (from_sender from_receiver : List OwnedPa
     accept_words = f.accept_words;
   }
 
+  -- the facts of the packets hold once the sender sends these messages under an identifier that was accepted, under which it sent no others
+  sends_more : (id : ℕ) (load : Payload) → PacketFacts from_sender from_receiver → Any (IsAccept id) from_receiver
+      → ((o : List (List ℕ)) → Any (IsSend id o) from_sender → messages_in load ≡ o)
+      → PacketFacts (bears (carrying id load) ∷ from_sender) from_receiver
+  sends_more id load f accept one =
+      packets_more (bears (carrying id load)) from_sender from_receiver f
+      (λ other is. subst (λ x. Any (IsAccept x) from_receiver) (carrying_bears id load other is) accept)
+      (λ other m o is. let same = carrying_only id load other m is in
+      ⊎_elim (λ now. sym same.1 ∙ (carrying_only id load other o now).1)
+      (λ earlier. sym same.1 ∙ one o (subst (λ x. Any (IsSend x o) from_sender) (sym same.0) earlier)))
+
   -- the facts hold after an act that does nothing
   nothing_keeps : (mode : SenderMode) (waiting : List (List ℕ)) → Before mode waiting
       → After mode (sender.quietly (state mode waiting)) None
@@ -152,10 +166,10 @@ module _ (n : ℕ) (at : ReceiverMode) (from_sender from_receiver : List OwnedPa
   get_ack_keeps Down waiting f = f
 
   -- the facts hold once a sender at rest asks under a new word, for which nothing was accepted
-  starts : (got : Bool) (waiting left : List (List ℕ)) (m : List ℕ) (word : ℕ) → Before (Quiet got) waiting → ¬ (Contains sender_words word)
-      → InvariantAt (NeedId word m) left at (bears (packet.NeedUid word) ∷ from_sender) from_receiver untaken
+  starts : (got : Bool) (waiting left : List (List ℕ)) (load : Payload) (word : ℕ) → Before (Quiet got) waiting → ¬ (Contains sender_words word)
+      → InvariantAt (NeedId word load) left at (bears (packet.NeedUid word) ∷ from_sender) from_receiver untaken
       (word ∷ sender_words) receiver_words
-  starts got waiting left m word f new = record {
+  starts got waiting left load word f new = record {
     packets = packets_more (bears (packet.NeedUid word)) from_sender from_receiver f.packets (λ id is. absurd is) (λ id c o is. absurd is);
     sender = record { asked = inl refl; untouched = λ id accept. absurd (new (f.needuid_words word (f.packets.asked word id accept))) };
     receiver = f.receiver;
@@ -170,10 +184,20 @@ module _ (n : ℕ) (at : ReceiverMode) (from_sender from_receiver : List OwnedPa
       → IfSome (sender.used_word (state mode waiting) (act.Start word)) (λ w. ¬ (Contains sender_words w))
       → After mode (sender.start (state mode waiting) mode waiting word) (sender.used_word (state mode waiting) (act.Start word))
   start_keeps (Quiet got) [] word f new = f
-  start_keeps (Quiet got) (m ∷ waiting) word f new = starts got (m ∷ waiting) waiting m word f new
+  start_keeps (Quiet got) (m ∷ waiting) word f new = starts got (m ∷ waiting) waiting (payload.Message m) word f new
   start_keeps (NeedId jd c) waiting word f new = f
   start_keeps (Send id c) waiting word f new = f
   start_keeps Down waiting word f new = f
+
+  -- the facts hold after a start of a batch
+  batch_keeps : (mode : SenderMode) (waiting : List (List ℕ)) (word : ℕ) → Before mode waiting
+      → IfSome (sender.used_word (state mode waiting) (act.Batch word)) (λ w. ¬ (Contains sender_words w))
+      → After mode (sender.start_batch (state mode waiting) mode waiting word) (sender.used_word (state mode waiting) (act.Batch word))
+  batch_keeps (Quiet got) [] word f new = f
+  batch_keeps (Quiet got) (m ∷ waiting) word f new = starts got (m ∷ waiting) _ _ word f new
+  batch_keeps (NeedId jd c) waiting word f new = f
+  batch_keeps (Send id c) waiting word f new = f
+  batch_keeps Down waiting word f new = f
 
   -- the facts hold after a resend
   resend_keeps : (mode : SenderMode) (waiting : List (List ℕ)) → Before mode waiting
@@ -188,37 +212,31 @@ module _ (n : ℕ) (at : ReceiverMode) (from_sender from_receiver : List OwnedPa
     accept_words = f.accept_words;
   }
   resend_keeps (Send id c) waiting f = record {
-    packets = packets_more (bears (packet.Send id c)) from_sender from_receiver f.packets
-        (λ other same. subst (λ x. Any (IsAccept x) from_receiver) same
-        (f.packets.accepted_first id (send_is_past id c from_sender f.sender.was_sent)))
-        (λ other m o is. ⊎_elim (λ now. sym is.1 ∙ now.1)
-        (λ earlier. sym is.1 ∙ f.packets.one_message id c o f.sender.was_sent
-        (subst (λ x. Any (IsSend x o) from_sender) (sym is.0) earlier)));
-    sender = sends_on (bears (packet.Send id c)) id c at from_sender from_receiver untaken f.sender (λ is. is);
+    packets = sends_more id c f.packets (f.packets.accepted_first id (send_is_past id (messages_in c) from_sender f.sender.was_sent))
+        (λ o earlier. f.packets.one_message id (messages_in c) o f.sender.was_sent earlier);
+    sender =
+        sends_on (bears (carrying id c)) id (messages_in c) at from_sender from_receiver untaken f.sender (carrying_no_cleanup id c id);
     receiver = f.receiver;
-    needuid_words = λ jd. ⊎_elim (λ is. absurd is) (f.needuid_words jd);
+    needuid_words = λ jd. ⊎_elim (λ is. absurd (carrying_no_needuid id c jd is)) (f.needuid_words jd);
     accept_words = f.accept_words;
   }
   resend_keeps Down waiting f = f
 
-  -- the facts hold once the sender sends its message under an identifier that was accepted for its needuid, which no packet used before
-  takes : (jd id : ℕ) (m : List ℕ) (waiting : List (List ℕ)) → Before (NeedId jd m) waiting → Any (IsAcceptFor jd id) from_receiver
-      → InvariantAt (Send id m) waiting at (bears (packet.Send id m) ∷ from_sender) from_receiver (m ∷ []) sender_words receiver_words
-  takes jd id m waiting f accept = let u : IsUntouched id at from_sender from_receiver = f.sender.untouched id accept in record {
-    packets = packets_more (bears (packet.Send id m)) from_sender from_receiver f.packets
-        (λ other same. subst (λ x. Any (IsAccept x) from_receiver) same (accepted jd id from_receiver accept))
-        (λ other c o is. ⊎_elim (λ now. sym is.1 ∙ now.1)
-        (λ earlier. absurd
-        (u.sender_not_past (send_is_past id o from_sender (subst (λ x. Any (IsSend x o) from_sender) (sym is.0) earlier)))));
+  -- the facts hold once the sender sends what it asked for, under an identifier that was accepted for its needuid, which no packet used before
+  takes : (jd id : ℕ) (load : Payload) (waiting : List (List ℕ)) → Before (NeedId jd load) waiting → Any (IsAcceptFor jd id) from_receiver
+      → InvariantAt (Send id load) waiting at (bears (carrying id load) ∷ from_sender) from_receiver (messages_in load) sender_words receiver_words
+  takes jd id load waiting f accept = let u : IsUntouched id at from_sender from_receiver = f.sender.untouched id accept in record {
+    packets = sends_more id load f.packets (accepted jd id from_receiver accept)
+        (λ o earlier. absurd (u.sender_not_past (send_is_past id o from_sender earlier)));
     sender = record {
-      was_sent = inl (refl, refl);
-      no_cleanup = ⊎_elim (λ is. is) (λ earlier. u.sender_not_past (cleanup_is_past id from_sender earlier));
+      was_sent = inl (carrying_sends id load);
+      no_cleanup = ⊎_elim (carrying_no_cleanup id load id) (λ earlier. u.sender_not_past (cleanup_is_past id from_sender earlier));
       if_got = λ ack. absurd (u.receiver_not_past (ack_is_past id true from_receiver ack));
       if_lost = λ ack. absurd (u.receiver_not_past (ack_is_past id false from_receiver ack));
-      untaken_is = untaken_first id m at from_sender from_receiver u;
+      untaken_is = untaken_first id (messages_in load) at from_sender from_receiver u;
     };
     receiver = f.receiver;
-    needuid_words = λ other. ⊎_elim (λ is. absurd is) (f.needuid_words other);
+    needuid_words = λ other. ⊎_elim (λ is. absurd (carrying_no_needuid id load other is)) (f.needuid_words other);
     accept_words = f.accept_words;
   }
 
@@ -238,7 +256,7 @@ module _ (n : ℕ) (at : ReceiverMode) (from_sender from_receiver : List OwnedPa
     | inl h ↦ rw h.0 f
     | inr h ↦
         rw h.0 (cleans (Send under m) (Send under m) waiting waiting id f (accepted jd id from_receiver accept)
-        (sends_on (bears (packet.Cleanup id)) under m at from_sender from_receiver untaken f.sender (λ same. h.1 (sym same))))
+        (sends_on (bears (packet.Cleanup id)) under (messages_in m) at from_sender from_receiver untaken f.sender (λ same. h.1 (sym same))))
   ]
   accept_keeps Down waiting jd id f accept = f
 
@@ -261,7 +279,7 @@ module _ (n : ℕ) (at : ReceiverMode) (from_sender from_receiver : List OwnedPa
     | inr h ↦
         rw h.0 (cleans (Send under m) (Send under m) waiting waiting id f
         (f.packets.accepted_before id (ack_is_past id true from_receiver ack))
-        (sends_on (bears (packet.Cleanup id)) under m at from_sender from_receiver untaken f.sender (λ same. h.1 (sym same))))
+        (sends_on (bears (packet.Cleanup id)) under (messages_in m) at from_sender from_receiver untaken f.sender (λ same. h.1 (sym same))))
   ]
   ack_keeps (Send under m) waiting id false f ack = elim (eqb_tells under id) [
     | inl h ↦ rw h.0 (with_sender (Send under m) (Quiet false) waiting waiting f tt)
@@ -278,6 +296,7 @@ module _ (n : ℕ) (at : ReceiverMode) (from_sender from_receiver : List OwnedPa
   deliver_keeps mode waiting (packet.Send id m) f said = nothing_keeps mode waiting f
   deliver_keeps mode waiting (packet.Ack id got) f said = ack_keeps mode waiting id got f (said (IsAck id got) (refl, refl))
   deliver_keeps mode waiting (packet.Cleanup id) f said = nothing_keeps mode waiting f
+  deliver_keeps mode waiting (packet.Batch id b) f said = nothing_keeps mode waiting f
 
   -- the facts hold after the host crashes
   crash_keeps : (mode : SenderMode) (waiting : List (List ℕ)) → Before mode waiting → After mode (sender.quietly (state Down [])) None
@@ -307,6 +326,7 @@ module _ (n : ℕ) (at : ReceiverMode) (from_sender from_receiver : List OwnedPa
   row_keeps mode waiting act.Get f came new = nothing_keeps mode waiting f
   row_keeps mode waiting act.Ack f came new = get_ack_keeps mode waiting f
   row_keeps mode waiting (act.Start word) f came new = start_keeps mode waiting word f new
+  row_keeps mode waiting (act.Batch word) f came new = batch_keeps mode waiting word f new
   row_keeps mode waiting act.Resend f came new = resend_keeps mode waiting f
   row_keeps mode waiting (act.Deliver p word) f came new =
       deliver_keeps mode waiting p.body f (λ P is. any-contains P from_receiver p came is)

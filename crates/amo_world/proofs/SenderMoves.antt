@@ -1,8 +1,9 @@
 -- Forward simulation, of a sender: each row of its table but the crash moves the queue in doubt, with no mark set.
-use Rattle.std.proofs.Common.{◌≡◌, ◌≢◌, ℕ, Bool, true, false, eqb, if◌then◌else◌, Some, List, [], ◌∷◌, ◌++◌, length, inl, inr, refl, sym, ◌∙◌, ap, subst, append_assoc}
+use Rattle.std.proofs.Common.{◌≡◌, ◌≢◌, ℕ, Bool, true, false, eqb, if◌then◌else◌, Some, List, [], ◌∷◌, ◌++◌, ◌-◌, length, take, drop, inl, inr, refl, sym, ◌∙◌, ap, subst, append_assoc}
 use Rattle.std.specs.List.{Contains}
 use Rattle.std.specs.Option.{option_to_list, IfSome}
 use Rattle.std.proofs.lemmas.Bool.Decides.{eqb_tells}
+use Rattle.std.proofs.lemmas.List.{take-append-drop}
 use Rattle.amo_object.specs.declared.step.End.TheVariants.{Sender}
 use Rattle.amo_object.specs.declared.step.Step.{Step}
 use Rattle.amo_object.specs.declared.step.Step.TheVariants as step
@@ -19,7 +20,10 @@ use Rattle.amo_core.specs.declared.sender.SenderMode.{SenderMode}
 use Rattle.amo_core.specs.declared.sender.SenderMode.TheVariants as sending
 use Rattle.amo_core.specs.declared.receiver.ReceiverMode.{ReceiverMode}
 use Rattle.amo_core.specs.declared.receiver.ReceiverMode.TheVariants as receiving
+use Rattle.amo_packet.specs.Batch.{batch, max_batch}
 use Rattle.amo_core.specs.Sender as sender
+use Rattle.amo_core.specs.declared.payload.Payload.{Payload}
+use Rattle.amo_core.specs.declared.payload.Payload.TheVariants as payload
 use Rattle.amo_world.specs.Stream.{Stream, after, reply_of}
 use Rattle.amo_world.specs.History.{WasEmitted, IsNewWord}
 use Rattle.amo_world.specs.Served.{call_of}
@@ -71,26 +75,36 @@ with_reply : (a : Act) (v w : DoubtState) (given r : Reply) → Some given ≡ S
 with_reply a v w given r is m = let same : given ≡ r = cc in subst (λ (x : Reply). MovesUnmarking v (steps_of a x) w) same m
 
 -- the status is open while a message waits, and open once it is about to be sent
-known_once_started : (got : Bool) (m : List ℕ) (waiting untaken : List (List ℕ)) (word : ℕ)
-    → known (sending.Quiet got) (m ∷ waiting) untaken ≡ known (sending.NeedId word m) waiting untaken
-known_once_started got m [] untaken word = refl
-known_once_started got m (w ∷ waiting) untaken word = refl
+known_once_started : (got : Bool) (m : List ℕ) (waiting left untaken : List (List ℕ)) (word : ℕ) (load : Payload)
+    → known (sending.Quiet got) (m ∷ waiting) untaken ≡ known (sending.NeedId word load) left untaken
+known_once_started got m waiting [] untaken word load = refl
+known_once_started got m waiting (w ∷ left) untaken word load = refl
 
 -- what the receiver may be sent does not depend on a sender that does not send
-received_once_started : (n : ℕ) (got : Bool) (word : ℕ) (m : List ℕ) (at : ReceiverMode) (from_sender : List OwnedPacket)
-    → received (sending.Quiet got) at from_sender ≡ received (sending.NeedId word m) at
+received_once_started : (n : ℕ) (got : Bool) (word : ℕ) (load : Payload) (at : ReceiverMode) (from_sender : List OwnedPacket)
+    → received (sending.Quiet got) at from_sender ≡ received (sending.NeedId word load) at
     (record { stream = n; body = packet.NeedUid word } ∷ from_sender)
-received_once_started n got word m (receiving.Accept jd accepted) from_sender = refl
-received_once_started n got word m (receiving.Rcvd under held) from_sender = refl
-received_once_started n got word m (receiving.Ack under) from_sender = refl
-received_once_started n got word m receiving.Idle from_sender = refl
-received_once_started n got word m receiving.Down from_sender = refl
+received_once_started n got word load (receiving.Accept jd accepted) from_sender = refl
+received_once_started n got word load (receiving.Rcvd under held) from_sender = refl
+received_once_started n got word load (receiving.Ack under) from_sender = refl
+received_once_started n got word load receiving.Idle from_sender = refl
+received_once_started n got word load receiving.Down from_sender = refl
 
--- a message that was sent is carried as before once it is sent again
-carried_again : (n id : ℕ) (m : List ℕ) (from_sender : List OwnedPacket) → carried from_sender id ≡ m ∷ [] → (other : ℕ)
-    → carried (record { stream = n; body = packet.Send id m } ∷ from_sender) other ≡ carried from_sender other
-carried_again n id m from_sender is other = elim (eqb_tells id other) [
+-- what a batch takes, and what is left to wait, are the messages that waited
+parted : (m : List ℕ) (waiting : List (List ℕ)) (count : ℕ)
+    → entries false (m ∷ take count waiting) ++ entries false (drop count waiting) ≡ entries false (m ∷ waiting)
+parted m waiting count =
+    sym (entries-append false (m ∷ take count waiting) (drop count waiting)) ∙ ap (λ (ms : List (List ℕ)). entries false (m ∷ ms)) (take-append-drop count waiting)
+
+-- messages that were sent are carried as before once they are sent again
+carried_again : (n id : ℕ) (load : Payload) (from_sender : List OwnedPacket) → carried from_sender id ≡ sender.messages_in load → (other : ℕ)
+    → carried (record { stream = n; body = sender.carrying id load } ∷ from_sender) other ≡ carried from_sender other
+carried_again n id (payload.Message m) from_sender is other = elim (eqb_tells id other) [
   | inl h ↦ rw h.0 (sym (subst (λ (x : ℕ). carried from_sender x ≡ m ∷ []) h.1 is))
+  | inr h ↦ rw h.0 refl
+]
+carried_again n id (payload.Batch b) from_sender is other = elim (eqb_tells id other) [
+  | inl h ↦ rw h.0 (sym (subst (λ (x : ℕ). carried from_sender x ≡ b.first ∷ b.rest) h.1 is))
   | inr h ↦ rw h.0 refl
 ]
 
@@ -155,14 +169,17 @@ module _ (n : ℕ) (at : ReceiverMode) (from_sender from_receiver : List OwnedPa
   gets_ack sending.Down waiting r is =
       with_reply act.Ack _ _ reply.Down r is (calls (At sending.Down waiting) (step.DownReply Sender) refl)
 
-  -- a handshake begins under a word for which nothing was accepted
-  starts_fresh : (got : Bool) (m : List ℕ) (waiting : List (List ℕ)) (word : ℕ) → ((id : ℕ) → Any (IsAcceptFor word id) from_receiver → ⊥)
-      → Goes (sending.Quiet got) (m ∷ waiting) (sender.start (of (sending.Quiet got) (m ∷ waiting)) (sending.Quiet got) (m ∷ waiting) word) []
-  starts_fresh got m waiting word none =
+  -- a handshake begins for these of the messages that wait, under a word for which nothing was accepted
+  begins_fresh : (got : Bool) (m : List ℕ) (waiting left : List (List ℕ)) (load : Payload) (word : ℕ)
+      → entries false (sender.messages_in load) ++ entries false left ≡ entries false (m ∷ waiting)
+      → ((id : ℕ) → Any (IsAcceptFor word id) from_receiver → ⊥)
+      → Goes (sending.Quiet got) (m ∷ waiting) (sender.begin (of (sending.Quiet got) (m ∷ waiting)) load left word) []
+  begins_fresh got m waiting left load word parts none =
       same_parts _ _
       (rw (none_lost at word from_receiver (λ id accept. absurd (none id accept)))
-      (ap (λ (es : List Entry). es ++ (entry false m ∷ entries false waiting)) (received_once_started n got word m at from_sender)))
-      (known_once_started got m waiting untaken word)
+      (ap (λ (es : List Entry). es ++ entries false (m ∷ waiting)) (received_once_started n got word load at from_sender)
+      ∙ ap (λ (es : List Entry). received (sending.NeedId word load) at (record { stream = n; body = packet.NeedUid word } ∷ from_sender) ++ es) (sym parts)))
+      (known_once_started got m waiting left untaken word load)
       refl refl refl
 
   -- a handshake begins, if a message waits and the sender is at rest
@@ -171,11 +188,24 @@ module _ (n : ℕ) (at : ReceiverMode) (from_sender from_receiver : List OwnedPa
       → IfSome (sender.used_word (of mode waiting) (act.Start word)) (λ jd. ¬ (Contains sender_words jd))
       → Goes mode waiting (sender.start (of mode waiting) mode waiting word) []
   starts (sending.Quiet got) (m ∷ waiting) sender_words word packets needuid_words new =
-      starts_fresh got m waiting word (λ id accept. new (needuid_words word (packets.asked word id accept)))
+      begins_fresh got m waiting waiting (payload.Message m) word refl (λ id accept. new (needuid_words word (packets.asked word id accept)))
   starts (sending.Quiet got) [] sender_words word packets needuid_words new = stays _
   starts (sending.NeedId jd m) waiting sender_words word packets needuid_words new = stays _
   starts (sending.Send id m) waiting sender_words word packets needuid_words new = stays _
   starts sending.Down waiting sender_words word packets needuid_words new = stays _
+
+  -- a handshake for a batch begins, if a message waits and the sender is at rest
+  starts_batch : (mode : SenderMode) (waiting : List (List ℕ)) (sender_words : List ℕ) (word : ℕ) → PacketFacts from_sender from_receiver
+      → ((jd : ℕ) → Any (IsNeeduid jd) from_sender → Contains sender_words jd)
+      → IfSome (sender.used_word (of mode waiting) (act.Batch word)) (λ jd. ¬ (Contains sender_words jd))
+      → Goes mode waiting (sender.start_batch (of mode waiting) mode waiting word) []
+  starts_batch (sending.Quiet got) (m ∷ waiting) sender_words word packets needuid_words new =
+      begins_fresh got m waiting (drop (max_batch - 1) waiting) (payload.Batch (batch m (take (max_batch - 1) waiting))) word
+      (parted m waiting (max_batch - 1)) (λ id accept. new (needuid_words word (packets.asked word id accept)))
+  starts_batch (sending.Quiet got) [] sender_words word packets needuid_words new = stays _
+  starts_batch (sending.NeedId jd m) waiting sender_words word packets needuid_words new = stays _
+  starts_batch (sending.Send id m) waiting sender_words word packets needuid_words new = stays _
+  starts_batch sending.Down waiting sender_words word packets needuid_words new = stays _
 
   -- the packet of the mode is said again
   resends : (mode : SenderMode) (waiting : List (List ℕ)) → PacketFacts from_sender from_receiver → Before mode waiting
@@ -184,7 +214,8 @@ module _ (n : ℕ) (at : ReceiverMode) (from_sender from_receiver : List OwnedPa
       emits (sending.NeedId jd m) waiting at from_sender _ from_receiver untaken (λ i. refl)
   resends (sending.Send id m) waiting packets facts =
       emits (sending.Send id m) waiting at from_sender _ from_receiver untaken
-      (carried_again n id m from_sender (carried_is from_sender id m facts.was_sent (λ x s. packets.one_message id x m s facts.was_sent)))
+      (carried_again n id m from_sender
+      (carried_is from_sender id (sender.messages_in m) facts.was_sent (λ x s. packets.one_message id x (sender.messages_in m) s facts.was_sent)))
   resends (sending.Quiet got) waiting packets facts = stays _
   resends sending.Down waiting packets facts = stays _
 
@@ -211,6 +242,7 @@ module _ (n : ℕ) (at : ReceiverMode) (from_sender from_receiver : List OwnedPa
   delivers mode waiting stream (packet.NeedUid jd) facts among = rw (untaken_unless_sent mode untaken) (stays _)
   delivers mode waiting stream (packet.Send id m) facts among = rw (untaken_unless_sent mode untaken) (stays _)
   delivers mode waiting stream (packet.Cleanup id) facts among = rw (untaken_unless_sent mode untaken) (stays _)
+  delivers mode waiting stream (packet.Batch id b) facts among = rw (untaken_unless_sent mode untaken) (stays _)
 
 -- each act of a sender but a crash moves the queue in doubt, with no mark set, and a client sees its call
 pub sender_moves : (s : Stream) (a : Act) (r : Reply) → a ≢ act.Crash → Invariant s → WasEmitted s Sender a → IsNewWord s Sender a
@@ -223,6 +255,9 @@ sender_moves s act.Ack r calm facts honest new is =
     gets_ack s.sender.state.stream s.receiver.state.mode s.sender.emitted s.receiver.emitted s.untaken s.sender.state.mode s.sender.state.waiting r is
 sender_moves s (act.Start word) r calm facts honest new is =
     starts s.sender.state.stream s.receiver.state.mode s.sender.emitted s.receiver.emitted s.untaken s.sender.state.mode s.sender.state.waiting
+    s.sender.words word facts.packets facts.needuid_words new
+sender_moves s (act.Batch word) r calm facts honest new is =
+    starts_batch s.sender.state.stream s.receiver.state.mode s.sender.emitted s.receiver.emitted s.untaken s.sender.state.mode s.sender.state.waiting
     s.sender.words word facts.packets facts.needuid_words new
 sender_moves s act.Resend r calm facts honest new is =
     resends s.sender.state.stream s.receiver.state.mode s.sender.emitted s.receiver.emitted s.untaken s.sender.state.mode s.sender.state.waiting

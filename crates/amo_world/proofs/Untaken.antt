@@ -34,6 +34,7 @@ untaken_unless_got sending.Down at act.Get untaken nothing = refl
 untaken_unless_got mode at (act.Put m) untaken nothing = refl
 untaken_unless_got mode at act.Ack untaken nothing = refl
 untaken_unless_got mode at (act.Start word) untaken nothing = refl
+untaken_unless_got mode at (act.Batch word) untaken nothing = refl
 untaken_unless_got mode at act.Resend untaken nothing = refl
 untaken_unless_got mode at (act.Deliver p word) untaken nothing = refl
 untaken_unless_got mode at act.Crash untaken nothing = refl

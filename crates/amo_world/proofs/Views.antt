@@ -5,6 +5,7 @@ use Rattle.std.proofs.lemmas.Bool.Decides.{eqb_tells}
 use Rattle.amo_packet.specs.declared.packet.OwnedPacket.{OwnedPacket}
 use Rattle.amo_packet.specs.declared.packet.OwnedBody.{OwnedBody}
 use Rattle.amo_packet.specs.declared.packet.OwnedBody.TheVariants as packet
+use Rattle.amo_packet.specs.Batch.{messages}
 use Rattle.amo_core.specs.declared.sender.SenderMode.{SenderMode}
 use Rattle.amo_core.specs.declared.sender.SenderMode.TheVariants as sending
 use Rattle.amo_core.specs.declared.receiver.ReceiverMode.{ReceiverMode}
@@ -52,22 +53,31 @@ carried_by_none (packet.Send under m) id earlier none is = elim (eqb_tells under
 ]
 carried_by_none (packet.Ack under ack) id earlier none is = is
 carried_by_none (packet.Cleanup under) id earlier none is = is
+carried_by_none (packet.Batch under b) id earlier none is = elim (eqb_tells under id) [
+  | inl h ↦ absurd (none h.1)
+  | inr h ↦ rw h.0 is
+]
 
 -- nothing is carried under an identifier that no send bears
 pub carried_none : (ps : List OwnedPacket) (id : ℕ) → (Any (IsPastAccept id) ps → ⊥) → carried ps id ≡ []
 carried_none [] id none = refl
 carried_none (p ∷ ps) id none = carried_by_none p.body id (carried ps id) (λ n. none (inl n)) (carried_none ps id (λ a. none (inr a)))
 
-carried_by_is : (b : OwnedBody) (id : ℕ) (m : List ℕ) (earlier : List (List ℕ)) → IsSend id m b ⊎ (earlier ≡ m ∷ [])
-    → ((n : List ℕ) → IsSend id n b → n ≡ m)
-    → carried_by b id earlier ≡ m ∷ []
+carried_by_is : (b : OwnedBody) (id : ℕ) (m : List (List ℕ)) (earlier : List (List ℕ)) → IsSend id m b ⊎ (earlier ≡ m)
+    → ((n : List (List ℕ)) → IsSend id n b → n ≡ m)
+    → carried_by b id earlier ≡ m
 carried_by_is (packet.NeedUid word) id m earlier (inl here) one = absurd here
 carried_by_is (packet.NeedUid word) id m earlier (inr is) one = is
 carried_by_is (packet.Accept asked accepted) id m earlier (inl here) one = absurd here
 carried_by_is (packet.Accept asked accepted) id m earlier (inr is) one = is
-carried_by_is (packet.Send under content) id m earlier (inl here) one = rw (eq-eqb under id here.0) (ap (λ (x : List ℕ). x ∷ []) here.1)
+carried_by_is (packet.Send under content) id m earlier (inl here) one = rw (eq-eqb under id here.0) here.1
 carried_by_is (packet.Send under content) id m earlier (inr is) one = elim (eqb_tells under id) [
-  | inl h ↦ rw h.0 (ap (λ (x : List ℕ). x ∷ []) (one content (h.1, refl)))
+  | inl h ↦ rw h.0 (one (content ∷ []) (h.1, refl))
+  | inr h ↦ rw h.0 is
+]
+carried_by_is (packet.Batch under b) id m earlier (inl here) one = rw (eq-eqb under id here.0) here.1
+carried_by_is (packet.Batch under b) id m earlier (inr is) one = elim (eqb_tells under id) [
+  | inl h ↦ rw h.0 (one (messages b) (h.1, refl))
   | inr h ↦ rw h.0 is
 ]
 carried_by_is (packet.Ack under ack) id m earlier (inl here) one = absurd here
@@ -75,9 +85,9 @@ carried_by_is (packet.Ack under ack) id m earlier (inr is) one = is
 carried_by_is (packet.Cleanup under) id m earlier (inl here) one = absurd here
 carried_by_is (packet.Cleanup under) id m earlier (inr is) one = is
 
--- what is carried under an identifier is the one message that is sent under it
-pub carried_is : (ps : List OwnedPacket) (id : ℕ) (m : List ℕ) → Any (IsSend id m) ps → ((n : List ℕ) → Any (IsSend id n) ps → n ≡ m)
-    → carried ps id ≡ m ∷ []
+-- what is carried under an identifier are the messages that are sent under it
+pub carried_is : (ps : List OwnedPacket) (id : ℕ) (m : List (List ℕ)) → Any (IsSend id m) ps → ((n : List (List ℕ)) → Any (IsSend id n) ps → n ≡ m)
+    → carried ps id ≡ m
 carried_is [] id m a one = absurd a
 carried_is (p ∷ ps) id m (inl here) one = carried_by_is p.body id m (carried ps id) (inl here) (λ n s. one n (inl s))
 carried_is (p ∷ ps) id m (inr there) one =
@@ -111,6 +121,7 @@ lost_one a b jd (packet.Accept asked id) fewer is = elim (eqb_tells asked jd) [
 lost_one a b jd (packet.Send under content) fewer is = is
 lost_one a b jd (packet.Ack under ack) fewer is = is
 lost_one a b jd (packet.Cleanup under) fewer is = is
+lost_one a b jd (packet.Batch under c) fewer is = is
 
 -- a lost accept may be met as before, where no accept for the needuid is lost that was not
 pub lost_fewer : (a b : ReceiverMode) (jd : ℕ) (ps : List OwnedPacket)
@@ -133,6 +144,7 @@ not_lost_one a jd (packet.Accept asked id) had = elim (eqb_tells asked jd) [
 not_lost_one a jd (packet.Send under content) had = refl
 not_lost_one a jd (packet.Ack under ack) had = refl
 not_lost_one a jd (packet.Cleanup under) had = refl
+not_lost_one a jd (packet.Batch under b) had = refl
 
 -- no lost accept may be met, where the receiver has each identifier that it accepted for the needuid
 pub none_lost : (a : ReceiverMode) (jd : ℕ) (ps : List OwnedPacket) → ((id : ℕ) → Any (IsAcceptFor jd id) ps → has a id ≡ true)
@@ -148,6 +160,7 @@ lost_one_is a jd id (packet.Accept asked accepted) o lost =
 lost_one_is a jd id (packet.Send under content) o lost = absurd o
 lost_one_is a jd id (packet.Ack under ack) o lost = absurd o
 lost_one_is a jd id (packet.Cleanup under) o lost = absurd o
+lost_one_is a jd id (packet.Batch under b) o lost = absurd o
 
 -- an accept for the needuid that is lost may be met
 pub lost_is_met : (a : ReceiverMode) (jd id : ℕ) (ps : List OwnedPacket) → Any (IsAcceptFor jd id) ps → has a id ≡ false
@@ -196,7 +209,8 @@ not_fewer false false fewer e = refl
 pub current_fewer : (mode : SenderMode) (a b : ReceiverMode) (from_receiver more : List OwnedPacket) (untaken : List (List ℕ))
     → DoubtsNoMore mode a b from_receiver more
     → HasFewerMarks (current mode a from_receiver untaken) (current mode b more untaken)
-current_fewer (sending.NeedId jd m) a b from_receiver more untaken fewer = (refl, fewer, tt)
+current_fewer (sending.NeedId jd load) a b from_receiver more untaken fewer =
+    entries_fewer (may_meet_lost_accept a jd from_receiver) (may_meet_lost_accept b jd more) (sender.messages_in load) fewer
 current_fewer (sending.Send id m) a b from_receiver more untaken fewer =
     rw fewer.0 (none_or_entries_fewer (is_holding a id) (not (has a id)) (not (has b id)) untaken (not_fewer (has a id) (has b id) fewer.1))
 current_fewer (sending.Quiet got) a b from_receiver more untaken fewer = tt
@@ -209,6 +223,7 @@ lost_same_one a b jd (packet.Accept asked id) same = ap (λ (h : Bool). eqb aske
 lost_same_one a b jd (packet.Send under content) same = refl
 lost_same_one a b jd (packet.Ack under ack) same = refl
 lost_same_one a b jd (packet.Cleanup under) same = refl
+lost_same_one a b jd (packet.Batch under c) same = refl
 
 -- the same accepts are lost under receivers that have the same identifiers
 pub lost_same : (a b : ReceiverMode) (jd : ℕ) (ps : List OwnedPacket) → ((id : ℕ) → has a id ≡ has b id)

@@ -9,7 +9,7 @@ use Rattle.amo_packet.specs.declared.packet.OwnedBody.{OwnedBody}
 use Rattle.amo_packet.specs.declared.packet.OwnedBody.TheVariants as packet
 use Rattle.amo_world.specs.declared.key.Key.{Key}
 use Rattle.amo_world.specs.declared.key.PacketKind.{PacketKind}
-use Rattle.amo_world.specs.declared.key.PacketKind.TheVariants.{NeedUid, Accept, Send, Ack, Cleanup}
+use Rattle.amo_world.specs.declared.key.PacketKind.TheVariants.{NeedUid, Accept, Send, Ack, Cleanup, Batch}
 use Rattle.amo_world.specs.contracts.key.KeyOrd.TheImpl as key_order
 
 -- a key of this kind, with this identifier
@@ -23,6 +23,7 @@ key_of (packet.Accept jd id) = key Accept id
 key_of (packet.Send id m) = key Send id
 key_of (packet.Ack id got) = key (Ack got) id
 key_of (packet.Cleanup id) = key Cleanup id
+key_of (packet.Batch id b) = key Batch id
 
 -- the key of the packet that an act emits which uses up this word
 abbrev pub key_of_word : End → ℕ → Key

@@ -68,14 +68,14 @@ abbrev pub word_of : Stream → End → Act → Option ℕ
 word_of s Sender act = sender.used_word s.sender.state act
 word_of s Receiver act = receiver.used_word s.receiver.state act
 
--- a message that a sender begins to send was not taken yet
+-- what a sender begins to send was not taken yet
 abbrev pub untaken_once_sent : SenderMode → SenderMode → List (List ℕ) → List (List ℕ)
-untaken_once_sent (NeedId jd waited) (Send id m) untaken = m ∷ []
+untaken_once_sent (NeedId jd waited) (Send id load) untaken = sender.messages_in load
 untaken_once_sent _ _ untaken = untaken
 
--- a get takes the message that came under the sender's identifier
+-- a get takes the first of the messages that came under the sender's identifier
 abbrev pub untaken_once_got : Act → SenderMode → ReceiverMode → List (List ℕ) → List (List ℕ)
-untaken_once_got Get (Send id m) (Rcvd under held) untaken = if under == id then [] else untaken
+untaken_once_got Get (Send id load) (Rcvd under held) untaken = if under == id then held.rest else untaken
 untaken_once_got _ _ _ untaken = untaken
 
 -- the stream after an act at a side

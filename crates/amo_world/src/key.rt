@@ -14,10 +14,11 @@ pub(crate) enum PacketKind {
     Send,
     Ack(bool),
     Cleanup,
+    Batch,
 }
 
 /// One identifier of a packet, with the packet's kind. An accept is told by the identifier that it brings, since each is
-/// accepted for one needuid; a send by its identifier, since one message is sent under each. What a side says in one
+/// accepted for one needuid; a send or a batch by its identifier, since what is sent under each is one. What a side says in one
 /// handshake mostly has one identifier, so it stands side by side in an index.
 #[derive(Clone, Copy, Debug, Default, PartialEq, Eq, PartialOrd, Ord)]
 pub(crate) struct Key {
@@ -35,6 +36,7 @@ pub(crate) fn key_of(body: Body<'_>) -> Key
         Body::Send(id, _) => (id, PacketKind::Send),
         Body::Ack(id, got) => (id, PacketKind::Ack(got)),
         Body::Cleanup(id) => (id, PacketKind::Cleanup),
+        Body::Batch(id, _) => (id, PacketKind::Batch),
     };
     Key { identifier, kind }
 }

@@ -11,7 +11,7 @@ ghost use Rattle.amo_object.specs.Run.{IsCrashFree};
 ghost use Rattle.amo_object.specs.Delivery.{messages_put, messages_got, IsSubsequence};
 ghost use Rattle.amo_packet.specs.declared.packet.OwnedPacket.{OwnedPacket};
 ghost use Rattle.amo_core.specs.declared.act.Act.{Act};
-ghost use Rattle.amo_core.specs.declared.act.Act.TheVariants.{Put, Get, Ack, Start, Resend, Deliver, Crash, Recover};
+ghost use Rattle.amo_core.specs.declared.act.Act.TheVariants.{Put, Get, Ack, Start, Batch, Resend, Deliver, Crash, Recover};
 ghost use Rattle.amo_core.specs.declared.mode.Mode.TheVariants as mode;
 ghost use Rattle.amo_core.specs.declared.reply.Reply.TheVariants as reply;
 ghost use Rattle.amo_core.specs.declared.reply.Reply.TheVariants.{Done};
@@ -157,6 +157,7 @@ pub fn acts_have_replies()
     ensures ack { (s : Stream) → IsSome (reply_of s Sender Ack) }
     ensures get { (s : Stream) → IsSome (reply_of s Receiver Get) }
     ensures start { (s : Stream) (word : ℕ) → reply_of s Sender (Start word) ≡ Some Done }
+    ensures batch { (s : Stream) (word : ℕ) → reply_of s Sender (Batch word) ≡ Some Done }
     ensures resend { (s : Stream) (side : End) → reply_of s side Resend ≡ Some Done }
     ensures deliver { (s : Stream) (side : End) (packet : OwnedPacket) (word : ℕ) → reply_of s side (Deliver packet word) ≡ Some Done }
     ensures crash { (s : Stream) (side : End) → reply_of s side Crash ≡ Some Done }
@@ -179,13 +180,14 @@ pub fn calls_reply_by_mode()
     ensures ack_once_lost { (s : Stream) → s.sender.state.mode ≡ sending.Quiet false
         → s.sender.state.waiting ≡ [] → reply_of s Sender Ack ≡ Some reply.No }
     ensures get_while_down { (s : Stream) → receiver.kind s.receiver.state.mode ≡ mode.Down → reply_of s Receiver Get ≡ Some reply.Down }
-    ensures get_while_held { (s : Stream) (m : List ℕ) → receiver.held_by s.receiver.state.mode ≡ m ∷ [] → reply_of s Receiver Get ≡ Some (reply.Got m) }
+    ensures get_while_held { (s : Stream) (m : List ℕ) (rest : List (List ℕ)) → receiver.held_by s.receiver.state.mode ≡ m ∷ rest → reply_of s Receiver Get ≡ Some (reply.Got m) }
     ensures get_while_empty { (s : Stream) → receiver.kind s.receiver.state.mode ≢ mode.Down
         → receiver.held_by s.receiver.state.mode ≡ [] → reply_of s Receiver Get ≡ Some reply.Nothing }
 {}
 
-/// What a sender holds of a handshake changes by a start, a crash, or an ack under the identifier that it sends under, and what a
-/// receiver holds by a get, a crash, or a send under the identifier that it accepted. No other act changes either.
+/// What a sender holds of a handshake changes by a start, of one message or of a batch, by a crash, or by an ack under the identifier that it
+/// sends under, and what a receiver holds by a get, a crash, or a send or a batch under the identifier that it accepted. No other act changes
+/// either.
 pub fn few_acts_change_what_is_held()
     ensures sender { (s : Stream) (a : Act) → (¬ (MayChangeSender s.sender.state.mode a))
         → sender.held_by (after s Sender a).sender.state.mode ≡ sender.held_by s.sender.state.mode }

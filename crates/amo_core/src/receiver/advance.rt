@@ -8,8 +8,8 @@ ghost use Rattle.amo_core.specs.declared.act.Act.TheVariants as act;
 
 use crate::outcome::write_emission;
 use crate::receiver::{Receiver, ReceiverMode};
-use crate::{Act, Advanced, Outcome, Reply};
-use amo_packet::{MAX_PACKET, Message, OwnedBody};
+use crate::{Act, Advanced, Messages, Outcome, Reply};
+use amo_packet::{MAX_PACKET, OwnedBody};
 
 impl Receiver {
     /// Makes an act, exactly as its row says. What it emits is written at the front of the buffer.
@@ -36,7 +36,7 @@ impl Receiver {
             Act::Put(message) => Advanced::unknown(Some(message)),
             Act::Get => Advanced::replied(Reply::from(self.get())),
             Act::Ack => Advanced::unknown(None),
-            Act::Start(_word) => Advanced::unknown(None),
+            Act::Start(_word) | Act::Batch(_word) => Advanced::unknown(None),
             Act::Resend => Advanced::replied(Reply::Done),
             Act::Deliver(packet, word) => {
                 self.advance_on(packet.body, word);
@@ -62,7 +62,10 @@ impl Receiver {
                 self.advance_on_needuid(jd, word);
             }
             OwnedBody::Send(id, message) => {
-                self.advance_on_send(id, message);
+                self.advance_on_batch(id, Messages::from(message));
+            }
+            OwnedBody::Batch(id, batch) => {
+                self.advance_on_batch(id, Messages::of(batch.into_messages()));
             }
             OwnedBody::Cleanup(id) => self.advance_on_cleanup(id),
             OwnedBody::Accept(_, _) | OwnedBody::Ack(_, _) => {}
@@ -84,22 +87,22 @@ impl Receiver {
         }
     }
 
-    /// Holds a message that was sent under the identifier accepted, and says whether it was.
-    pub(crate) fn advance_on_send(&mut self, id: u64, message: Message) -> bool
-        ensures state { self.new ≡ (table.send self.old self.old.mode id message).state }
-        ensures held { IsTrue result → table.send self.old self.old.mode id message ≡ done self.new None }
+    /// Holds messages that were sent under the identifier accepted, and says whether they were.
+    pub(crate) fn advance_on_batch(&mut self, id: u64, messages: Messages) -> bool
+        ensures state { self.new ≡ (table.batch self.old self.old.mode id messages).state }
+        ensures held { IsTrue result → table.batch self.old self.old.mode id messages ≡ done self.new None }
         ensures other { IsFalse result → (self.new ≡ self.old) × (is_accepting self.old.mode id ≡ false) }
     {
         match self.mode {
             ReceiverMode::Accept(_, accepted) if accepted == id => {
-                self.mode = ReceiverMode::Rcvd(id, message);
+                self.mode = ReceiverMode::Rcvd(id, messages);
                 true
             }
             _ => false,
         }
     }
 
-    /// Comes to rest if the identifier is accepted, or its message was got.
+    /// Comes to rest if the identifier is accepted, or all its messages were got.
     pub(crate) fn advance_on_cleanup(&mut self, id: u64)
         ensures state { self.new ≡ (table.cleanup self.old self.old.mode id).state }
         ensures row { table.cleanup self.old self.old.mode id ≡ done self.new None }

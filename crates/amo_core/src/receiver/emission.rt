@@ -1,6 +1,7 @@
 //! What a receiver would emit: looked up, with nothing changed.
-ghost use Rattle.std.specs.Prelude.{◌≡◌, ℕ, List, false, IfSome};
+ghost use Rattle.std.specs.Prelude.{◌≡◌, false, IfSome};
 ghost use Rattle.std.specs.Option.{option_map};
+ghost use Rattle.amo_packet.specs.Batch.{Batch};
 ghost use Rattle.amo_packet.specs.Packet.{body_of, packet_of};
 ghost use Rattle.amo_packet.specs.Grammar.{CanBeWritten};
 ghost use Rattle.amo_core.specs.Row.{done};
@@ -21,11 +22,17 @@ impl Receiver {
         match act {
             Act::Resend => self.resend(),
             Act::Deliver(packet, word) => self.emission_on(&packet.body, *word),
-            Act::Put(_) | Act::Get | Act::Ack | Act::Start(_) | Act::Crash | Act::Recover => None,
+            Act::Put(_)
+            | Act::Get
+            | Act::Ack
+            | Act::Start(_)
+            | Act::Batch(_)
+            | Act::Crash
+            | Act::Recover => None,
         }
     }
 
-    /// Emits the packet of the mode: accept while the receiver accepts, and ack once the message was got.
+    /// Emits the packet of the mode: accept while the receiver accepts, and ack once all messages were got.
     pub fn resend(&self) -> Option<Packet<'_>>
         ensures row { table.row self.now act.Resend ≡ done self.now (option_map packet_of result) }
         ensures fits { IfSome result (λ p. CanBeWritten (body_of p.body)) }
@@ -44,7 +51,7 @@ impl Receiver {
     {
         match body {
             OwnedBody::NeedUid(jd) => self.emission_on_needuid(*jd, word),
-            OwnedBody::Send(id, _) => self.emission_on_send(*id),
+            OwnedBody::Send(id, _) | OwnedBody::Batch(id, _) => self.emission_on_batch(*id),
             OwnedBody::Accept(_, _) | OwnedBody::Ack(_, _) | OwnedBody::Cleanup(_) => None,
         }
     }
@@ -63,22 +70,22 @@ impl Receiver {
         }
     }
 
-    /// What a send under this identifier would emit: nothing if it is accepted, or an ack.
-    fn emission_on_send(&self, id: u64) -> Option<Packet<'_>>
-        ensures value { (m : List ℕ) → option_map packet_of result ≡ (table.send self.now self.now.mode id m).emitted }
+    /// What a send or a batch under this identifier would emit: nothing if it is accepted, or an ack.
+    fn emission_on_batch(&self, id: u64) -> Option<Packet<'_>>
+        ensures value { (b : Batch) → option_map packet_of result ≡ (table.batch self.now self.now.mode id b).emitted }
         ensures fits { IfSome result (λ p. CanBeWritten (body_of p.body)) }
     {
         match &self.mode {
             ReceiverMode::Accept(_, accepted) if *accepted == id => None,
-            _ => self.ack_on_send(id),
+            _ => self.ack_on_batch(id),
         }
     }
 
-    /// The ack for a send under an identifier that is not accepted, unless its message is held or the receiver is down.
-    pub(crate) fn ack_on_send(&self, id: u64) -> Option<Packet<'_>>
+    /// The ack for a send or a batch under an identifier that is not accepted, unless its messages are held or the receiver is down.
+    pub(crate) fn ack_on_batch(&self, id: u64) -> Option<Packet<'_>>
         requires { is_accepting self.now.mode id ≡ false }
         ensures fits { IfSome result (λ p. CanBeWritten (body_of p.body)) }
-        ensures row { (m : List ℕ) → table.send self.now self.now.mode id m ≡ done self.now (option_map packet_of result) }
+        ensures row { (b : Batch) → table.batch self.now self.now.mode id b ≡ done self.now (option_map packet_of result) }
     {
         match &self.mode {
             ReceiverMode::Down => None,

@@ -1,13 +1,16 @@
 //! What a receiver's host makes happen: a needuid, a send or a cleanup comes; a crash and a recovery.
-ghost use Rattle.std.specs.Prelude.{◌≡◌, IfSome, None};
+ghost use Rattle.std.specs.Prelude.{◌≡◌, ◌≤◌, length, IfSome, None};
 ghost use Rattle.std.specs.Option.{option_map};
 ghost use Rattle.std.specs.Borrow.{sem};
 ghost use Rattle.std.specs.Io.BufRead.{Rests};
+ghost use Rattle.amo_packet.specs.Batch.{batch_from};
 ghost use Rattle.amo_core.specs.Receiver as table;
 ghost use Rattle.amo_core.specs.declared.act.Act.TheVariants as act;
 
+use crate::Messages;
 use crate::receiver::{Receiver, ReceiverMode};
-use amo_packet::{Message, Packet};
+use amo_packet::{MAX_BATCH, Message, Packet};
+use arrayvec::ArrayVec;
 
 impl Receiver {
     ghost use Rattle.amo_core.specs.Row.{done};
@@ -35,10 +38,23 @@ impl Receiver {
         ensures* row { sem 𝓛 (Rests the_row self.entry (λ new. table.send self.old self.old.mode id message ≡ done new (option_map packet_of result))) }
         ensures fits { IfSome result (λ p. CanBeWritten (body_of p.body)) }
     {
-        if self.advance_on_send(id, message) {
+        if self.advance_on_batch(id, Messages::from(message)) {
             None
         } else {
-            self.ack_on_send(id)
+            self.ack_on_batch(id)
+        }
+    }
+
+    /// Takes a batch, as a send, with one to [`MAX_BATCH`](amo_packet::MAX_BATCH) messages to hold for the client.
+    pub fn batch(&mut self, id: u64, messages: ArrayVec<Message, MAX_BATCH>) -> Option<Packet<'_>>
+        requires { 1 ≤ length messages.items }
+        ensures* row { sem 𝓛 (Rests the_row self.entry (λ new. table.batch self.old self.old.mode id (batch_from messages.items) ≡ done new (option_map packet_of result))) }
+        ensures fits { IfSome result (λ p. CanBeWritten (body_of p.body)) }
+    {
+        if self.advance_on_batch(id, Messages::of(messages)) {
+            None
+        } else {
+            self.ack_on_batch(id)
         }
     }
 

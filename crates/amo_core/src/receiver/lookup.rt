@@ -14,7 +14,7 @@ impl Receiver {
     {
         match act {
             Act::Get => self.replies_get(reply),
-            Act::Put(_) | Act::Ack | Act::Start(_) => false,
+            Act::Put(_) | Act::Ack | Act::Start(_) | Act::Batch(_) => false,
             Act::Resend | Act::Deliver(_, _) | Act::Crash | Act::Recover => matches!(
                 reply,
                 Reply::Done
@@ -26,7 +26,9 @@ impl Receiver {
         ensures { IsTrue result ↔ ((table.row self.now act.Get).reply ≡ Some reply.now) }
     {
         match (&self.mode, reply) {
-            (ReceiverMode::Rcvd(_, held), Reply::Got(message)) => held.bytes() == message.bytes(),
+            (ReceiverMode::Rcvd(_, held), Reply::Got(message)) => {
+                held.first().bytes() == message.bytes()
+            }
             (ReceiverMode::Rcvd(_, _), _) => false,
             (ReceiverMode::Down, Reply::Down) => true,
             (ReceiverMode::Down, _) => false,

@@ -1,5 +1,5 @@
 //! What an act makes of a sender, and its step.
-ghost use Rattle.std.specs.Prelude.{◌≡◌, None, true, false, IsTrue, IsFalse, if◌then◌else◌};
+ghost use Rattle.std.specs.Prelude.{◌≡◌, None, true, false, IsTrue, IsFalse, if◌then◌else◌, take, drop};
 ghost use Rattle.amo_core.specs.Row.{done};
 ghost use Rattle.amo_core.specs.Sender.{is_asking, is_sending};
 ghost use Rattle.amo_core.specs.Sender as table;
@@ -8,8 +8,9 @@ ghost use Rattle.amo_core.specs.declared.act.Act.TheVariants as act;
 
 use crate::outcome::write_emission;
 use crate::sender::{Sender, SenderMode};
-use crate::{Act, Advanced, Outcome, PutRefusal, Reply};
-use amo_packet::{MAX_PACKET, Message, OwnedBody};
+use crate::{Act, Advanced, MAX_WAITING, Messages, Outcome, Payload, PutRefusal, Reply};
+use amo_packet::{MAX_BATCH, MAX_PACKET, Message, OwnedBody};
+use arrayvec::ArrayVec;
 use std::mem;
 
 impl Sender {
@@ -39,6 +40,10 @@ impl Sender {
             Act::Ack => Advanced::replied(Reply::from(self.get_ack())),
             Act::Start(word) => {
                 self.advance_on_start(word);
+                Advanced::replied(Reply::Done)
+            }
+            Act::Batch(word) => {
+                self.advance_on_batch(word);
                 Advanced::replied(Reply::Done)
             }
             Act::Resend => Advanced::replied(Reply::Done),
@@ -84,6 +89,7 @@ impl Sender {
             OwnedBody::Ack(id, got) => self.advance_on_ack(id, got),
             OwnedBody::NeedUid(_) | OwnedBody::Cleanup(_) => {}
             OwnedBody::Send(_, _message) => {}
+            OwnedBody::Batch(_, _batch) => {}
         }
     }
 
@@ -95,7 +101,22 @@ impl Sender {
         match self.mode {
             SenderMode::Quiet(_) if !self.waiting.is_empty() => {
                 let message = self.waiting.remove(0);
-                self.mode = SenderMode::NeedId(word, message);
+                self.mode = SenderMode::NeedId(word, Payload::Message(message));
+                true
+            }
+            _ => false,
+        }
+    }
+
+    /// Goes from rest to asking under the word for the first messages that wait, and says whether it did.
+    pub(crate) fn advance_on_batch(&mut self, word: u64) -> bool
+        ensures state { self.new ≡ (table.row self.old (act.Batch word)).state }
+        ensures row { table.row self.old (act.Batch word) ≡ (if result then table.row self.new act.Resend else done self.new None) }
+    {
+        match self.mode {
+            SenderMode::Quiet(_) if !self.waiting.is_empty() => {
+                let messages = Messages::of(take_batch(&mut self.waiting));
+                self.mode = SenderMode::NeedId(word, Payload::Batch(messages));
                 true
             }
             _ => false,
@@ -109,8 +130,8 @@ impl Sender {
         ensures other { IsFalse result → (self.new ≡ self.old) × (is_asking self.old.mode jd ≡ false) }
     {
         match mem::replace(&mut self.mode, SenderMode::Down) {
-            SenderMode::NeedId(asked, message) if asked == jd => {
-                self.mode = SenderMode::Send(id, message);
+            SenderMode::NeedId(asked, payload) if asked == jd => {
+                self.mode = SenderMode::Send(id, payload);
                 true
             }
             other => {
@@ -132,4 +153,18 @@ impl Sender {
             self.mode = SenderMode::Quiet(got);
         }
     }
+}
+
+/// Takes the first messages that wait, at most as many as a batch has.
+fn take_batch(waiting: &mut ArrayVec<Message, MAX_WAITING>) -> ArrayVec<Message, MAX_BATCH>
+    ensures taken { result.items ≡ take MAX_BATCH waiting.old.items }
+    ensures left { waiting.new.items ≡ drop MAX_BATCH waiting.old.items }
+{
+    let mut batch = ArrayVec::new();
+    'batch: for _ in 0..MAX_BATCH {
+        if !waiting.is_empty() {
+            batch.push(waiting.remove(0));
+        }
+    }
+    batch
 }

@@ -19,7 +19,7 @@ impl Sender {
         ensures fits { IfSome result (λ p. CanBeWritten (body_of p.body)) }
     {
         match act {
-            Act::Start(_) => {
+            Act::Start(_) | Act::Batch(_) => {
                 let word = self.used_word(act)?;
                 Some(self.packet(Body::NeedUid(word)))
             }
@@ -29,14 +29,14 @@ impl Sender {
         }
     }
 
-    /// Emits the packet of the mode: needuid while the sender asks, send while it sends.
+    /// Emits the packet of the mode: needuid while the sender asks, send or batch while it sends.
     pub fn resend(&self) -> Option<Packet<'_>>
         ensures row { table.row self.now act.Resend ≡ done self.now (option_map packet_of result) }
         ensures fits { IfSome result (λ p. CanBeWritten (body_of p.body)) }
     {
         match &self.mode {
             SenderMode::NeedId(jd, _) => Some(self.packet(Body::NeedUid(*jd))),
-            SenderMode::Send(id, message) => Some(self.packet(Body::Send(*id, message.bytes()))),
+            SenderMode::Send(id, payload) => Some(self.packet(payload.carrying(*id))),
             SenderMode::Quiet(_) | SenderMode::Down => None,
         }
     }
@@ -49,18 +49,21 @@ impl Sender {
         match body {
             OwnedBody::Accept(jd, id) => self.emission_on_accept(*jd, *id),
             OwnedBody::Ack(id, got) => self.cleanup_on_ack(*id, *got),
-            OwnedBody::NeedUid(_) | OwnedBody::Send(_, _) | OwnedBody::Cleanup(_) => None,
+            OwnedBody::NeedUid(_)
+            | OwnedBody::Send(_, _)
+            | OwnedBody::Batch(_, _)
+            | OwnedBody::Cleanup(_) => None,
         }
     }
 
-    /// What an accept would emit: the send that it is awaited for, or a cleanup.
+    /// What an accept would emit: the send or the batch that it is awaited for, or a cleanup.
     fn emission_on_accept(&self, jd: u64, id: u64) -> Option<Packet<'_>>
         ensures value { option_map packet_of result ≡ (table.accept self.now self.now.mode jd id).emitted }
         ensures fits { IfSome result (λ p. CanBeWritten (body_of p.body)) }
     {
         match &self.mode {
-            SenderMode::NeedId(asked, message) if *asked == jd => {
-                Some(self.packet(Body::Send(id, message.bytes())))
+            SenderMode::NeedId(asked, payload) if *asked == jd => {
+                Some(self.packet(payload.carrying(id)))
             }
             _ => self.cleanup_on_accept(jd, id),
         }

@@ -28,7 +28,20 @@ impl Sender {
         }
     }
 
-    /// Takes an accept of the identifier that the sender asks under, and emits the send. Any other accept emits a
+    /// Begins a handshake for the first messages that wait, at most [`MAX_BATCH`](amo_packet::MAX_BATCH), if the sender is at rest, and emits
+    /// needuid. They travel together, in a batch. The word becomes the identifier that the sender asks under.
+    pub fn start_batch(&mut self, word: u64) -> Option<Packet<'_>>
+        ensures* row { sem 𝓛 (Rests the_row self.entry (λ new. table.row self.old (act.Batch word) ≡ done new (option_map packet_of result))) }
+        ensures fits { IfSome result (λ p. CanBeWritten (body_of p.body)) }
+    {
+        if self.advance_on_batch(word) {
+            self.resend()
+        } else {
+            None
+        }
+    }
+
+    /// Takes an accept of the identifier that the sender asks under, and emits the send or the batch. Any other accept emits a
     /// cleanup, unless the sender sends under its identifier already, or is down.
     pub fn accept(&mut self, jd: u64, id: u64) -> Option<Packet<'_>>
         ensures* row { sem 𝓛 (Rests the_row self.entry (λ new. table.accept self.old self.old.mode jd id ≡ done new (option_map packet_of result))) }

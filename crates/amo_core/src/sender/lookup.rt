@@ -16,9 +16,12 @@ impl Sender {
             Act::Put(_) => self.replies_put(reply),
             Act::Ack => self.replies_ack(reply),
             Act::Get => false,
-            Act::Start(_) | Act::Resend | Act::Deliver(_, _) | Act::Crash | Act::Recover => {
-                matches!(reply, Reply::Done)
-            }
+            Act::Start(_)
+            | Act::Batch(_)
+            | Act::Resend
+            | Act::Deliver(_, _)
+            | Act::Crash
+            | Act::Recover => matches!(reply, Reply::Done),
         }
     }
 
@@ -51,12 +54,13 @@ impl Sender {
         }
     }
 
-    /// The word that the act would use up: of a start that emits a needuid.
+    /// The word that the act would use up: of a start, of one message or of a batch, that emits a needuid.
     pub fn used_word(&self, act: &Act) -> Option<u64>
         ensures { result ≡ table.used_word self.now act.now }
     {
         match (act, &self.mode) {
-            (Act::Start(word), SenderMode::Quiet(_)) if !self.waiting.is_empty() => Some(*word),
+            (Act::Start(word) | Act::Batch(word), SenderMode::Quiet(_))
+                if !self.waiting.is_empty() => { Some(*word) }
             _ => None,
         }
     }

@@ -15,10 +15,10 @@ pub returns-in_default-next_number-clause-none : goal.returns-in_default-next_nu
 returns-in_default-next_number-clause-none c =
     let cut = c.in-Some.ensures.found in
     no_delivery c.args.text.now (λ p w rest known small e.
-    c.in_default-next_number.ensures.none w rest small (one_field c.args.text.now _ _ (hex (spelling p)) (decimal w ++ 32 ∷ rest) cut.0 cut.1 (IsField-hex (spelling p) (bytes_of_spelling p known.1)) e).1)
+    c.in_default-next_number.ensures.none w rest small (one_field c.args.text.now _ _ (hex (spelling p)) (decimal w ++ 32 ∷ rest) cut.0 cut.1 (IsField-hex (spelling p) (bytes_of_spelling p known.2)) e).1)
 
 pub returns-in_default-2-clause-none : goal.returns-in_default-2-clause-none
 returns-in_default-2-clause-none c =
     let cut = c.in-Some.ensures.found in
     no_delivery c.args.text.now (λ p w rest known small e.
-    (rw c.in_default-2.is at c.in_ok-packet.ensures.none) p known (one_field c.args.text.now _ _ (hex (spelling p)) (decimal w ++ 32 ∷ rest) cut.0 cut.1 (IsField-hex (spelling p) (bytes_of_spelling p known.1)) e).0)
+    (rw c.in_default-2.is at c.in_ok-packet.ensures.none) p known (one_field c.args.text.now _ _ (hex (spelling p)) (decimal w ++ 32 ∷ rest) cut.0 cut.1 (IsField-hex (spelling p) (bytes_of_spelling p known.2)) e).0)

@@ -1,4 +1,3 @@
-use Rattle.std.proofs.Common.{◌≡◌}
 use Rattle.amo_audit.proofs.appending.read_line.Goals as goal
 
 pub returns-in-None-clause-none : goal.returns-in-None-clause-none

@@ -1,4 +1,4 @@
-use Rattle.std.proofs.Common.{[], sym, ◌∙◌, subst, List, arith}
+use Rattle.std.proofs.Common.{sym, ◌∙◌, subst, List, arith}
 use Rattle.amo_world.specs.declared.event.Event.{Event}
 use Rattle.amo_audit.proofs.Together.{begin, none_next_then, is_none, stuck}
 use Rattle.amo_audit.proofs.Entries.{Along, still, left_entered, right_entered, one_less, still_waits, as_many, all_entered}

@@ -7,7 +7,7 @@ use Rattle.amo_packet.proofs.reader.read_cleanup.Goals as goal
 pub returns-in_err-expect_length : goal.returns-in_err-expect_length
 returns-in_err-expect_length c =
     let p = err_from_is_err_and c.from_residual.result c.from_residual.ensures.1 in
-    rw (p.1, p.2) (λ newest stream v. cleanup_misses newest stream c.args.fields.now _ v c.in_err-expect_length.ensures.err)
+    rw (p.1, p.2) (λ newest stream one v. cleanup_misses newest stream c.args.fields.now _ v c.in_err-expect_length.ensures.err)
 
 pub returns : goal.returns
 returns c = λ newest stream v small. cleanup_said newest stream c.read_u64.result c.args.fields.now v small c.read_u64.type_inv (λ i. omega (arith, c.type_inv.fields i)) c.in_ok-expect_length.ensures.ok c.read_u64.ensures

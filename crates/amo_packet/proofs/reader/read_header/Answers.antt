@@ -8,4 +8,4 @@ pub returns-clause-found : goal.returns-clause-found
 returns-clause-found c =
     let bytes = c.args.bytes.now in
     let stream : c.read_u32-stream.result ≡ big_number 4 (drop 4 bytes) = c.read_u32-stream.ensures ∙ ap (big_number 4) (take_rest bytes 4) in
-    (c.read_u32-stream.type_inv, rw (take_rest bytes 8) (header_said bytes c.read_u32-stream.result c.if-bytes-lt-HEADER_LENGTH.false (λ i. omega (arith, c.type_inv.bytes i)) c.if-bytes.false c.if-bytes-2.false c.if-bytes-ne-VERSION.false stream))
+    (c.read_u32-stream.type_inv, rw (take_rest bytes 8) (header_said bytes c.read_u32-stream.result c.if-bytes-lt-HEADER_LENGTH.false (λ i. omega (arith, c.type_inv.bytes i)) c.if-bytes.false c.if-bytes-2.false stream))

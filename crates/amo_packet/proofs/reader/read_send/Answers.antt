@@ -10,7 +10,7 @@ pub returns-in_err-expect_length : goal.returns-in_err-expect_length
 returns-in_err-expect_length c =
     let p = err_from_is_err_and c.from_residual.result c.from_residual.ensures.1 in
     let given : c.from-length.result ≡ big_number 2 (drop 8 c.args.fields.now) = c.from-length.ensures ∙ c.read_u16.ensures ∙ ap (big_number 2) (take_rest c.args.fields.now 8) in
-    rw (p.1, p.2) (λ newest stream v. send_misses newest stream c.from-length.result _ c.args.fields.now _ v (omega arith) given (omega arith) (take_rest c.args.fields.now 10) c.in_err-expect_length.ensures.err)
+    rw (p.1, p.2) (λ newest stream one v. send_misses newest stream c.from-length.result _ c.args.fields.now _ v (omega arith) given (omega arith) (take_rest c.args.fields.now 10) c.in_err-expect_length.ensures.err)
 
 pub returns : goal.returns
 returns c =

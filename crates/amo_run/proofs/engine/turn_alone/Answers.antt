@@ -1,4 +1,4 @@
-use Rattle.std.proofs.Common.{◌≡◌, ℕ, List, None, sym, ap, ◌∙◌, subst}
+use Rattle.std.proofs.Common.{ℕ, List, None, sym, ap, ◌∙◌, subst}
 use Rattle.amo_world.specs.declared.event.Event.{Event}
 use Rattle.amo_run.specs.Engine.{Advances, told_of}
 use Rattle.amo_run.proofs.Turning.{alone_advances}

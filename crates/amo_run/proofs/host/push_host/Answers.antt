@@ -1,4 +1,3 @@
-use Rattle.std.proofs.Common.{List}
 use Rattle.amo_run.specs.declared.work.PumpJob.{PumpJob}
 use Rattle.amo_run.proofs.Hosts.{kept, added, ours}
 use Rattle.amo_run.proofs.host.push_host.Goals as goal

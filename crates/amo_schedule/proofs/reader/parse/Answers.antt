@@ -24,6 +24,11 @@ returns-in-Start c =
     let whole = whole_text c.args.text.now _ _ _ name.Start c.in_ok-name.ensures.found.0 c.in_ok-read_act_name.ensures.found c.in-Start.is in
     subst (λ (t : List ℕ). Parses t c.other-in-Start.result) whole (c.other-in-Start.ensures _ c.read_start.ensures)
 
+pub returns-in-Batch : goal.returns-in-Batch
+returns-in-Batch c =
+    let whole = whole_text c.args.text.now _ _ _ name.Batch c.in_ok-name.ensures.found.0 c.in_ok-read_act_name.ensures.found c.in-Batch.is in
+    subst (λ (t : List ℕ). Parses t c.other-in-Batch.result) whole (c.other-in-Batch.ensures _ c.read_batch.ensures)
+
 pub returns-in-Resend : goal.returns-in-Resend
 returns-in-Resend c =
     let whole = whole_text c.args.text.now _ _ _ name.Resend c.in_ok-name.ensures.found.0 c.in_ok-read_act_name.ensures.found c.in-Resend.is in

@@ -1,5 +1,5 @@
 use Rattle.amo_world.proofs.Replies.{put_has_reply, ack_has_reply, get_has_reply}
-use Rattle.amo_world.proofs.Emitted.{start_is_done, resend_is_done, deliver_is_done, crash_is_done, recover_is_done}
+use Rattle.amo_world.proofs.Emitted.{start_is_done, batch_is_done, resend_is_done, deliver_is_done, crash_is_done, recover_is_done}
 use Rattle.amo_world.proofs.laws.acts_have_replies.Goals as goal
 
 pub returns-clause-put : goal.returns-clause-put
@@ -13,6 +13,9 @@ returns-clause-get c = get_has_reply
 
 pub returns-clause-start : goal.returns-clause-start
 returns-clause-start c = start_is_done
+
+pub returns-clause-batch : goal.returns-clause-batch
+returns-clause-batch c = batch_is_done
 
 pub returns-clause-resend : goal.returns-clause-resend
 returns-clause-resend c = resend_is_done

@@ -1,4 +1,4 @@
-use Rattle.std.proofs.Common.{◌≡◌, ◌<◌, Bool, false, length, set, sym, ap, subst, ◌∙◌}
+use Rattle.std.proofs.Common.{◌≡◌, ◌<◌, Bool, false, length, set, refl, sym, ap, subst, ◌∙◌}
 use Rattle.std.proofs.lemmas.Option.{same_Some}
 use Rattle.amo_book.specs.Charge.{ChargeState, IsChargeOf}
 use Rattle.amo_book.specs.Drive.{Driven}
@@ -15,7 +15,7 @@ use Rattle.amo_host.proofs.pump.Pump.perform.Goals as goal
 
 pub note-requires-clause-free : goal.note-requires-clause-free
 note-requires-clause-free g c = λ m at now_open was_shut.
-    let s : Station g.row.W.Denot = record { host = c.self.inside.agenda; charges = c.self.inside.charges.items; words = c.self.inside.words } in
+    let s : Station g.row.W.Denot = record { host = c.self.inside.agenda; charges = c.self.inside.charges.items; words = c.self.inside.words; batches = c.self.inside.batches } in
     let charge = c.index_mut-charge.result.now in
     let within : c.args.place < length s.charges = subst (λ (t : Station g.row.W.Denot). c.args.place < length t.charges) (sym c.self.view_is) c.requires.place in
     let stands = read_at s.charges c.args.place charge within c.index_mut-charge.ensures.value in
@@ -26,16 +26,16 @@ note-requires-clause-free g c = λ m at now_open was_shut.
 
 pub invariant_of-self-2 : goal.invariant_of-self-2
 invariant_of-self-2 g c =
-    let s : Station g.row.W.Denot = record { host = c.self.inside.agenda; charges = c.self.inside.charges.items; words = c.self.inside.words } in
+    let s : Station g.row.W.Denot = record { host = c.self.inside.agenda; charges = c.self.inside.charges.items; words = c.self.inside.words; batches = c.self.inside.batches } in
     let charge = c.index_mut-charge.result.now in
     let within : c.args.place < length s.charges = subst (λ (t : Station g.row.W.Denot). c.args.place < length t.charges) (sym c.self.view_is) c.requires.place in
     let at = read_at s.charges c.args.place charge within c.index_mut-charge.ensures.value in
     let noted = c.note.ensures.noted (stream_mode_of charge) (mode_at_place s c.self.invariant c.args.place charge at) in
-    station_after s c.self.invariant c.args.place charge at c.note.new.self c.perform.new.charge c.is_resend.result c.in_ok-done.done.mode c.args.now c.self.inside.words c.in_ok-done.ensures.driven.charge c.note.ensures.host noted
+    station_after s c.self.invariant c.args.place charge at c.note.new.self c.perform.new.charge c.is_resend.result c.in_ok-done.done.mode c.args.now c.self.inside.words c.self.inside.batches c.in_ok-done.ensures.driven.charge c.note.ensures.host noted
 
 pub returns-clause-done : goal.returns-clause-done
 returns-clause-done g c =
-    let s : Station g.row.W.Denot = record { host = c.self.inside.agenda; charges = c.self.inside.charges.items; words = c.self.inside.words } in
+    let s : Station g.row.W.Denot = record { host = c.self.inside.agenda; charges = c.self.inside.charges.items; words = c.self.inside.words; batches = c.self.inside.batches } in
     let charge = c.index_mut-charge.result.now in
     let within : c.args.place < length s.charges = subst (λ (t : Station g.row.W.Denot). c.args.place < length t.charges) (sym c.self.view_is) c.requires.place in
     let at = read_at s.charges c.args.place charge within c.index_mut-charge.ensures.value in
@@ -51,12 +51,13 @@ returns-clause-done g c =
         driven = subst (λ (d : ChargeState). Driven c.args.pass.now c.perform.new.pass charge d (act_of c.args.act) c.args.out.now c.perform.new.out c.in_ok-done.done) driven.charge driven;
         charges = ap (set s.charges c.args.place) driven.charge;
         noted = subst (λ (b : Bool). Noted s.host c.note.new.self c.args.place (stream_mode_of charge) b c.in_ok-done.done.mode c.args.now) c.is_resend.ensures noted;
+        batches = refl;
       },
     )
 
 pub returns-clause-station : goal.returns-clause-station
 returns-clause-station g c =
-    let s : Station g.row.W.Denot = record { host = c.self.inside.agenda; charges = c.self.inside.charges.items; words = c.self.inside.words } in
+    let s : Station g.row.W.Denot = record { host = c.self.inside.agenda; charges = c.self.inside.charges.items; words = c.self.inside.words; batches = c.self.inside.batches } in
     let charge = c.index_mut-charge.result.now in
     let within : c.args.place < length s.charges = subst (λ (t : Station g.row.W.Denot). c.args.place < length t.charges) (sym c.self.view_is) c.requires.place in
     let at = read_at s.charges c.args.place charge within c.index_mut-charge.ensures.value in

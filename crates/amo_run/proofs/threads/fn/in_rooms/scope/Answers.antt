@@ -1,4 +1,4 @@
-use Rattle.std.proofs.Common.{◌≡◌, ◌++◌, [], length, reverse, sym, ap, ◌∙◌, arith}
+use Rattle.std.proofs.Common.{◌≡◌, ◌++◌, [], length, reverse, ap, ◌∙◌, arith}
 use Rattle.amo_run.specs.declared.work.PumpJob.{PumpJob}
 use Rattle.amo_run.specs.Engine.{ties}
 use Rattle.amo_run.specs.Crew.{lent}

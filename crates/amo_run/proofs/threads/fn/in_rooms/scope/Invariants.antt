@@ -1,4 +1,4 @@
-use Rattle.std.specs.Prelude.{◌≡◌, ◌+◌, ◌++◌, ◌≤◌, [], length, map, reverse, vec_capacity}
+use Rattle.std.specs.Prelude.{◌≡◌, ◌+◌, ◌++◌, ◌≤◌, length, map, reverse, vec_capacity}
 use Rattle.amo_book.specs.Book.{Each}
 use Rattle.amo_run.specs.Crew.{EachAt, IsNew, IsOurs, IsClient, IsPump, dealt, lent}
 use Rattle.amo_run.proofs.threads.fn.in_rooms.scope.Given as goal

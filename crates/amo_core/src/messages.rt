@@ -1,0 +1,71 @@
+//! Messages that travel together.
+ghost use Rattle.std.specs.Prelude.{◌≡◌, ◌≤◌, [], length, MatchOption};
+ghost use Rattle.amo_packet.specs.Batch.{Batch, AreShort, alone, batch_from, messages};
+ghost use Rattle.amo_packet.specs.Packet.{batch_of};
+
+use amo_packet::{MAX_BATCH, Message, Parts};
+use arrayvec::ArrayVec;
+use std::marker::Model;
+
+/// One to [`MAX_BATCH`] messages, in order, which take no memory beside their own. Contracts see a list that is never empty.
+#[derive(Debug, Drop)]
+pub struct Messages {
+    items: ArrayVec<Message, MAX_BATCH>,
+}
+
+impl Model for Messages {
+    ghost Value = { Batch };
+
+    ghost view = { λ m. batch_from m.items.items };
+
+    ghost invariant = { λ m. 1 ≤ length m.items.items };
+}
+
+impl From<Message> for Messages {
+    ghost from_gives = { λ message alone_now. alone_now ≡ alone message };
+
+    fn from(message: Message) -> Messages {
+        let mut items = ArrayVec::new();
+        items.push(message);
+        Messages { items }
+    }
+}
+
+impl Messages {
+    /// These messages.
+    pub fn of(items: ArrayVec<Message, MAX_BATCH>) -> Messages
+        requires { 1 ≤ length items.items }
+        ensures { result ≡ batch_from items.items }
+    {
+        Messages { items }
+    }
+
+    /// The first message.
+    pub fn first(&self) -> &Message
+        ensures { result.now ≡ self.now.first }
+    {
+        &self.items[0]
+    }
+
+    /// The first message, and those after it, if there are any.
+    pub fn split_first(self) -> (Message, Option<Messages>)
+        ensures first { result.0 ≡ self.first }
+        ensures rest { MatchOption result.1 (self.rest ≡ []) (λ rest. self.rest ≡ messages rest) }
+    {
+        let mut items = self.items;
+        let first = items.remove(0);
+        if items.is_empty() {
+            (first, None)
+        } else {
+            (first, Some(Messages { items }))
+        }
+    }
+
+    /// The messages, borrowed.
+    pub fn as_parts(&self) -> Parts<'_>
+        ensures value { batch_of result ≡ self.now }
+        ensures fits { AreShort self.now }
+    {
+        Parts::of(self.items.as_slice())
+    }
+}

@@ -1,0 +1,30 @@
+//! What travels under one identifier: a message by itself, or a batch.
+ghost use Rattle.std.specs.Prelude.{◌≡◌};
+ghost use Rattle.amo_packet.specs.Packet.{body_of};
+ghost use Rattle.amo_packet.specs.Grammar.{CanBeWritten};
+ghost use Rattle.amo_core.specs.Sender.{carrying};
+
+use crate::Messages;
+use amo_packet::{Body, Message};
+
+/// What a sender sends in one handshake. A batch of one message is another packet than a send of it.
+#[derive(Debug, Drop)]
+pub enum Payload {
+    /// A message, in a send.
+    Message(Message),
+    /// One to four messages, in a batch.
+    Batch(Messages),
+}
+
+impl Payload {
+    /// What carries it under an identifier.
+    pub fn carrying(&self, id: u64) -> Body<'_>
+        ensures value { body_of result ≡ carrying id self.now }
+        ensures fits { CanBeWritten (body_of result) }
+    {
+        match self {
+            Payload::Message(message) => Body::Send(id, message.bytes()),
+            Payload::Batch(messages) => Body::Batch(id, messages.as_parts()),
+        }
+    }
+}
