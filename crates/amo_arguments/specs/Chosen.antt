@@ -1,5 +1,5 @@
 -- What the program's arguments choose.
-use Rattle.std.specs.Prelude.{◌≡◌, ℕ, ◌≤◌, Bool, if◌then◌else◌, List, Option, Some, None, IfSome, codes, length, option_map, string_bytes}
+use Rattle.std.specs.Prelude.{◌≡◌, ℕ, ◌≤◌, Bool, false, ◌&&◌, if◌then◌else◌, List, Option, Some, None, IfSome, codes, length, option_map, string_bytes}
 use Rattle.hex.specs.Hex.{IsBytes}
 use Rattle.std.specs.Str.Parse.{digits_value, without_leading_plus}
 use Rattle.clap.specs.Words.{Row, Text, first_of, one_of, subcommand_of, subcommand_rows_of}
@@ -67,6 +67,7 @@ pub record HasSettings (rows : List Row) (settings : RunSettings) : Type 0 where
   pub link : HasText rows (codes "link") (link_name settings.link)
   pub pumps : HasNumber rows (codes "pumps") settings.pumps
   pub split : HasFlag rows (codes "split") settings.split
+  pub batch : HasFlag rows (codes "batch") settings.batch
   pub within : AreWithin settings
 
 -- the matches of `run` have the values of these settings
@@ -90,11 +91,13 @@ pub record HasHost (rows : List Row) (host : HostSettings) : Type 0 where
   pub wait : HasNumberOrNone rows (codes "wait") host.wait
   pub within : IsHostWithin host
 
--- the matches of `send` have these values
+-- the matches of `send` have these values, of which no two contradict each other
 pub record HasSend (rows : List Row) (send : SendSettings) : Type 0 where
   pub host : HasHost rows send.host
   pub each : HasFlag rows (codes "each") send.each
+  pub batch : HasFlag rows (codes "batch") send.batch
   pub hex : HasFlag rows (codes "hex") send.hex
+  pub apart : send.each && send.batch ≡ false
 
 -- the matches of `receive` have these values
 pub record HasReceive (rows : List Row) (receive : ReceiveSettings) : Type 0 where

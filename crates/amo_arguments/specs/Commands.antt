@@ -31,6 +31,10 @@ pumps = record (new_rule (codes "pumps")) { long = Some (codes "pumps"); value_n
 abbrev pub flag : Text → Rule
 flag name = record (new_rule name) { long = Some name; action = Some SetTrue }
 
+-- --batch of `send`: a flag that another argument contradicts
+abbrev pub batch : Rule
+batch = record (flag (codes "batch")) { is_free = false }
+
 -- an option that may be absent, with a number from `low` to `high`
 abbrev pub optional_number : Text → ℕ → ℕ → Rule
 optional_number name low high = record (new_rule name) { long = Some name; value_names = 1; action = Some Set; parser = Some (parser.Unsigned low high) }
@@ -72,7 +76,7 @@ abbrev pub run_before_link : App
 run_before_link = with_rule (with_rule (with_rule (with_rule (new_app (codes "run")) (number (codes "streams") 1 256)) (number (codes "clients") 1 56)) (number (codes "crashes") 0 1000)) (text (codes "seed"))
 
 abbrev pub run : Names → App
-run links = with_rule (with_rule (with_rule (with_rule run_before_link (link links)) (text (codes "journal"))) pumps) (flag (codes "split"))
+run links = with_rule (with_rule (with_rule (with_rule (with_rule run_before_link (link links)) (text (codes "journal"))) pumps) (flag (codes "split"))) (flag (codes "batch"))
 
 -- what both hosts of a pair are told: where they are, of how many streams, and which journal is theirs
 abbrev pub placed : Text → App
@@ -83,7 +87,7 @@ abbrev pub host : Text → App
 host name = with_rule (with_rule (with_rule (with_rule (placed name) tick) (flag (codes "json"))) (flag (codes "sync"))) (optional_number (codes "wait") 0 1000000)
 
 abbrev pub send : App
-send = with_rule (with_rule (host (codes "send")) (flag (codes "each"))) (flag (codes "hex"))
+send = with_rule (with_rule (with_rule (host (codes "send")) (flag (codes "each"))) batch) (flag (codes "hex"))
 
 abbrev pub receive : App
 receive = with_rule (host (codes "receive")) (optional_number (codes "count") 1 18446744073709551615)

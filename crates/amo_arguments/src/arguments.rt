@@ -103,6 +103,7 @@ fn parse_run(alloc: Global, matches: &ArgMatches<'_>) -> Result<Option<Settings>
     let journal = text_of(alloc, matches, "journal")?;
     let pumps = number_of(alloc, matches, "pumps", 1, PUMPS)?;
     let split = flag_of(alloc, matches, "split")?;
+    let batch = flag_of(alloc, matches, "batch")?;
     let Some(seed) = seed_of(alloc, matches)? else {
         return Ok(None);
     };
@@ -114,6 +115,7 @@ fn parse_run(alloc: Global, matches: &ArgMatches<'_>) -> Result<Option<Settings>
         link,
         pumps,
         split,
+        batch,
     };
     Ok(Some(Settings::Run(settings, journal)))
 }
@@ -124,8 +126,17 @@ fn parse_send(alloc: Global, matches: &ArgMatches<'_>) -> Result<SendSettings, E
 {
     let host = parse_host(alloc, matches)?;
     let each = flag_of(alloc, matches, "each")?;
+    let batch = flag_of(alloc, matches, "batch")?;
     let hex = flag_of(alloc, matches, "hex")?;
-    Ok(SendSettings { host, each, hex })
+    if each && batch {
+        return Err(beyond(alloc)?);
+    }
+    Ok(SendSettings {
+        host,
+        each,
+        batch,
+        hex,
+    })
 }
 
 /// The settings that the arguments of `receive` choose.
@@ -269,9 +280,13 @@ fn flag_of(alloc: Global, matches: &ArgMatches<'_>, name: &str) -> Result<bool, 
     }
 }
 
-/// The error of a match that `clap` does not give: it has a command, and each argument's value is what it has to be.
+/// The error of a match that `clap` does not give: it has a command, each argument's value is what it has to be, and no two of them
+/// contradict each other.
 fn beyond(alloc: Global) -> Result<Error, AllocError> {
-    error_about(alloc, "a command or one of its arguments is missing")
+    error_about(
+        alloc,
+        "a command or one of its arguments is missing, or two contradict each other",
+    )
 }
 
 /// The text of arguments that did not parse, or of help that was asked for.

@@ -36,6 +36,7 @@ pub(crate) const REPLAY_AFTER_HELP: &str =
   get S           get a message from stream S
   ack S           ask what became of the last put of stream S
   start S WORD    start a handshake on the sender of stream S, under this word
+  batch S WORD    the same for up to four messages that wait, which travel together
   resend s S      emit the packet of the sender's mode on stream S again; `r S` for the receiver
   deliver K WORD  deliver the K-th packet emitted, with a word to accept under
   crash s S       crash the sender of stream S; `r S` for the receiver
@@ -76,6 +77,9 @@ Where I is even it puts a message and asks what became of it, by turns; else it 
 Crash K hits the senders where K is even, else the receivers, after turn 50 * (K div 2 + 1) of each
 pump there. Ten turns later they recover, with nothing known.
 
+With --batch the messages that wait on a stream when a handshake begins travel together, up to four,
+and the journals are of version 2.
+
 LINK is one of these:
   memory  a channel that loses, repeats and reorders packets
   udp     sockets on 127.0.0.1, on ports that the system picks
@@ -107,6 +111,10 @@ A line that is none is told on standard error, as `amo: line L does not read`, L
 nothing is put. While a stream is full, with 16 messages waiting, its next line waits, and so do all
 lines behind it. With --each a line waits also for the answer to the stream's last message.
 
+With --batch the messages that wait on a stream when a handshake begins travel together, up to four.
+Both hosts have to be of this version, and their journals of version 2, as new ones then are. A host
+from before, or with a journal of version 1, drops them. --each and --batch contradict each other.
+
 Output, a line of which each is of the message that was put last to the stream:
   STREAM ok      it was put
   STREAM yes     it was got
@@ -134,6 +142,7 @@ Status:
      `amo: the journal is in use`: another process has it
      `amo: the journal's line L is malformed`, `.. has another number`, `.. is of the other side`: it
      is no journal of a host that sends, and was not changed
+     `amo: the journal is of version 1, ..`: it has no lines for batches, and was not changed
      `amo: the journal failed`, `amo: the journal is full`: the file, or the disk
      `amo: a client's device failed`: standard input, standard output, or the clock
   5  --wait is over, and something is still on its way
@@ -151,6 +160,9 @@ With --json: {\"stream\":1,\"event\":\"got\",\"text\":\"TEXT\"}, or \"hex\":\"HE
 
 The host ends at the end of standard input, or once it got as many messages as --count says. It then
 waits for what is still on its way: as long as --wait says, or else for a second at most.
+
+Messages may come together, from a host with --batch. A new journal is of version 2, which has lines
+for that. One of version 1 is gone on with as it is: what comes together is dropped, and told once.
 
 ADDR is HOST:PORT. The other host is `amo send`, with as many streams and with both addresses the
 other way round. What does not come from there is dropped, but nothing is authenticated: use a
@@ -188,12 +200,16 @@ PASS is 0 to 63, SIDE is s for a sender and r for a receiver, STREAM is 1 to 256
   crash             done
   recover           done
 
+A journal whose first line is `amo 2` is of version 2. That line has no number. There ACT is also
+  batch WORD        at s:  done
+and HEX also a packet by which up to four messages travel together.
+
 Verdicts, each a line on standard output, and their status:
   0  `yes`: each reply is the protocol's, each packet delivered was emitted before, no word is
      used twice; so each stream's clients saw what the at-most-once queue allows
   1  `wrong reply at line L`: of the event of line L, counted from 1
   2  `malformed at line L`: line L is no line
-     `gap at line L`: its number is not L - 1
+     `gap at line L`: its number is not L - 1, or L - 2 in a journal of version 2
      `shared`: both files have events of one side of a stream
   3  `unsent at line L`: it delivers a packet that was not emitted before
      `repeat at line L`: it uses a word a second time
@@ -202,7 +218,7 @@ The first malformed line is told, else the first gap, else the first event at fa
 
 Of two files both are read first, and `file 1: ` or `file 2: ` stands before a malformed line or a
 gap. Their events are then merged: the first file's go first, wherever what they deliver was
-emitted. L is a line of the merged journal, counted from 1.
+emitted. L is a line of the merged journal, counted from 1; it is of version 2 where either is.
 
 Faults, on standard error:
   4  `amo: out of memory`

@@ -13,10 +13,11 @@ use Rattle.amo_audit.specs.declared.verdict.Verdict.{Verdict}
 use Rattle.amo_audit.specs.declared.verdict.Verdict.TheVariants as verdict
 use Rattle.amo_world.specs.History.{IsRight, IsHonest, IsFresh}
 use Rattle.amo_world.proofs.Serving.{serves}
-use Rattle.amo_audit.specs.Journal.{IsJournal}
-use Rattle.amo_audit.specs.Audit.{Judges, IsFaultAt, IsGood, HasFaultAt}
-use Rattle.amo_audit.specs.Judgement.{IsNoJournal}
-use Rattle.amo_audit.specs.Explanation.{step_fields, step_line, ExplainsIf}
+use Rattle.amo_journal.specs.declared.lines.Lines.{Lines}
+use Rattle.amo_journal.specs.Lines.{Tell}
+use Rattle.amo_audit.specs.Audit.{AreGood, AreOf, IsFaultAt, JudgesLines, TellFaultAt, further}
+use Rattle.amo_audit.specs.Judgement.{TellNone}
+use Rattle.amo_audit.specs.Explanation.{step_fields, step_line, ExplainsIf, ExplainsLinesIf}
 
 -- a step's line is its stream, a space, its fields and a line feed
 text_of_step : (stream : ℕ) (step : Step) → text_of (decimal stream ∷ step_fields step) ≡ decimal stream ++ 32 ∷ text_of (step_fields step)
@@ -35,24 +36,24 @@ pushed_step t t1 t2 t3 t4 stream step e1 e2 e3 e4 =
     rw (e4, e3, e2, e1) (simp append_assoc)
     ∙ ap (λ (line : List ℕ). t ++ (line ++ 10 ∷ [])) (sym (text_of_step stream step))
 
--- what is no journal is judged so, and nothing explains it
-pub no_journal_judged : (bytes : List ℕ) (v : Verdict) → IsNoJournal bytes v → Judges bytes v
-no_journal_judged bytes (verdict.Malformed at) found = found
-no_journal_judged bytes (verdict.Gap at) found = found
-no_journal_judged bytes verdict.NoMemory found = tt
-no_journal_judged bytes verdict.Yes found = absurd found
-no_journal_judged bytes (verdict.WrongReply at) found = absurd found
-no_journal_judged bytes (verdict.Unsent at) found = absurd found
-no_journal_judged bytes (verdict.Repeat at) found = absurd found
+-- lines that tell of no events are judged so, and nothing explains them
+pub none_judged : (lines : Lines) (v : Verdict) → TellNone lines v → JudgesLines lines v
+none_judged lines (verdict.Malformed at) found = found
+none_judged lines (verdict.Gap at) found = found
+none_judged lines verdict.NoMemory found = tt
+none_judged lines verdict.Yes found = absurd found
+none_judged lines (verdict.WrongReply at) found = absurd found
+none_judged lines (verdict.Unsent at) found = absurd found
+none_judged lines (verdict.Repeat at) found = absurd found
 
-pub no_journal_explained : (bytes : List ℕ) (v : Verdict) → IsNoJournal bytes v → ExplainsIf v bytes []
-no_journal_explained bytes (verdict.Malformed at) found = refl
-no_journal_explained bytes (verdict.Gap at) found = refl
-no_journal_explained bytes verdict.NoMemory found = refl
-no_journal_explained bytes verdict.Yes found = absurd found
-no_journal_explained bytes (verdict.WrongReply at) found = refl
-no_journal_explained bytes (verdict.Unsent at) found = refl
-no_journal_explained bytes (verdict.Repeat at) found = refl
+pub none_explained : (lines : Lines) (v : Verdict) → TellNone lines v → ExplainsLinesIf v lines []
+none_explained lines (verdict.Malformed at) found = refl
+none_explained lines (verdict.Gap at) found = refl
+none_explained lines verdict.NoMemory found = refl
+none_explained lines verdict.Yes found = absurd found
+none_explained lines (verdict.WrongReply at) found = refl
+none_explained lines (verdict.Unsent at) found = refl
+none_explained lines (verdict.Repeat at) found = refl
 
 -- the place of the first event that is refused, counted from 0, and its line, counted from 1
 pub refused_within : (events : List Event) (place : ℕ) (why : WorldFault) → IsFirstRefused events place why → place < length events
@@ -72,9 +73,28 @@ fault_at events place why refused =
       count = let long : length (take place events) ≡ place = length-take-le place events (omega arith) in omega (arith, long);
     }
 
-pub has_fault_at : (bytes : List ℕ) (events : List Event) (place : ℕ) (why : WorldFault) → IsJournal events bytes → IsFirstRefused events place why → HasFaultAt bytes (place + 1) why
-has_fault_at bytes events place why journal refused = (events, journal, fault_at events place why refused)
+pub tell_fault_at : (lines : Lines) (events : List Event) (place : ℕ) (why : WorldFault) → Tell events lines → IsFirstRefused events place why → TellFaultAt lines (place + 1) why
+tell_fault_at lines events place why told refused = (events, told, fault_at events place why refused)
 
--- a journal of a history that is right, honest and fresh
-pub good_journal : (bytes : List ℕ) (events : List Event) → IsJournal events bytes → IsRight (reverse events) × IsHonest (reverse events) × IsFresh (reverse events) → IsGood bytes
-good_journal bytes events journal sound = (events, journal, sound, λ number. serves number (reverse events) sound.0 sound.1 sound.2)
+-- lines of a history that is right, honest and fresh
+pub good_lines : (lines : Lines) (events : List Event) → Tell events lines → IsRight (reverse events) × IsHonest (reverse events) × IsFresh (reverse events) → AreGood lines
+good_lines lines events told sound = (events, told, sound, λ number. serves number (reverse events) sound.0 sound.1 sound.2)
+
+-- what explains the lines of a file explains the file
+pub explains_file : (bytes : List ℕ) (lines : Lines) (more : ℕ) (v : Verdict) (text : List ℕ) → AreOf bytes lines → ExplainsLinesIf v lines text → ExplainsIf (further more v) bytes text
+explains_file bytes lines more verdict.Yes text opens explains = (lines, opens, explains)
+explains_file bytes lines more verdict.NoMemory text opens explains = explains
+explains_file bytes lines more (verdict.Malformed at) text opens explains = explains
+explains_file bytes lines more (verdict.Gap at) text opens explains = explains
+explains_file bytes lines more (verdict.WrongReply at) text opens explains = explains
+explains_file bytes lines more (verdict.Unsent at) text opens explains = explains
+explains_file bytes lines more (verdict.Repeat at) text opens explains = explains
+
+pub still_no_memory : (more : ℕ) (v : Verdict) → further more v ≡ verdict.NoMemory → v ≡ verdict.NoMemory
+still_no_memory more verdict.NoMemory e = refl
+still_no_memory more verdict.Yes e = cc
+still_no_memory more (verdict.Malformed at) e = cc
+still_no_memory more (verdict.Gap at) e = cc
+still_no_memory more (verdict.WrongReply at) e = cc
+still_no_memory more (verdict.Unsent at) e = cc
+still_no_memory more (verdict.Repeat at) e = cc

@@ -8,13 +8,14 @@ use Rattle.amo_world.specs.History.{HasRightReply, DeliversEmitted, UsesNewWord}
 use Rattle.amo_world.specs.World.{Refuses}
 use Rattle.amo_world.proofs.Order.{reverse_push}
 use Rattle.amo_world.proofs.Serving.{serves}
-use Rattle.amo_audit.specs.declared.numbered.Numbered.{Numbered}
+use Rattle.amo_journal.specs.declared.numbered.Numbered.{Numbered}
 use Rattle.amo_audit.specs.declared.auditor.Finding.{Finding}
 use Rattle.amo_audit.specs.declared.auditor.Finding.TheVariants.{Nothing, AtFault, Gap}
 use Rattle.amo_audit.specs.declared.verdict.Verdict.TheVariants as verdict
-use Rattle.amo_audit.specs.Journal.{SpellsLines}
-use Rattle.amo_audit.specs.Audit.{Audits, Finds, Judges, IsFaultAt, IsSound}
-use Rattle.amo_audit.proofs.Gaps.{length_push, next_number, gap_here, gap_stays, length-numbered}
+use Rattle.amo_journal.specs.declared.lines.Lines.{Lines}
+use Rattle.amo_journal.specs.Lines.{AreLines}
+use Rattle.amo_audit.specs.Audit.{Audits, Finds, JudgesLines, IsFaultAt, IsSound}
+use Rattle.amo_journal.proofs.Gaps.{length_push, next_number, gap_here, gap_stays, length-numbered}
 
 fault_stays : (events : List Event) (e : Event) (at : ℕ) (why : WorldFault) → IsFaultAt events at why → IsFaultAt (events ++ e ∷ []) at why
 fault_stays events e at why found = record {
@@ -83,11 +84,11 @@ module _ (world : List Event) (count : ℕ) (finding : Finding) (lines : List Nu
         ),
       )
 
-pub all_well : (world : List Event) (count : ℕ) (finding : Finding) (lines : List Numbered) (bytes : List ℕ) → finding ≡ Nothing → Audits world count finding lines → SpellsLines bytes lines → Judges bytes verdict.Yes
-all_well world count finding lines bytes is audits spells =
-    let found = subst (λ (f : Finding). Finds world f lines) is audits.1 in
+pub all_well : (world : List Event) (count : ℕ) (finding : Finding) (numbered : List Numbered) (lines : Lines) → finding ≡ Nothing → Audits world count finding numbered → AreLines numbered lines → JudgesLines lines verdict.Yes
+all_well world count finding numbered lines is audits spells =
+    let found = subst (λ (f : Finding). Finds world f numbered) is audits.1 in
     let sound = subst IsSound found.2 found.3 in
-    (found.0, subst (SpellsLines bytes) found.1 spells, sound, λ number. serves number (reverse found.0) sound.0 sound.1 sound.2)
+    (found.0, subst (λ (t : List Numbered). AreLines t lines) found.1 spells, sound, λ number. serves number (reverse found.0) sound.0 sound.1 sound.2)
 
 pub refuses : (past : List Event) (e : Event) (why : WorldFault) → (why ≡ fault.WrongReply → ¬ (HasRightReply past e)) → (why ≡ fault.Unsent → HasRightReply past e × (¬ (DeliversEmitted past e)))
     → (why ≡ fault.Repeat → HasRightReply past e × DeliversEmitted past e × (¬ (UsesNewWord past e))) → (why ≡ fault.NoMemory → HasRightReply past e × DeliversEmitted past e × UsesNewWord past e) → Refuses past e why

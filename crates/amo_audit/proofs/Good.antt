@@ -9,9 +9,11 @@ use Rattle.amo_world.specs.World.{Refuses}
 use Rattle.amo_world.proofs.Extensions.{earlier_too}
 use Rattle.amo_audit.specs.declared.verdict.Verdict.{Verdict}
 use Rattle.amo_audit.specs.declared.verdict.Verdict.TheVariants as verdict
-use Rattle.amo_audit.specs.Journal.{IsJournal}
-use Rattle.amo_audit.specs.Audit.{Judges, IsFaultAt, IsSound, HasFaultAt}
-use Rattle.amo_audit.proofs.Unambiguous.{one_journal, malformed_no_journal, gap_no_journal}
+use Rattle.amo_journal.specs.Journal.{IsJournal}
+use Rattle.amo_journal.specs.declared.lines.Lines.{Lines}
+use Rattle.amo_journal.specs.Lines.{Tell}
+use Rattle.amo_audit.specs.Audit.{AreOf, IsFaultAt, IsSound, JudgesLines, TellFaultAt, further}
+use Rattle.amo_journal.proofs.Unambiguous.{one_events, one_opening, malformed_no_events, gap_no_events}
 
 history_at : (before : List Event) (e : Event) (after : List Event) → reverse (before ++ e ∷ after) ≡ reverse after ++ e ∷ reverse before
 history_at before e after =
@@ -33,15 +35,25 @@ no_fault events at why memory sound found =
     (earlier_too UsesNewWord (reverse events) now extends sound.2).0
     found.refused
 
-no_fault_in : (bytes : List ℕ) (events : List Event) (at : ℕ) (why : WorldFault) → (why ≡ fault.NoMemory → ⊥) → IsJournal events bytes → IsSound (reverse events) → HasFaultAt bytes at why → ⊥
-no_fault_in bytes events at why memory journal sound (others, journal', found) =
-    no_fault events at why memory sound (subst (λ (t : List Event). IsFaultAt t at why) (one_journal bytes others events journal' journal) found)
+no_fault_in : (lines : Lines) (events : List Event) (at : ℕ) (why : WorldFault) → (why ≡ fault.NoMemory → ⊥) → Tell events lines → IsSound (reverse events) → TellFaultAt lines at why → ⊥
+no_fault_in lines events at why memory told sound (others, told', found) =
+    no_fault events at why memory sound (subst (λ (t : List Event). IsFaultAt t at why) (one_events lines.version lines.text.now others events told' told) found)
 
-pub good : (bytes : List ℕ) (v : Verdict) → Judges bytes v → (events : List Event) → IsJournal events bytes → IsSound (reverse events) → (v ≡ verdict.Yes) ⊎ (v ≡ verdict.NoMemory)
-good bytes verdict.Yes judged events journal sound = inl refl
-good bytes verdict.NoMemory judged events journal sound = inr refl
-good bytes (verdict.Malformed at) judged events journal sound = absurd (malformed_no_journal bytes at events judged journal)
-good bytes (verdict.Gap at) judged events journal sound = absurd (gap_no_journal bytes at events judged journal)
-good bytes (verdict.WrongReply at) judged events journal sound = absurd (no_fault_in bytes events at fault.WrongReply (λ e. cc) journal sound judged)
-good bytes (verdict.Unsent at) judged events journal sound = absurd (no_fault_in bytes events at fault.Unsent (λ e. cc) journal sound judged)
-good bytes (verdict.Repeat at) judged events journal sound = absurd (no_fault_in bytes events at fault.Repeat (λ e. cc) journal sound judged)
+good_lines : (lines : Lines) (v : Verdict) → JudgesLines lines v → (events : List Event) → Tell events lines → IsSound (reverse events) → (v ≡ verdict.Yes) ⊎ (v ≡ verdict.NoMemory)
+good_lines lines verdict.Yes judged events told sound = inl refl
+good_lines lines verdict.NoMemory judged events told sound = inr refl
+good_lines lines (verdict.Malformed at) judged events told sound = absurd (malformed_no_events lines.version lines.text.now at events judged told)
+good_lines lines (verdict.Gap at) judged events told sound = absurd (gap_no_events lines.version lines.text.now at events judged told)
+good_lines lines (verdict.WrongReply at) judged events told sound = absurd (no_fault_in lines events at fault.WrongReply (λ e. cc) told sound judged)
+good_lines lines (verdict.Unsent at) judged events told sound = absurd (no_fault_in lines events at fault.Unsent (λ e. cc) told sound judged)
+good_lines lines (verdict.Repeat at) judged events told sound = absurd (no_fault_in lines events at fault.Repeat (λ e. cc) told sound judged)
+
+pub good : (bytes : List ℕ) (lines : Lines) (v : Verdict) → AreOf bytes lines → JudgesLines lines v → (events : List Event) → IsJournal events bytes → IsSound (reverse events) → (v ≡ verdict.Yes) ⊎ (v ≡ verdict.NoMemory)
+good bytes lines v opens judged events (version, journal) sound =
+    let same = one_opening bytes version lines.version journal.body lines.text.now journal.opens opens in
+    good_lines lines v judged events (rw (same.0, same.1) at journal.lines) sound
+
+-- which stays so, further on
+pub good_file : (more : ℕ) (v w : Verdict) → w ≡ further more v → (v ≡ verdict.Yes) ⊎ (v ≡ verdict.NoMemory) → (w ≡ verdict.Yes) ⊎ (w ≡ verdict.NoMemory)
+good_file more v w is (inl it) = inl (is ∙ ap (further more) it)
+good_file more v w is (inr it) = inr (is ∙ ap (further more) it)

@@ -1,32 +1,31 @@
 -- What is found of events, and of which streams they are.
-use Rattle.std.proofs.Common.{◌≡◌, ℕ, ◌+◌, List, [], ◌∷◌, ◌++◌, reverse, refl, sym, ◌∙◌, ap, subst, inl, inr, arith}
+use Rattle.std.proofs.Common.{◌≡◌, ℕ, List, [], ◌∷◌, ◌++◌, reverse, refl, sym, ◌∙◌, ap, subst, inl, inr, arith}
 use Rattle.std.specs.List.{All, AllByRecursion}
 use Rattle.std.proofs.lemmas.List.Elements.{All-from_recursion, recursion_from_All}
 use Rattle.amo_world.specs.declared.event.Event.{Event}
 use Rattle.amo_world.specs.declared.fault.WorldFault.{WorldFault}
 use Rattle.amo_world.specs.Stream.{IsStream}
 use Rattle.amo_world.proofs.Serving.{serves}
-use Rattle.amo_audit.specs.declared.numbered.Numbered.{Numbered}
+use Rattle.amo_journal.specs.declared.numbered.Numbered.{Numbered}
 use Rattle.amo_audit.specs.declared.auditor.Finding.{Finding}
 use Rattle.amo_audit.specs.declared.auditor.Finding.TheVariants.{Nothing, AtFault, Gap}
 use Rattle.amo_audit.specs.declared.verdict.Verdict.{Verdict}
 use Rattle.amo_audit.specs.declared.verdict.Verdict.TheVariants as verdict
 use Rattle.amo_audit.specs.declared.judgement.Judgement.TheVariants.{Whole}
-use Rattle.amo_audit.specs.Journal.{InRange, IsJournal, numbered}
+use Rattle.amo_journal.specs.declared.lines.Lines.{Lines}
+use Rattle.amo_journal.specs.Journal.{numbered}
+use Rattle.amo_journal.specs.Lines.{Tell}
 use Rattle.amo_audit.specs.Audit.{Audits, Finds, JudgesEvents, IsFaultAt, IsSound}
 use Rattle.amo_audit.specs.Merge.{Interleaves, IsPreferred, SharesSide}
-use Rattle.amo_audit.specs.Judgement.{JudgesBoth}
-use Rattle.amo_audit.proofs.Gaps.{next_number}
+use Rattle.amo_audit.specs.Judgement.{JudgesTwo}
+use Rattle.amo_journal.proofs.Further.{event_streams}
+use Rattle.amo_journal.proofs.Gaps.{next_number}
 use Rattle.amo_audit.proofs.Greedy.{preferred_interleaves}
-use Rattle.amo_audit.proofs.Unambiguous.{numbered-injective, no_gap}
+use Rattle.amo_journal.proofs.Unambiguous.{numbered-injective, no_gap}
 
--- the events of a journal are of streams that there are
-in_range_streams : (n : ℕ) (events : List Event) → AllByRecursion InRange (numbered n events) → AllByRecursion (λ e. IsStream e.stream) events
-in_range_streams n [] known = tt
-in_range_streams n (e ∷ events) known = (known.0.1.stream, in_range_streams (n + 1) events known.1)
-
-pub journal_streams : (bytes : List ℕ) (events : List Event) → IsJournal events bytes → All (λ e. IsStream e.stream) events
-journal_streams bytes events journal = All-from_recursion (λ e. IsStream e.stream) events (in_range_streams 0 events journal.0)
+-- the events that lines tell of are of streams that there are
+pub told_streams : (lines : Lines) (events : List Event) → Tell events lines → All (λ e. IsStream e.stream) events
+told_streams lines events told = event_streams lines.version lines.text.now events told
 
 -- and so are those of an interleaving
 interleaved_streams : (first second merged : List Event) → Interleaves first second merged → AllByRecursion (λ e. IsStream e.stream) first → AllByRecursion (λ e. IsStream e.stream) second
@@ -69,8 +68,8 @@ pub one_event_more : (world now : List Event) (count count' : ℕ) (finding foun
 one_event_more world now count count' finding found events line is before after =
     subst (Audits now count' found) (next_number (numbered 0 events) events line count before.0 refl is) after
 
--- what is found of the preferred interleaving is found of both journals
-pub merge_judged : (first second : List ℕ) (x y merged : List Event) (v : Verdict) → IsJournal x first → IsJournal y second → (¬ (SharesSide x y)) → IsPreferred x y merged → JudgesEvents merged v → JudgesBoth first second (Whole v)
+-- what is found of the preferred interleaving is found of both
+pub merge_judged : (first second : Lines) (x y merged : List Event) (v : Verdict) → Tell x first → Tell y second → (¬ (SharesSide x y)) → IsPreferred x y merged → JudgesEvents merged v → JudgesTwo first second (Whole v)
 merge_judged first second x y merged verdict.NoMemory p q apart preferred judged = tt
 merge_judged first second x y merged verdict.Yes p q apart preferred judged = (x, y, p, q, (apart, (merged, preferred, judged)))
 merge_judged first second x y merged (verdict.Malformed at) p q apart preferred judged = absurd judged

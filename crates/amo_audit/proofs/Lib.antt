@@ -1,10 +1,3 @@
-pub mod Fields
-pub mod Written
-pub mod Unambiguous
-pub mod Packets
-pub mod InFront
-pub mod Gaps
-pub mod ReadOn
 pub mod Found
 pub mod Good
 pub mod Sight
@@ -18,3 +11,4 @@ pub mod Explained
 pub mod Together
 pub mod Marked
 pub mod Entries
+pub mod Named

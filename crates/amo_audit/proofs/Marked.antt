@@ -5,12 +5,14 @@ use Rattle.std.proofs.lemmas.List.Elements.{All-contains}
 use Rattle.std.specs.List.{All}
 use Rattle.amo_world.specs.declared.event.Event.{Event}
 use Rattle.amo_world.specs.Stream.{IsStream}
-use Rattle.amo_audit.specs.declared.numbered.Numbered.{Numbered}
-use Rattle.amo_audit.specs.Gathering.{Keeps, Gathers}
-use Rattle.amo_audit.specs.Journal.{IsJournal, HasGapAt, SpellsLines}
+use Rattle.amo_journal.specs.declared.numbered.Numbered.{Numbered}
+use Rattle.amo_journal.specs.Gathering.{Keeps, Gathers}
+use Rattle.amo_journal.specs.declared.lines.Lines.{Lines}
+use Rattle.amo_journal.specs.Journal.{HasGap}
+use Rattle.amo_journal.specs.Lines.{AreLines, Tell}
 use Rattle.amo_audit.specs.Marks.{Marks, place_of}
 use Rattle.amo_audit.specs.Merge.{SharesSide}
-use Rattle.amo_audit.proofs.Gaps.{event_kept, gap_kept, gap_stays, length_push}
+use Rattle.amo_journal.proofs.Gaps.{event_kept, gap_kept, gap_stays, length_push}
 use Rattle.amo_audit.proofs.Places.{marks_more, same_side, same_place, place_below}
 
 -- the lines so far have these marks, and their first gap is here, if they have one
@@ -47,14 +49,14 @@ module _ (has : List Bool) (count : ℕ) (gap : Option ℕ) (lines : List Number
         marks = more;
       }
 
--- the lines are a journal, or have a gap
-pub marked_journal : (bytes : List ℕ) (has : List Bool) (count : ℕ) (gap : Option ℕ) (lines : List Numbered) → SpellsLines bytes lines → Marked has count gap lines → gap ≡ None → (events : List Event) × IsJournal events bytes × Marks has events
-marked_journal bytes has count gap lines spells marked none =
+-- the lines tell of events, or have a gap
+pub marked_lines : (text : Lines) (has : List Bool) (count : ℕ) (gap : Option ℕ) (lines : List Numbered) → AreLines lines text → Marked has count gap lines → gap ≡ None → (events : List Event) × Tell events text × Marks has events
+marked_lines text has count gap lines spells marked none =
     let kept = subst (λ (g : Option ℕ). Keeps marked.events g lines) none marked.gathers.1 in
-    (marked.events, subst (SpellsLines bytes) kept spells, marked.marks)
+    (marked.events, subst (λ (t : List Numbered). AreLines t text) kept spells, marked.marks)
 
-pub marked_gap : (bytes : List ℕ) (has : List Bool) (count : ℕ) (gap : Option ℕ) (at : ℕ) (lines : List Numbered) → SpellsLines bytes lines → Marked has count gap lines → gap ≡ Some at → HasGapAt bytes at
-marked_gap bytes has count gap at lines spells marked is =
+pub marked_gap : (text : Lines) (has : List Bool) (count : ℕ) (gap : Option ℕ) (at : ℕ) (lines : List Numbered) → AreLines lines text → Marked has count gap lines → gap ≡ Some at → HasGap text.version text.text.now at
+marked_gap text has count gap at lines spells marked is =
     let gapped = subst (λ (g : Option ℕ). Keeps marked.events g lines) is marked.gathers.1 in
     (lines, spells, gapped)
 

@@ -6,12 +6,15 @@ use Rattle.amo_world.specs.declared.fault.WorldFault.TheVariants as fault
 use Rattle.amo_world.specs.History.{IsRight, IsHonest, IsFresh}
 use Rattle.amo_world.specs.Served.{IsServed}
 use Rattle.amo_world.specs.World.{Refuses}
-use Rattle.amo_audit.specs.declared.numbered.Numbered.{Numbered}
+use Rattle.amo_journal.specs.declared.numbered.Numbered.{Numbered}
 use Rattle.amo_audit.specs.declared.auditor.Finding.{Finding}
 use Rattle.amo_audit.specs.declared.auditor.Finding.TheVariants.{Nothing, AtFault, Gap}
 use Rattle.amo_audit.specs.declared.verdict.Verdict.{Verdict}
 use Rattle.amo_audit.specs.declared.verdict.Verdict.TheVariants as verdict
-use Rattle.amo_audit.specs.Journal.{numbered, IsJournal, IsMalformedAt, IsGapAt, HasGapAt}
+use Rattle.amo_journal.specs.declared.lines.Lines.{Lines}
+use Rattle.amo_journal.specs.Version.{lines_before, Opens}
+use Rattle.amo_journal.specs.Journal.{numbered, HasMalformed, HasGap, IsGapAt}
+use Rattle.amo_journal.specs.Lines.{Tell}
 
 -- right, honest and fresh
 abbrev pub IsSound : List Event → Type 0
@@ -27,23 +30,53 @@ pub record IsFaultAt (events : List Event) (at : ℕ) (why : WorldFault) : Type 
   pub refused : Refuses (reverse before) event why
   pub count : at ≡ length before + 1
 
--- the bytes are a journal with an event at fault
-abbrev pub HasFaultAt : List ℕ → ℕ → WorldFault → Type 0
-HasFaultAt bytes at why = (events : List Event) × IsJournal events bytes × IsFaultAt events at why
+-- lines that tell of an event at fault, which is that of this line
+abbrev pub TellFaultAt : Lines → ℕ → WorldFault → Type 0
+TellFaultAt lines at why = (events : List Event) × Tell events lines × IsFaultAt events at why
 
--- the bytes are a journal of a sound history, which serves each stream
-abbrev pub IsGood : List ℕ → Type 0
-IsGood bytes = (events : List Event) × IsJournal events bytes × IsSound (reverse events) × ((number : ℕ) → IsServed number (reverse events))
+-- lines that tell a sound history, which serves each stream
+abbrev pub AreGood : Lines → Type 0
+AreGood lines = (events : List Event) × Tell events lines × IsSound (reverse events) × ((number : ℕ) → IsServed number (reverse events))
 
--- what a verdict says of the bytes
-abbrev pub Judges : List ℕ → Verdict → Type 0
-Judges bytes verdict.Yes = IsGood bytes
-Judges bytes (verdict.Malformed at) = IsMalformedAt bytes at
-Judges bytes (verdict.Gap at) = HasGapAt bytes at
-Judges bytes (verdict.WrongReply at) = HasFaultAt bytes at fault.WrongReply
-Judges bytes (verdict.Unsent at) = HasFaultAt bytes at fault.Unsent
-Judges bytes (verdict.Repeat at) = HasFaultAt bytes at fault.Repeat
-Judges bytes verdict.NoMemory = Unit {0}
+-- what a verdict says of lines of events, which it counts from 1
+abbrev pub JudgesLines : Lines → Verdict → Type 0
+JudgesLines lines verdict.Yes = AreGood lines
+JudgesLines lines (verdict.Malformed at) = HasMalformed lines.version lines.text.now at
+JudgesLines lines (verdict.Gap at) = HasGap lines.version lines.text.now at
+JudgesLines lines (verdict.WrongReply at) = TellFaultAt lines at fault.WrongReply
+JudgesLines lines (verdict.Unsent at) = TellFaultAt lines at fault.Unsent
+JudgesLines lines (verdict.Repeat at) = TellFaultAt lines at fault.Repeat
+JudgesLines lines verdict.NoMemory = Unit {0}
+
+-- the line that a verdict names, or 0
+abbrev pub line_named : Verdict → ℕ
+line_named (verdict.Malformed at) = at
+line_named (verdict.Gap at) = at
+line_named (verdict.WrongReply at) = at
+line_named (verdict.Unsent at) = at
+line_named (verdict.Repeat at) = at
+line_named _ = 0
+
+-- the same verdict, so many lines further on
+abbrev pub further : ℕ → Verdict → Verdict
+further more (verdict.Malformed at) = verdict.Malformed (at + more)
+further more (verdict.Gap at) = verdict.Gap (at + more)
+further more (verdict.WrongReply at) = verdict.WrongReply (at + more)
+further more (verdict.Unsent at) = verdict.Unsent (at + more)
+further more (verdict.Repeat at) = verdict.Repeat (at + more)
+further more v = v
+
+-- these are the lines of a file's events
+abbrev pub AreOf : List ℕ → Lines → Type 0
+AreOf bytes lines = Opens lines.version lines.text.now bytes
+
+-- What a verdict says of a file: of the lines of its events, where the line that it names is counted from the file's first.
+pub record Judges (bytes : List ℕ) (v : Verdict) : Type 0 where
+  pub lines : Lines
+  pub opens : AreOf bytes lines
+  pub found : Verdict
+  pub judged : JudgesLines lines found
+  pub is : v ≡ further (lines_before lines.version) found
 
 -- what a verdict says of events in the order of time
 abbrev pub JudgesEvents : List Event → Verdict → Type 0

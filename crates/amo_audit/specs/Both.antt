@@ -5,7 +5,7 @@ use Rattle.amo_world.specs.History.{DeliversEmitted}
 use Rattle.amo_audit.specs.declared.both.Both.{Both}
 use Rattle.amo_audit.specs.Audit.{Audits}
 use Rattle.amo_audit.specs.Hosts.{Represents}
-use Rattle.amo_audit.specs.Journal.{numbered}
+use Rattle.amo_journal.specs.Journal.{numbered}
 
 -- the hosts are as they are after a history, and its events were judged in the order of time
 pub record Follows (both : Both) (past : List Event) : Type 0 where

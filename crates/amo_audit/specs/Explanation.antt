@@ -12,7 +12,9 @@ use Rattle.amo_text.specs.Side.{letter_of}
 use Rattle.amo_world.specs.declared.event.Event.{Event}
 use Rattle.amo_audit.specs.declared.verdict.Verdict.{Verdict}
 use Rattle.amo_audit.specs.declared.verdict.Verdict.TheVariants as verdict
-use Rattle.amo_audit.specs.Journal.{IsJournal}
+use Rattle.amo_journal.specs.declared.lines.Lines.{Lines}
+use Rattle.amo_journal.specs.Lines.{Tell}
+use Rattle.amo_audit.specs.Audit.{AreOf}
 
 -- the fields of a step
 abbrev pub step_fields : Step → List (List ℕ)
@@ -38,11 +40,20 @@ run_text run = flat_map (step_line run.stream) run.steps.items
 abbrev pub runs_text : List Run → List ℕ
 runs_text runs = flat_map run_text runs
 
--- the text spells runs that explain each stream of the journal that the bytes are
-abbrev pub IsExplanation : List ℕ → List ℕ → Type 0
-IsExplanation bytes text = (events : List Event) × (runs : List Run) × IsJournal events bytes × IsResolved runs events × (text ≡ runs_text runs)
+-- the text spells runs that explain each stream of the events that lines tell of
+abbrev pub ExplainsLines : Lines → List ℕ → Type 0
+ExplainsLines lines text = (events : List Event) × (runs : List Run) × Tell events lines × IsResolved runs events × (text ≡ runs_text runs)
 
--- what is written of bytes that are judged so: an explanation with a yes, and nothing else
+-- what is written of lines that are judged so: an explanation with a yes, and nothing else
+abbrev pub ExplainsLinesIf : Verdict → Lines → List ℕ → Type 0
+ExplainsLinesIf verdict.Yes lines text = ExplainsLines lines text
+ExplainsLinesIf _ lines text = text ≡ []
+
+-- the text explains the journal that the bytes are
+abbrev pub IsExplanation : List ℕ → List ℕ → Type 0
+IsExplanation bytes text = (lines : Lines) × AreOf bytes lines × ExplainsLines lines text
+
+-- what is written of bytes that are judged so
 abbrev pub ExplainsIf : Verdict → List ℕ → List ℕ → Type 0
 ExplainsIf verdict.Yes bytes text = IsExplanation bytes text
 ExplainsIf _ bytes text = text ≡ []

@@ -1,7 +1,3 @@
-pub mod Journal
-pub mod Fault
-pub mod Fields
-pub mod Gathering
 pub mod Audit
 pub mod Side
 pub mod Sides

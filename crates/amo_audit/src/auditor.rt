@@ -2,12 +2,14 @@
 ghost use Rattle.std.specs.Prelude.{◌≡◌, ◌+◌, ◌<◌, ◌^◌, ◌++◌, ◌∷◌, ℕ, [], List, IfOk, OnOk};
 ghost use Rattle.amo_packet.specs.Stream.{IsStream};
 ghost use Rattle.amo_world.specs.declared.event.Event.{Event};
-ghost use Rattle.amo_audit.specs.declared.numbered.Numbered.{Numbered};
-ghost use Rattle.amo_audit.specs.Journal.{SpellsLines, numbered};
-ghost use Rattle.amo_audit.specs.Audit.{Audits, Judges, JudgesEvents};
+ghost use Rattle.amo_journal.specs.declared.numbered.Numbered.{Numbered};
+ghost use Rattle.amo_journal.specs.declared.lines.Lines.{Lines};
+ghost use Rattle.amo_journal.specs.Journal.{numbered};
+ghost use Rattle.amo_journal.specs.Lines.{AreLines};
+ghost use Rattle.amo_audit.specs.Audit.{Audits, JudgesEvents, JudgesLines};
 
 use crate::Verdict;
-use crate::numbered::Numbered;
+use amo_journal::Numbered;
 use amo_world::{NoMemory, World, WorldFault};
 use std::alloc::Global;
 
@@ -87,8 +89,8 @@ impl Auditor {
 
     /// What the lines are judged to be, if no more come.
     pub(crate) fn verdict(&self) -> Verdict
-        ensures of_bytes { (lines : List Numbered) (bytes : List ℕ) → Audits self.now.world self.now.lines self.now.finding lines
-            → SpellsLines bytes lines → Judges bytes result }
+        ensures of_lines { (numbered : List Numbered) (lines : Lines) → Audits self.now.world self.now.lines self.now.finding numbered
+            → AreLines numbered lines → JudgesLines lines result }
         ensures of_events { (events : List Event) → Audits self.now.world self.now.lines self.now.finding (numbered 0 events)
             → JudgesEvents events result }
     {

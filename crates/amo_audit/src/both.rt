@@ -10,7 +10,7 @@ use crate::Verdict;
 use crate::auditor::Auditor;
 use crate::coming::Coming;
 use crate::hosts::Hosts;
-use crate::numbered::Numbered;
+use amo_journal::Numbered;
 use amo_world::{Event, NoMemory};
 use std::alloc::Global;
 
@@ -54,11 +54,11 @@ impl Both {
         requires stream { IfSome coming.next (λ e. IsStream e.stream) }
         requires count { length self.old.hosts.streams.items ≡ 256 }
         requires few { self.old.auditor.lines + 1 < 2 ^ 64 }
-        ensures follows { IfOk result (λ now. (past more : List Event) (e : Event) → Follows self.old past → AreComing (e ∷ more) coming.entry.next coming.entry.rest.now
-            → Follows self.new (e ∷ past) × AreComing more now.next now.rest.now) }
+        ensures follows { IfOk result (λ now. (past more : List Event) (e : Event) → Follows self.old past → AreComing (e ∷ more) coming.entry.next coming.entry.rest
+            → Follows self.new (e ∷ past) × AreComing more now.next now.rest) }
         ensures stream { IfOk result (λ now. IfSome now.next (λ e. IsStream e.stream)) }
         ensures lines { self.new.auditor.lines ≤ self.old.auditor.lines + 1 }
-        ensures fewer { IfOk result (λ now. left_of now.next now.rest.now ≤ length coming.entry.rest.now) }
+        ensures fewer { IfOk result (λ now. left_of now.next now.rest ≤ length coming.entry.rest.text.now) }
     {
         let now = Coming::read(alloc, coming.rest)?;
         if let Some(event) = coming.next {

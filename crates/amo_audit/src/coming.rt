@@ -2,11 +2,11 @@
 ghost use Rattle.std.specs.Prelude.{◌≤◌, ℕ, List, length, IfOk, IfSome};
 ghost use Rattle.amo_world.specs.declared.event.Event.{Event};
 ghost use Rattle.amo_world.specs.Stream.{IsStream};
-ghost use Rattle.amo_audit.specs.Journal.{SpellsLines, numbered};
+ghost use Rattle.amo_journal.specs.Journal.{numbered};
+ghost use Rattle.amo_journal.specs.Lines.{AreLines};
 ghost use Rattle.amo_audit.specs.Coming.{AreComing, left_of};
 
-use crate::numbered::Numbered;
-use amo_text::item_in_front;
+use amo_journal::{Lines, line_in_front};
 use amo_world::Event;
 use std::alloc::{AllocError, Global};
 
@@ -14,25 +14,25 @@ use std::alloc::{AllocError, Global};
 #[derive(Drop)]
 pub(crate) struct Coming<'a> {
     pub(crate) next: Option<Event>,
-    pub(crate) rest: &'a [u8],
+    pub(crate) rest: Lines<'a>,
 }
 
 impl<'a> Coming<'a> {
-    /// Of the lines that these bytes are the event of the first one, and what is behind it.
-    pub(crate) fn read(alloc: Global, bytes: &'a [u8]) -> Result<Coming<'a>, AllocError>
-        ensures coming { IfOk result (λ coming. (number : ℕ) (events : List Event) → SpellsLines bytes.now (numbered number events)
-            → AreComing events coming.next coming.rest.now) }
+    /// Of these lines the event of the first one, and those behind it.
+    pub(crate) fn read(alloc: Global, lines: Lines<'a>) -> Result<Coming<'a>, AllocError>
+        ensures coming { IfOk result (λ coming. (number : ℕ) (events : List Event) → AreLines (numbered number events) lines.entry
+            → AreComing events coming.next coming.rest) }
         ensures stream { IfOk result (λ coming. IfSome coming.next (λ e. IsStream e.stream)) }
-        ensures fewer { IfOk result (λ coming. left_of coming.next coming.rest.now ≤ length bytes.now) }
+        ensures fewer { IfOk result (λ coming. left_of coming.next coming.rest ≤ length lines.entry.text.now) }
     {
-        match item_in_front::<Numbered>(alloc, bytes)? {
+        match line_in_front(alloc, lines)? {
             Some((line, rest)) => Ok(Coming {
                 next: Some(line.event),
                 rest,
             }),
             None => Ok(Coming {
                 next: None,
-                rest: bytes,
+                rest: lines,
             }),
         }
     }

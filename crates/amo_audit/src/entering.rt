@@ -2,11 +2,12 @@
 ghost use Rattle.std.specs.Prelude.{IfOk, IfSome};
 ghost use Rattle.amo_world.specs.Stream.{IsStream};
 ghost use Rattle.amo_audit.specs.Entering.{Enters};
-ghost use Rattle.amo_audit.specs.Judgement.{AreApart, JudgesBoth, OfBoth};
+ghost use Rattle.amo_audit.specs.Judgement.{AreApart, JudgesTwo, OfBoth};
 
 use crate::Verdict;
 use crate::coming::Coming;
 use crate::judgement::Judgement;
+use amo_journal::Lines;
 use amo_world::{NoMemory, World, WorldFault};
 use std::alloc::Global;
 
@@ -25,11 +26,11 @@ pub(crate) enum Entry<'a> {
 /// itself. It is given up, without an answer, at an event that has another fault: no world goes on past that.
 pub(crate) fn enter_both(
     alloc: Global,
-    first: &[u8],
-    second: &[u8],
+    first: Lines<'_>,
+    second: Lines<'_>,
 ) -> Result<Option<Judgement>, NoMemory>
-    requires { OfBoth first.now second.now AreApart }
-    ensures { IfOk result (λ found. IfSome found (JudgesBoth first.now second.now)) }
+    requires { OfBoth first second AreApart }
+    ensures { IfOk result (λ found. IfSome found (JudgesTwo first.entry second.entry)) }
 {
     let mut world = World::new(alloc)?;
     let mut left = Coming::read(alloc, first)?;
@@ -54,7 +55,7 @@ pub(crate) fn enter_both(
 /// Hands a journal's next event to a world.
 fn enter<'a>(alloc: Global, world: &mut World, coming: Coming<'a>) -> Result<Entry<'a>, NoMemory>
     requires { IfSome coming.next (λ e. IsStream e.stream) }
-    ensures { IfOk result (Enters world.old world.new coming.entry.next coming.entry.rest.now) }
+    ensures { IfOk result (Enters world.old world.new coming.entry.next coming.entry.rest) }
 {
     let Coming { next, rest } = coming;
     let Some(event) = next else {

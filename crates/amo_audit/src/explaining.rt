@@ -6,15 +6,15 @@ ghost use Rattle.amo_text.specs.Hexadecimal.{hex};
 ghost use Rattle.amo_text.specs.Line.{text_of};
 ghost use Rattle.amo_text.specs.Side.{letter_of};
 ghost use Rattle.amo_text.specs.Sink.{AppendsFront};
-ghost use Rattle.amo_audit.specs.Audit.{Judges};
-ghost use Rattle.amo_audit.specs.Explanation.{ExplainsIf, IsExplanation, run_text, runs_text, step_fields, step_line};
+ghost use Rattle.amo_audit.specs.Audit.{Judges, JudgesLines};
+ghost use Rattle.amo_audit.specs.Explanation.{ExplainsIf, ExplainsLines, ExplainsLinesIf, IsExplanation, run_text, runs_text, step_fields, step_line};
 
+use crate::Verdict;
 use crate::judging::events_of;
-use crate::writing::push_side;
-use crate::{JournalFault, Verdict};
+use amo_journal::{JournalFault, Lines, open};
 use amo_object::{Bytes, End};
 use amo_resolve::{ResolveFault, Run, Step, resolve};
-use amo_text::{Sink, push_decimal, push_hex, write_all};
+use amo_text::{Sink, push_decimal, push_hex, push_side, write_all};
 use std::alloc::{AllocError, Global};
 
 /// Writes the run of the at-most-once queue that explains each stream of a journal, where the audit of it is a yes: a line
@@ -32,7 +32,26 @@ pub fn explain<W: Sink>(alloc: Global, bytes: &[u8], sink: &mut W) -> Result<Ver
     ensures faults { IfErr result (λ fault. (fault ≡ JournalFault.NoMemory) ⊎ (fault ≡ JournalFault.Device)) }
     ensures device { IsErrOf result JournalFault.Device ↔ (W.failures sink.old < W.failures sink.new) }
 {
-    let events = match events_of(alloc, bytes) {
+    let lines = open(bytes);
+    let verdict = explain_lines(alloc, lines, sink)?;
+    Ok(verdict.further(lines.version.lines_before()))
+}
+
+/// Writes the run that explains each stream of the events that lines tell of, and answers the verdict on the lines, which it counts from 1.
+fn explain_lines<W: Sink>(
+    alloc: Global,
+    lines: Lines<'_>,
+    sink: &mut W,
+) -> Result<Verdict, JournalFault>
+    ensures judged { IfOk result (λ verdict. JudgesLines lines.entry verdict × (verdict ≢ Verdict.NoMemory)) }
+    ensures explained { IfOk result (λ verdict. (text : List ℕ) × ExplainsLinesIf verdict lines.entry text
+        × Appends (W.written sink.old) (W.written sink.new) text) }
+    ensures begun { OnErr result (Keeps (W.written sink.old) (W.written sink.new)
+        ⊎ ((text : List ℕ) × ExplainsLines lines.entry text × AppendsFront (W.written sink.old) (W.written sink.new) text)) }
+    ensures faults { IfErr result (λ fault. (fault ≡ JournalFault.NoMemory) ⊎ (fault ≡ JournalFault.Device)) }
+    ensures device { IsErrOf result JournalFault.Device ↔ (W.failures sink.old < W.failures sink.new) }
+{
+    let events = match events_of(alloc, lines) {
         Ok(events) => events,
         Err(Verdict::NoMemory) => return Err(JournalFault::NoMemory),
         Err(verdict) => return Ok(verdict),

@@ -2,16 +2,17 @@
 ghost use Rattle.std.specs.Prelude.{IfOk, IfErr};
 ghost use Rattle.std.specs.List.{All};
 ghost use Rattle.amo_world.specs.Stream.{IsStream};
-ghost use Rattle.amo_audit.specs.Journal.{IsJournal};
-ghost use Rattle.amo_audit.specs.Judgement.{AreApart, IsNoJournal, JudgesBoth, JudgesFiles, OfBoth};
+ghost use Rattle.amo_journal.specs.Lines.{Tell};
+ghost use Rattle.amo_audit.specs.Judgement.{AreApart, JudgesBoth, JudgesFiles, JudgesTwo, OfBoth, TellNone};
 
 use crate::both::Both;
 use crate::coming::Coming;
 use crate::entering::enter_both;
 use crate::judgement::Judgement;
-use crate::marking::{mark_journal, meet};
+use crate::marking::{mark_lines, meet};
 use crate::shares::SIDES;
-use crate::{JournalFault, Verdict, audit, read_journal};
+use crate::{Verdict, audit};
+use amo_journal::{JournalFault, Lines, open, read_events};
 use amo_world::{Event, NoMemory};
 use std::alloc::Global;
 
@@ -25,17 +26,26 @@ pub(crate) fn judge(alloc: Global, first: &[u8], second: Option<&[u8]>) -> Judge
     }
 }
 
-/// Judges two journals. Each is read twice: first it is seen that both are journals and have no side in common, then their events are
-/// merged and judged. So no list of events is kept.
+/// Judges two journals.
 fn judge_both(alloc: Global, first: &[u8], second: &[u8]) -> Judgement
     ensures { JudgesBoth first.now second.now result }
 {
+    let ours = open(first);
+    let theirs = open(second);
+    judge_lines(alloc, ours, theirs).counted(ours.version, theirs.version)
+}
+
+/// Judges the lines of two journals. Each is read twice: first it is seen that both tell of events and have no side in common, then the
+/// events are merged and judged. So no list of events is kept.
+fn judge_lines(alloc: Global, first: Lines<'_>, second: Lines<'_>) -> Judgement
+    ensures { JudgesTwo first.entry second.entry result }
+{
     let mut ours = [false; SIDES];
     let mut theirs = [false; SIDES];
-    if let Err(verdict) = mark_journal(alloc, first, &mut ours) {
+    if let Err(verdict) = mark_lines(alloc, first, &mut ours) {
         return Judgement::First(verdict);
     }
-    if let Err(verdict) = mark_journal(alloc, second, &mut theirs) {
+    if let Err(verdict) = mark_lines(alloc, second, &mut theirs) {
         return Judgement::Second(verdict);
     }
     if meet(&ours, &theirs) {
@@ -48,9 +58,9 @@ fn judge_both(alloc: Global, first: &[u8], second: &[u8]) -> Judgement
 }
 
 /// Merges the events of two journals and judges them. Only where an event is at fault is more kept than a world.
-fn judge_merged(alloc: Global, first: &[u8], second: &[u8]) -> Result<Judgement, NoMemory>
-    requires { OfBoth first.now second.now AreApart }
-    ensures { IfOk result (JudgesBoth first.now second.now) }
+fn judge_merged(alloc: Global, first: Lines<'_>, second: Lines<'_>) -> Result<Judgement, NoMemory>
+    requires { OfBoth first second AreApart }
+    ensures { IfOk result (JudgesTwo first.entry second.entry) }
 {
     match enter_both(alloc, first, second)? {
         Some(judgement) => Ok(judgement),
@@ -59,9 +69,9 @@ fn judge_merged(alloc: Global, first: &[u8], second: &[u8]) -> Result<Judgement,
 }
 
 /// Merges the events of two journals, also past one at fault, and judges them on the way.
-fn judge_at_fault(alloc: Global, first: &[u8], second: &[u8]) -> Result<Judgement, NoMemory>
-    requires { OfBoth first.now second.now AreApart }
-    ensures { IfOk result (JudgesBoth first.now second.now) }
+fn judge_at_fault(alloc: Global, first: Lines<'_>, second: Lines<'_>) -> Result<Judgement, NoMemory>
+    requires { OfBoth first second AreApart }
+    ensures { IfOk result (JudgesTwo first.entry second.entry) }
 {
     let mut both = Both::new(alloc)?;
     let mut left = Coming::read(alloc, first)?;
@@ -78,13 +88,13 @@ fn judge_at_fault(alloc: Global, first: &[u8], second: &[u8]) -> Result<Judgemen
     Ok(Judgement::Whole(both.verdict()))
 }
 
-/// The events of a journal, or what is found of bytes that are none.
-pub(crate) fn events_of(alloc: Global, bytes: &[u8]) -> Result<Vec<Event>, Verdict>
-    ensures journal { IfOk result (λ events. IsJournal events.items bytes.now) }
+/// The events that lines tell of, or why they tell of none.
+pub(crate) fn events_of(alloc: Global, lines: Lines<'_>) -> Result<Vec<Event>, Verdict>
+    ensures told { IfOk result (λ events. Tell events.items lines.entry) }
     ensures streams { IfOk result (λ events. All (λ e. IsStream e.stream) events.items) }
-    ensures found { IfErr result (λ verdict. IsNoJournal bytes.now verdict) }
+    ensures found { IfErr result (TellNone lines.entry) }
 {
-    match read_journal(alloc, bytes) {
+    match read_events(alloc, lines) {
         Ok(events) => Ok(events),
         Err(JournalFault::Malformed(line)) => Err(Verdict::Malformed(line)),
         Err(JournalFault::Gap(line)) => Err(Verdict::Gap(line)),

@@ -3,38 +3,37 @@ ghost use Rattle.std.specs.Prelude.{◌≡◌, ◌≢◌, ◌↔◌, ◌+◌, �
 ghost use Rattle.std.specs.List.{All};
 ghost use Rattle.amo_world.specs.declared.event.Event.{Event};
 ghost use Rattle.amo_world.specs.Stream.{IsStream};
-ghost use Rattle.amo_audit.specs.Journal.{IsJournal};
-ghost use Rattle.amo_audit.specs.Judgement.{IsNoJournal};
+ghost use Rattle.amo_journal.specs.Lines.{Tell};
+ghost use Rattle.amo_audit.specs.Judgement.{TellNone};
 ghost use Rattle.amo_audit.specs.Marks.{Marks};
 ghost use Rattle.amo_audit.specs.Merge.{SharesSide};
 
 use crate::Verdict;
-use crate::numbered::Numbered;
 use crate::shares::{SIDES, place};
-use amo_text::item_in_front;
+use amo_journal::{Lines, line_in_front};
 use std::alloc::Global;
 
-/// Marks the side of each event of a journal, or answers what is found of bytes that are none. No line is kept.
-pub(crate) fn mark_journal(alloc: Global, bytes: &[u8], has: &mut [bool]) -> Result<(), Verdict>
+/// Marks the side of each event that lines tell of, or answers why they tell of none. No line is kept.
+pub(crate) fn mark_lines(alloc: Global, lines: Lines<'_>, has: &mut [bool]) -> Result<(), Verdict>
     requires length { length has.old ≡ 512 }
     requires none { All (λ b. b ≡ false) has.old }
     ensures length { length has.new ≡ 512 }
-    ensures marks { OnOk result ((events : List Event) × IsJournal events bytes.now × Marks has.new events) }
-    ensures found { IfErr result (λ verdict. IsNoJournal bytes.now verdict) }
+    ensures marks { OnOk result ((events : List Event) × Tell events lines.entry × Marks has.new events) }
+    ensures found { IfErr result (TellNone lines.entry) }
 {
-    let mut lines = 0;
+    let mut count = 0;
     let mut gap = None;
-    let mut rest = bytes;
-    while !rest.is_empty() {
-        let Ok(front) = item_in_front::<Numbered>(alloc, rest) else {
+    let mut rest = lines;
+    while !rest.text.is_empty() {
+        let Ok(front) = line_in_front(alloc, rest) else {
             return Err(Verdict::NoMemory);
         };
         let Some((line, more)) = front else {
-            return Err(Verdict::Malformed(lines + 1));
+            return Err(Verdict::Malformed(count + 1));
         };
         has[place(&line.event)] = true;
-        gap = first_gap(gap, lines, line.number);
-        lines += 1;
+        gap = first_gap(gap, count, line.number);
+        count += 1;
         rest = more;
     }
     match gap {

@@ -7,9 +7,10 @@ ghost use Rattle.amo_audit.specs.Audit.{status_of};
 ghost use Rattle.amo_audit.specs.Judgement.{JudgesFiles, judgement_status};
 ghost use Rattle.amo_audit.specs.Report.{found_line, verdict_line, judgement_line};
 
+use crate::Verdict;
 use crate::judgement::Judgement;
 use crate::judging::judge;
-use crate::{JournalFault, Verdict};
+use amo_journal::JournalFault;
 use amo_text::{Sink, push_decimal, write_all};
 use std::alloc::{AllocError, Global};
 

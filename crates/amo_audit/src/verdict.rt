@@ -1,5 +1,5 @@
 //! Verdicts.
-ghost use Rattle.std.specs.Prelude.{◌≡◌};
+ghost use Rattle.std.specs.Prelude.{◌≡◌, ◌+◌, ◌<◌, ◌^◌};
 
 /// What bytes are judged to be. Lines count from 1.
 #[derive(Clone, Copy, Debug, PartialEq, Eq)]
@@ -8,7 +8,7 @@ pub enum Verdict {
     Yes,
     /// This line is the first that is malformed.
     Malformed(usize),
-    /// Each line reads, and this one is the first whose number is not its line less 1.
+    /// Each line reads, and this one is the first whose number is not how many events are before it.
     Gap(usize),
     /// The event of this line is the first at fault: its reply is wrong.
     WrongReply(usize),
@@ -21,7 +21,22 @@ pub enum Verdict {
 }
 
 impl Verdict {
-    ghost use Rattle.amo_audit.specs.Audit.{status_of};
+    ghost use Rattle.amo_audit.specs.Audit.{further, line_named, status_of};
+
+    /// The same verdict, where so many lines more stand in front of the line that it names.
+    pub(crate) fn further(self, lines: usize) -> Verdict
+        requires { line_named self + lines < 2 ^ 64 }
+        ensures { result ≡ further lines self }
+    {
+        match self {
+            Verdict::Malformed(line) => Verdict::Malformed(line + lines),
+            Verdict::Gap(line) => Verdict::Gap(line + lines),
+            Verdict::WrongReply(line) => Verdict::WrongReply(line + lines),
+            Verdict::Unsent(line) => Verdict::Unsent(line + lines),
+            Verdict::Repeat(line) => Verdict::Repeat(line + lines),
+            other => other,
+        }
+    }
 
     /// The exit status: 0 for yes, 1 for a wrong reply, 2 for what is no journal, 3 for a broken premise, 4 for want of
     /// memory.

@@ -14,9 +14,12 @@ use Rattle.amo_core.specs.declared.payload.Payload.{Payload}
 use Rattle.amo_core.specs.declared.payload.Payload.TheVariants as payload
 use Rattle.amo_core.specs.declared.sender.SenderMode.{SenderMode}
 use Rattle.amo_core.specs.declared.sender.SenderMode.TheVariants.{Quiet, NeedId, Send, Down}
-use Rattle.amo_core.specs.declared.sender.TheConstants.{MAX_WAITING}
 use Rattle.amo_core.specs.Row.{Row, silent, done, unknown}
 pub mod Replies
+
+-- how many messages may wait, beside those that a handshake carries
+abbrev pub max_waiting : ℕ
+max_waiting = 16
 
 -- the stream, which its packets bear; the mode; the messages that wait, the next one first
 pub record SenderState : Type 0 where
@@ -47,7 +50,7 @@ emitting s body = done s (Some (record { stream = s.stream; body = body }))
 abbrev pub put : SenderState → SenderMode → List ℕ → Row SenderState
 put s Down m = silent s reply.Down
 put s _ m =
-    if length s.waiting == MAX_WAITING then silent s reply.Full else silent (record s { waiting = s.waiting ++ m ∷ [] }) reply.Ok
+    if length s.waiting == max_waiting then silent s reply.Full else silent (record s { waiting = s.waiting ++ m ∷ [] }) reply.Ok
 
 -- what is known of the last message put
 abbrev pub get_ack : SenderState → SenderMode → List (List ℕ) → Row SenderState

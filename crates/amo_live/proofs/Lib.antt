@@ -1,4 +1,5 @@
 pub mod Clients
+pub mod Longest
 pub mod Conserving
 pub mod Showing
 pub mod Onwards

@@ -1,5 +1,5 @@
 -- Which messages were put.
-use Rattle.std.proofs.Common.{◌≡◌, ℕ, List, ◌∷◌, Option, Some, None, Ok, Err, ap}
+use Rattle.std.proofs.Common.{◌≡◌, ℕ, Bool, true, false, List, ◌∷◌, Option, Some, None, Ok, Err, ap}
 use Rattle.amo_object.specs.declared.step.End.TheVariants.{Sender}
 use Rattle.amo_core.specs.declared.act.Act.TheVariants as act
 use Rattle.amo_core.specs.declared.mode.Mode.{Mode}
@@ -7,7 +7,11 @@ use Rattle.amo_book.specs.declared.fault.PutFault.{PutFault}
 use Rattle.amo_book.specs.declared.fault.PutFault.TheVariants as put_fault
 use Rattle.amo_book.specs.Calls.{put_answer}
 use Rattle.amo_book.specs.Pass.{PassState, Grown, mine}
+use Rattle.amo_journal.specs.declared.version.Version.{Version}
+use Rattle.amo_journal.specs.declared.version.Version.TheVariants.{One, Two}
+use Rattle.amo_journal.specs.Version.{HasBatches}
 use Rattle.amo_live.specs.Host.{HostState, Did, puts_in}
+use Rattle.amo_live.specs.Service.{start_of, starts_batches}
 
 -- a put that was answered with Ok put its message
 pub was_put : (v w : PassState) (stream : ℕ) (m : List ℕ) (position : ℕ) → Grown v w Sender stream (act.Put m) (put_answer (Ok position)) → puts_in (mine w) ≡ (stream, m) ∷ puts_in (mine v)
@@ -20,7 +24,21 @@ was_refused v w stream m (put_fault.Down position back) grown = ap puts_in grown
 was_refused v w stream m (put_fault.Busy back) grown = ap (λ (p : PassState). puts_in (mine p)) grown
 was_refused v w stream m (put_fault.NoStream back) grown = ap (λ (p : PassState). puts_in (mine p)) grown
 
--- a start puts nothing
-pub start_puts : {L S : Type 0} (h g : HostState L S) (stream word : ℕ) (mode : Option Mode) → Did h g stream (act.Start word) mode → puts_in (mine g.pass) ≡ puts_in (mine h.pass)
-start_puts h g stream word None did = ap (λ (p : PassState). puts_in (mine p)) did.0
-start_puts h g stream word (Some mode) did = ap puts_in did.1.grown.mine_grew
+-- batches are started where they have lines
+pub batches_noted : (batch : Bool) (version : Version) → starts_batches batch version ≡ true → HasBatches version
+batches_noted batch One is = cc
+batches_noted batch Two is = tt
+
+-- the start of a batch puts nothing, and no other start does
+start_one : {L S : Type 0} (h g : HostState L S) (stream word : ℕ) (mode : Option Mode) → Did h g stream (act.Start word) mode → puts_in (mine g.pass) ≡ puts_in (mine h.pass)
+start_one h g stream word None did = ap (λ (p : PassState). puts_in (mine p)) did.0
+start_one h g stream word (Some mode) did = ap puts_in did.1.grown.mine_grew
+
+start_batch : {L S : Type 0} (h g : HostState L S) (stream word : ℕ) (mode : Option Mode) → Did h g stream (act.Batch word) mode → puts_in (mine g.pass) ≡ puts_in (mine h.pass)
+start_batch h g stream word None did = ap (λ (p : PassState). puts_in (mine p)) did.0
+start_batch h g stream word (Some mode) did = ap puts_in did.1.grown.mine_grew
+
+pub start_puts : {L S : Type 0} (h g : HostState L S) (stream word : ℕ) (batch : Bool) (version : Version) (mode : Option Mode) → Did h g stream (start_of batch version word) mode → puts_in (mine g.pass) ≡ puts_in (mine h.pass)
+start_puts h g stream word batch One mode did = start_one h g stream word mode did
+start_puts h g stream word false Two mode did = start_one h g stream word mode did
+start_puts h g stream word true Two mode did = start_batch h g stream word mode did

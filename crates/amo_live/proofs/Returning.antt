@@ -13,6 +13,7 @@ use Rattle.amo_host.proofs.ChargeLemmas.{each_at, each_set}
 use Rattle.std.proofs.lemmas.List.{length-map}
 use Rattle.amo_live.specs.Host.{HostState, IsHost, IsOpened, Stays, comes_back, done, first_events, side_of, sides_from}
 use Rattle.amo_live.specs.Noted.{JournalState}
+use Rattle.amo_live.proofs.Onwards.{same_on}
 use Rattle.amo_live.proofs.Suiting.{stands}
 
 -- a charge that was driven is for the side that it was for
@@ -61,7 +62,7 @@ still_stays h g f one two = record {
   number = two.number ∙ one.number;
   charges = two.charges ∙ one.charges;
   link = two.link ∙ one.link;
-  journal = (two.journal.0 ∙ one.journal.0, two.journal.1 ∙ one.journal.1);
+  journal = same_on h.journal g.journal f.journal one.journal two.journal;
 }
 
 -- as many charges

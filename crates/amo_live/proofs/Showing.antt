@@ -1,5 +1,5 @@
 -- What is shown, call by call.
-use Rattle.std.proofs.Common.{◌≡◌, ℕ, true, false, List, [], ◌∷◌, ◌++◌, Option, Some, None, Ok, Err, refl, sym, ap, ◌∙◌, subst, append_assoc, append-nil}
+use Rattle.std.proofs.Common.{◌≡◌, ℕ, Bool, true, false, List, [], ◌∷◌, ◌++◌, Option, Some, None, Ok, Err, refl, sym, ap, ◌∙◌, subst, append_assoc, append-nil}
 use Rattle.std.specs.Prelude.{OnOk, Result}
 use Rattle.std.specs.Io.KnownBytes.{Appends}
 use Rattle.amo_text.proofs.Written.{Appends-append, Appends-nil}
@@ -17,10 +17,13 @@ use Rattle.amo_book.specs.declared.fault.AckFault.{AckFault}
 use Rattle.amo_book.specs.declared.fault.AckFault.TheVariants as ack_fault
 use Rattle.amo_book.specs.Calls.{put_answer, ack_answer}
 use Rattle.amo_book.specs.Pass.{PassState, Answer, Grown, event, mine}
+use Rattle.amo_journal.specs.declared.version.Version.{Version}
+use Rattle.amo_journal.specs.declared.version.Version.TheVariants.{One, Two}
 use Rattle.amo_live.specs.declared.fault.LiveFault.{LiveFault}
 use Rattle.amo_live.specs.declared.lines.Spelling.{Spelling}
 use Rattle.amo_live.specs.declared.lines.Word.TheVariants as word
 use Rattle.amo_live.specs.Host.{HostState, Did, Delivered, message_in}
+use Rattle.amo_live.specs.Service.{start_of}
 use Rattle.amo_live.specs.Shown.{IsMessageLine, IsShown, Shows, ShowsMore, Tells, word_line}
 
 -- no event, or one that shows nothing, or one that shows a line
@@ -63,16 +66,18 @@ did_shows : {L S : Type 0} (h g : HostState L S) (spelling : Spelling) (stream :
 did_shows h g spelling stream a None old new quiet did same = shows_none spelling h.pass g.pass old new (ap mine did.0) same
 did_shows h g spelling stream a (Some mode) old new quiet (side, happens) same = shows_quiet spelling h.pass g.pass old new (event h.pass.number side stream a reply.Done) happens.grown.mine_grew (quiet side) same
 
-pub start_shows : {L S : Type 0} (h g : HostState L S) (spelling : Spelling) (stream word : ℕ) (mode : Option Mode) (old new : List ℕ) → Did h g stream (act.Start word) mode → new ≡ old → ShowsMore spelling h.pass g.pass old new
-start_shows h g spelling stream word mode old new = did_shows h g spelling stream (act.Start word) mode old new (λ side. refl)
+pub start_shows : {L S : Type 0} (h g : HostState L S) (spelling : Spelling) (stream word : ℕ) (batch : Bool) (version : Version) (mode : Option Mode) (old new : List ℕ)
+    → Did h g stream (start_of batch version word) mode → new ≡ old → ShowsMore spelling h.pass g.pass old new
+start_shows h g spelling stream word batch One mode old new = did_shows h g spelling stream (act.Start word) mode old new (λ side. refl)
+start_shows h g spelling stream word false Two mode old new = did_shows h g spelling stream (act.Start word) mode old new (λ side. refl)
+start_shows h g spelling stream word true Two mode old new = did_shows h g spelling stream (act.Batch word) mode old new (λ side. refl)
 
 pub resend_shows : {L S : Type 0} (h g : HostState L S) (spelling : Spelling) (stream : ℕ) (mode : Option Mode) (old new : List ℕ) → Did h g stream act.Resend mode → new ≡ old → ShowsMore spelling h.pass g.pass old new
 resend_shows h g spelling stream mode old new = did_shows h g spelling stream act.Resend mode old new (λ side. refl)
 
-pub delivery_shows : {L S : Type 0} (h g : HostState L S) (spelling : Spelling) (newest : ℕ) (bytes : List ℕ) (word : ℕ) (did : Option (ℕ × Mode)) (old new : List ℕ) → Delivered h g newest bytes word did → new ≡ old
-    → ShowsMore spelling h.pass g.pass old new
-delivery_shows h g spelling newest bytes word None old new idle same = shows_none spelling h.pass g.pass old new (ap mine idle.0) same
-delivery_shows h g spelling newest bytes word (Some (stream, mode)) old new (p, spells, is, (side, happens)) same =
+pub delivery_shows : {L S : Type 0} (h g : HostState L S) (spelling : Spelling) (bytes : List ℕ) (word : ℕ) (did : Option (ℕ × Mode)) (old new : List ℕ) → Delivered h g bytes word did → new ≡ old → ShowsMore spelling h.pass g.pass old new
+delivery_shows h g spelling bytes word None old new idle same = shows_none spelling h.pass g.pass old new (ap mine idle.0) same
+delivery_shows h g spelling bytes word (Some (stream, mode)) old new (p, spells, is, (side, happens)) same =
     shows_quiet spelling h.pass g.pass old new (event h.pass.number side stream (act.Deliver p word) reply.Done) happens.grown.mine_grew refl same
 
 -- a put shows that the message was put, or nothing
@@ -133,10 +138,10 @@ module _ (spelling : Spelling) (v w : PassState) (stream : ℕ) (old new : List 
   unknown_shows ack_fault.NoStream grown is = shows_none spelling v w old new (ap mine grown) is
 
 -- a delivery, and then what follows it
-pub delivered_then : {L S : Type 0} (h g : HostState L S) (r : Result (Unit {0}) LiveFault) (spelling other : Spelling) (newest : ℕ) (bytes : List ℕ) (word : ℕ) (did : Option (ℕ × Mode)) (w x : PassState) (old new more : List ℕ)
-    → Delivered h g newest bytes word did → w ≡ g.pass → new ≡ old → other ≡ spelling → OnOk r (ShowsMore other w x new more) → OnOk r (ShowsMore spelling h.pass x old more)
-delivered_then h g r spelling other newest bytes word did w x old new more delivered pass same spelt then =
-    let first = delivery_shows h g spelling newest bytes word did old new delivered same in
+pub delivered_then : {L S : Type 0} (h g : HostState L S) (r : Result (Unit {0}) LiveFault) (spelling other : Spelling) (bytes : List ℕ) (word : ℕ) (did : Option (ℕ × Mode)) (w x : PassState) (old new more : List ℕ)
+    → Delivered h g bytes word did → w ≡ g.pass → new ≡ old → other ≡ spelling → OnOk r (ShowsMore other w x new more) → OnOk r (ShowsMore spelling h.pass x old more)
+delivered_then h g r spelling other bytes word did w x old new more delivered pass same spelt then =
+    let first = delivery_shows h g spelling bytes word did old new delivered same in
     let entered = shows_as spelling spelling h.pass g.pass h.pass w old new old new refl refl pass refl refl first in
     on_ok_weaker r (λ shows. shows_on spelling h.pass w x old new more entered (shows_as other spelling w x w x new more new more (sym spelt) refl refl refl refl shows)) then
 

@@ -11,50 +11,61 @@ use Rattle.amo_core.specs.declared.mode.Mode.{Mode}
 use Rattle.amo_core.specs.declared.reply.Reply.TheVariants.{Done}
 use Rattle.amo_text.specs.Message.{IsMessage}
 use Rattle.amo_book.specs.Charge.{ChargeState}
-use Rattle.amo_audit.specs.Journal.{HasAct, HasReply, IsPacketOf}
-use Rattle.amo_audit.proofs.Packets.{packet_spelt}
+use Rattle.amo_journal.specs.declared.version.Version.{Version}
+use Rattle.amo_journal.specs.declared.version.Version.TheVariants.{Two}
+use Rattle.amo_journal.specs.Version.{HasBatches, newest}
+use Rattle.amo_journal.specs.Journal.{HasAct, HasReply, IsPacketOf}
+use Rattle.amo_journal.proofs.Packets.{packet_spelt}
+use Rattle.amo_journal.proofs.Versions.{act_in_two}
 use Rattle.amo_book.specs.Pass.{Answer}
 use Rattle.amo_live.specs.declared.fault.LiveFault.{LiveFault}
 use Rattle.amo_live.specs.Host.{HostState, Did, DidAt, IsHostAct, Suits}
 
-pub start_suits : (c : ChargeState) (word : ℕ) → c.side ≡ Sender → word < 2 ^ 64 → Suits c (act.Start word)
-start_suits c word is small = (tt, subst (λ (s : End). HasAct s c.stream (act.Start word)) (sym is) small)
+pub start_suits : (version : Version) (c : ChargeState) (word : ℕ) → c.side ≡ Sender → word < 2 ^ 64 → Suits version c (act.Start word)
+start_suits version c word is small = (tt, subst (λ (s : End). HasAct version s c.stream (act.Start word)) (sym is) small)
 
-resends : (side : End) (stream : ℕ) → HasAct side stream act.Resend
-resends Sender stream = tt
-resends Receiver stream = tt
+pub batch_suits : (version : Version) (c : ChargeState) (word : ℕ) → HasBatches version → c.side ≡ Sender → word < 2 ^ 64 → Suits version c (act.Batch word)
+batch_suits version c word has is small = (tt, subst (λ (s : End). HasAct version s c.stream (act.Batch word)) (sym is) (has, small))
 
-pub resend_suits : (c : ChargeState) → Suits c act.Resend
-resend_suits c = (tt, resends c.side c.stream)
+resends : (version : Version) (side : End) (stream : ℕ) → HasAct version side stream act.Resend
+resends version Sender stream = tt
+resends version Receiver stream = tt
 
-crashes : (side : End) (stream : ℕ) → HasAct side stream act.Crash
-crashes Sender stream = tt
-crashes Receiver stream = tt
+pub resend_suits : (version : Version) (c : ChargeState) → Suits version c act.Resend
+resend_suits version c = (tt, resends version c.side c.stream)
 
-pub crash_suits : (c : ChargeState) → Suits c act.Crash
-crash_suits c = (tt, crashes c.side c.stream)
+crashes : (version : Version) (side : End) (stream : ℕ) → HasAct version side stream act.Crash
+crashes version Sender stream = tt
+crashes version Receiver stream = tt
 
-recovers : (side : End) (stream : ℕ) → HasAct side stream act.Recover
-recovers Sender stream = tt
-recovers Receiver stream = tt
+pub crash_suits : (version : Version) (c : ChargeState) → Suits version c act.Crash
+crash_suits version c = (tt, crashes version c.side c.stream)
 
-pub recover_suits : (c : ChargeState) → Suits c act.Recover
-recover_suits c = (tt, recovers c.side c.stream)
+recovers : (version : Version) (side : End) (stream : ℕ) → HasAct version side stream act.Recover
+recovers version Sender stream = tt
+recovers version Receiver stream = tt
 
-delivers : (side : End) (stream : ℕ) (p : OwnedPacket) (word : ℕ) → IsPacketOf stream p → word < 2 ^ 64 → HasAct side stream (act.Deliver p word)
-delivers Sender stream p word h small = (h, small)
-delivers Receiver stream p word h small = (h, small)
+pub recover_suits : (version : Version) (c : ChargeState) → Suits version c act.Recover
+recover_suits version c = (tt, recovers version c.side c.stream)
 
--- a packet that bytes spell in the first version, for a charge of its stream
-pub deliver_suits : (c : ChargeState) (bytes : List ℕ) (p : OwnedPacket) (word : ℕ) → IsBytes bytes → Spells 1 bytes p → p.stream ≡ c.stream → word < 2 ^ 64 → Suits c (act.Deliver p word)
-deliver_suits c bytes p word known spelt of small =
-    let whole = packet_spelt bytes p p known spelt refl in
-    (tt, delivers c.side c.stream p word (record { version = whole.0.1; spellable = whole.0.0; bytes = whole.0.2; stream = of }) small)
+delivers : (version : Version) (side : End) (stream : ℕ) (p : OwnedPacket) (word : ℕ) → IsPacketOf version stream p → word < 2 ^ 64 → HasAct version side stream (act.Deliver p word)
+delivers version Sender stream p word h small = (h, small)
+delivers version Receiver stream p word h small = (h, small)
+
+-- a packet that bytes spell, in a version of packets that has lines, for a charge of its stream
+pub deliver_suits : (version : Version) (c : ChargeState) (bytes : List ℕ) (p : OwnedPacket) (word : ℕ) → IsBytes bytes → Spells (newest version) bytes p → p.stream ≡ c.stream → word < 2 ^ 64 → Suits version c (act.Deliver p word)
+deliver_suits version c bytes p word known spelt of small =
+    let whole = packet_spelt (newest version) bytes p p known spelt refl in
+    (tt, delivers version c.side c.stream p word (record { version_is = spelt.version; spellable = whole.0.0; bytes = whole.0.1; stream = of }) small)
+
+-- a journal of version 2 has a line for each act of a side
+pub suits_two : (version : Version) (c : ChargeState) (a : Act) → Suits version c a → Suits Two c a
+suits_two version c a suits = (suits.0, act_in_two version c.side c.stream a suits.1)
 
 -- a host's acts are answered
 pub acts_done : (a : Act) → IsHostAct a → HasReply a Done
 acts_done (act.Put m) h = absurd h
-acts_done (act.Batch word) h = absurd h
+acts_done (act.Batch word) h = tt
 acts_done act.Get h = absurd h
 acts_done act.Ack h = absurd h
 acts_done (act.Start word) h = tt
@@ -79,14 +90,15 @@ did_at h g place stream a (Ok (Some mode)) within of did =
     subst (λ (n : ℕ). Did h g n a (Some mode)) (of there.0 there.1) (there.0.side, did there.0 there.1)
 
 -- a put has its line, whatever was replied
-pub put_spelt : (stream : ℕ) (m copy : List ℕ) (known : Answer) → IsMessage m → copy ≡ m → IfSome known (λ k. (x : List ℕ) → HasReply (act.Put x) k.0) → IfSome known (λ k. HasAct Sender stream (act.Put copy) × HasReply (act.Put copy) k.0)
-put_spelt stream m copy None short is replies = tt
-put_spelt stream m copy (Some (reply, position)) short is replies = (subst IsMessage (sym is) short, replies copy)
+pub put_spelt : (version : Version) (stream : ℕ) (m copy : List ℕ) (known : Answer) → IsMessage m → copy ≡ m → IfSome known (λ k. (x : List ℕ) → HasReply (act.Put x) k.0)
+    → IfSome known (λ k. HasAct version Sender stream (act.Put copy) × HasReply (act.Put copy) k.0)
+put_spelt version stream m copy None short is replies = tt
+put_spelt version stream m copy (Some (reply, position)) short is replies = (subst IsMessage (sym is) short, replies copy)
 
-pub get_spelt : (stream : ℕ) (known : Answer) → IfSome known (λ k. HasReply act.Get k.0) → IfSome known (λ k. HasAct Receiver stream act.Get × HasReply act.Get k.0)
-get_spelt stream None replies = tt
-get_spelt stream (Some (reply, position)) replies = (tt, replies)
+pub get_spelt : (version : Version) (stream : ℕ) (known : Answer) → IfSome known (λ k. HasReply act.Get k.0) → IfSome known (λ k. HasAct version Receiver stream act.Get × HasReply act.Get k.0)
+get_spelt version stream None replies = tt
+get_spelt version stream (Some (reply, position)) replies = (tt, replies)
 
-pub ack_spelt : (stream : ℕ) (known : Answer) → IfSome known (λ k. HasReply act.Ack k.0) → IfSome known (λ k. HasAct Sender stream act.Ack × HasReply act.Ack k.0)
-ack_spelt stream None replies = tt
-ack_spelt stream (Some (reply, position)) replies = (tt, replies)
+pub ack_spelt : (version : Version) (stream : ℕ) (known : Answer) → IfSome known (λ k. HasReply act.Ack k.0) → IfSome known (λ k. HasAct version Sender stream act.Ack × HasReply act.Ack k.0)
+ack_spelt version stream None replies = tt
+ack_spelt version stream (Some (reply, position)) replies = (tt, replies)

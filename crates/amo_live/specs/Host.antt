@@ -16,7 +16,9 @@ use Rattle.amo_world.specs.History.{stream_after}
 use Rattle.amo_book.specs.Book.{BookState, Each}
 use Rattle.amo_book.specs.Charge.{ChargeState, IsChargeOf}
 use Rattle.amo_book.specs.Pass.{PassState, Answer, GrownBy, automaton_after, event, mine}
-use Rattle.amo_audit.specs.Journal.{HasAct}
+use Rattle.amo_journal.specs.declared.version.Version.{Version}
+use Rattle.amo_journal.specs.Version.{newest}
+use Rattle.amo_journal.specs.Journal.{HasAct}
 use Rattle.amo_live.specs.Noted.{JournalState, IsSameJournal, Holds, Begins}
 
 -- its book, with one pass and the charges of one side; its link, the packets that are to leave, and its journal
@@ -76,17 +78,16 @@ abbrev pub Did : {L S : Type 0} → HostState L S → HostState L S → ℕ → 
 Did h g stream a None = IsIdle h g
 Did h g stream a (Some mode) = (side : End) × Happens h g side stream a mode
 
--- the acts of a host, which starts no batches
+-- the acts of a host
 abbrev pub IsHostAct : Act → Type 0
 IsHostAct (act.Put m) = ⊥
-IsHostAct (act.Batch word) = ⊥
 IsHostAct act.Get = ⊥
 IsHostAct act.Ack = ⊥
 IsHostAct _ = Unit {0}
 
--- the charge's side has this act of a host's
-abbrev pub Suits : ChargeState → Act → Type 0
-Suits c a = IsHostAct a × HasAct c.side c.stream a
+-- the charge's side has this act of a host's, and a journal of this version a line for it
+abbrev pub Suits : Version → ChargeState → Act → Type 0
+Suits version c a = IsHostAct a × HasAct version c.side c.stream a
 
 -- this side of so many streams, from stream k on
 abbrev pub sides_from : End → ℕ → ℕ → List (End × ℕ)
@@ -115,11 +116,12 @@ abbrev pub first_events : ℕ → List (End × ℕ) → ℕ → List Event
 first_events pass sides zero = []
 first_events pass sides (suc n) = comes_back pass sides []
 
--- what came of a datagram with this word: the packet that it spells was delivered on its stream, or nothing happened
-abbrev pub Delivered : {L S : Type 0} → HostState L S → HostState L S → ℕ → List ℕ → ℕ → Option (ℕ × Mode) → Type 0
-Delivered h g newest bytes word None = IsIdle h g
-Delivered h g newest bytes word (Some (stream, mode)) =
-    (p : OwnedPacket) × Spells newest bytes p × (p.stream ≡ stream) × ((side : End) × Happens h g side stream (act.Deliver p word) mode)
+-- what came of a datagram with this word: the packet that it spells, and for which the journal has a line, was delivered on its stream, or nothing
+-- happened
+abbrev pub Delivered : {L S : Type 0} → HostState L S → HostState L S → List ℕ → ℕ → Option (ℕ × Mode) → Type 0
+Delivered h g bytes word None = IsIdle h g
+Delivered h g bytes word (Some (stream, mode)) =
+    (p : OwnedPacket) × Spells (newest h.journal.version) bytes p × (p.stream ≡ stream) × ((side : End) × Happens h g side stream (act.Deliver p word) mode)
 
 -- the message that a get answered, if it did
 abbrev pub message_in : Answer → Option (List ℕ)
@@ -143,10 +145,10 @@ Puts v w stream message (Some m) = (m ≡ message) × (puts_in (mine w) ≡ puts
 
 -- given what sinks were written
 module _ {L S : Type 0} (written : S → Option (List ℕ)) where
-  -- the journal was handed the line of each event that the host has made, whole and in their order
+  -- the journal was handed its heading, if it is new, and the line of each event that the host has made, whole and in their order
   abbrev pub IsNoted : HostState L S → Type 0
   IsNoted h = Holds written h.journal (mine h.pass)
 
-  -- the journal was handed a beginning of them: of what lacks nothing has left, and no call goes on from here
+  -- the journal was handed a beginning of that: of what lacks nothing has left, and no call goes on from here
   abbrev pub IsBegun : HostState L S → Type 0
   IsBegun h = Begins written h.journal (mine h.pass)

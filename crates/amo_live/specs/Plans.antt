@@ -11,13 +11,13 @@ microseconds seconds = option_map (λ s. s * 1000000) seconds
 -- it puts messages until no more come, and waits for all that is on its way
 abbrev pub sends : SendSettings → Plan
 sends s = record {
-  setup = record { side = Sender; streams = s.host.streams; tick = s.host.tick; each = s.each; most = 18446744073709551615; spelling = record { hex = s.hex; json = s.host.json } };
+  setup = record { side = Sender; streams = s.host.streams; tick = s.host.tick; each = s.each; batch = s.batch; most = 18446744073709551615; spelling = record { hex = s.hex; json = s.host.json } };
   limits = record { count = None; wait = microseconds s.host.wait; lingers = false; sync = s.host.sync };
 }
 
 -- it gets messages, no more than it was told, and waits a moment at its end
 abbrev pub receives : ReceiveSettings → Plan
 receives r = record {
-  setup = record { side = Receiver; streams = r.host.streams; tick = r.host.tick; each = false; most = unwrap_or r.count 18446744073709551615; spelling = record { hex = false; json = r.host.json } };
+  setup = record { side = Receiver; streams = r.host.streams; tick = r.host.tick; each = false; batch = false; most = unwrap_or r.count 18446744073709551615; spelling = record { hex = false; json = r.host.json } };
   limits = record { count = r.count; wait = microseconds r.host.wait; lingers = true; sync = r.host.sync };
 }

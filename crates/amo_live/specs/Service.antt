@@ -1,10 +1,17 @@
 -- A host at work.
-use Rattle.std.specs.Prelude.{◌≡◌, ℕ, List, length}
+use Rattle.std.specs.Prelude.{◌≡◌, ℕ, Bool, false, if◌then◌else◌, List, length}
+use Rattle.amo_object.specs.declared.step.End.{End}
+use Rattle.amo_object.specs.declared.step.End.TheVariants.{Sender, Receiver}
+use Rattle.amo_core.specs.declared.act.Act.{Act}
+use Rattle.amo_core.specs.declared.act.Act.TheVariants as act
+use Rattle.amo_journal.specs.declared.version.Version.{Version}
+use Rattle.amo_journal.specs.declared.version.Version.TheVariants.{One, Two}
 use Rattle.amo_book.specs.Pass.{PassState, mine}
 use Rattle.amo_live.specs.Host.{puts_in}
 use Rattle.amo_live.specs.Words.{WordSet}
 use Rattle.amo_live.specs.declared.lines.Spelling.{Spelling}
 use Rattle.amo_live.specs.declared.service.Service.{Service}
+use Rattle.amo_live.specs.declared.service.Setup.{Setup}
 
 -- how many streams it has, from 1 on
 abbrev pub streams_of : {L S W : Type 0} → Service L S W → ℕ
@@ -29,3 +36,20 @@ PutsNone v w = puts_in (mine w) ≡ puts_in (mine v)
 -- how it spells what it shows
 abbrev pub spelling_of : {L S W : Type 0} → Service L S W → Spelling
 spelling_of service = service.setup.spelling
+
+-- the version of a new journal of this side: a sender's tells of batches where it is to start some, a receiver's always
+abbrev pub version_at : End → Bool → Version
+version_at Sender batch = if batch then Two else One
+version_at Receiver batch = Two
+
+abbrev pub new_version : Setup → Version
+new_version setup = version_at setup.side setup.batch
+
+-- whether messages that wait travel together: where it is so wanted, and a journal of this version has lines for it
+abbrev pub starts_batches : Bool → Version → Bool
+starts_batches batch One = false
+starts_batches batch Two = batch
+
+-- the act by which a handshake begins under this word
+abbrev pub start_of : Bool → Version → ℕ → Act
+start_of batch version word = if starts_batches batch version then act.Batch word else act.Start word

@@ -1,6 +1,8 @@
 //! The acts of a host: each is an event, then its line in the journal, then a packet that is to leave.
 ghost use Rattle.std.specs.Prelude.{◌≡◌, ◌<◌, ◌∷◌, IfOk, IfErr, OnOk, OnErr, Some, length, slice_get};
 ghost use Rattle.amo_core.specs.declared.act.Act.TheVariants as act;
+ghost use Rattle.amo_journal.specs.declared.version.Version.TheVariants.{Two};
+ghost use Rattle.amo_journal.specs.Version.{HasBatches};
 ghost use Rattle.amo_book.specs.Charge.{ChargeState, IsChargeOf};
 ghost use Rattle.amo_book.specs.Drive.{Driven, Unchanged};
 ghost use Rattle.amo_book.specs.Pass.{mine};
@@ -12,7 +14,7 @@ use amo_book::{Book, Charge, Done, DriveFault, Pass};
 use amo_core::{Act, Mode, Reply};
 use amo_net::Link;
 use amo_object::End;
-use amo_packet::{Body, MAX_PACKET, Packet, read_1};
+use amo_packet::{Body, MAX_PACKET, Packet};
 use amo_text::Sink;
 use std::alloc::Global;
 
@@ -29,6 +31,25 @@ impl<L: Link, S: Sink> Host<L, S> {
         match self.place_of(stream) {
             Some(place) if self.charges[place].side() == End::Sender => {
                 self.perform(place, Act::Start(word))
+            }
+            _ => Ok(None),
+        }
+    }
+
+    /// Begins a handshake on a stream under this word for the messages that wait, at most four, which travel together, if its sender is at rest
+    /// and one waits. Answers the kind of its mode then.
+    #[tactic(auto, using(crate::proofs::Suiting::batch_suits))]
+    pub fn start_batch(&mut self, stream: u32, word: u64) -> Result<Option<Mode>, LiveFault>
+        requires noted { IsNoted S.written self.old }
+        requires batches { HasBatches self.old.journal.version }
+        ensures did { IfOk result (Did self.old self.new stream (act.Batch word)) }
+        ensures noted { OnOk result (IsNoted S.written self.new) }
+        ensures begun { OnErr result (IsBegun S.written self.new) }
+        ensures stays { Stays self.old self.new }
+    {
+        match self.place_of(stream) {
+            Some(place) if self.charges[place].side() == End::Sender => {
+                self.perform(place, Act::Batch(word))
             }
             _ => Ok(None),
         }
@@ -79,16 +100,16 @@ impl<L: Link, S: Sink> Host<L, S> {
         }
     }
 
-    /// Delivers the packet that a datagram is, with this word for an accept, if it is one for a side of this host. Answers its stream, and the
-    /// kind of the side's mode then. It knows the packets of the first version, which have a line in a journal.
+    /// Delivers the packet that a datagram is, with this word for an accept, if it is one for a side of this host, and the journal has a line for
+    /// that. Answers its stream, and the kind of the side's mode then.
     pub fn deliver(&mut self, bytes: &[u8], word: u64) -> Result<Option<(u32, Mode)>, LiveFault>
         requires { IsNoted S.written self.old }
-        ensures delivered { IfOk result (Delivered self.old self.new 1 bytes.now word) }
+        ensures delivered { IfOk result (Delivered self.old self.new bytes.now word) }
         ensures noted { OnOk result (IsNoted S.written self.new) }
         ensures begun { OnErr result (IsBegun S.written self.new) }
         ensures stays { Stays self.old self.new }
     {
-        let Ok(packet) = read_1(bytes) else {
+        let Ok(packet) = self.read(bytes) else {
             return Ok(None);
         };
         let stream = packet.stream;
@@ -128,7 +149,7 @@ impl<L: Link, S: Sink> Host<L, S> {
     fn manage(&mut self, place: usize, act: Act) -> Result<(), LiveFault>
         requires noted { IsNoted S.written self.old }
         requires place { place < length self.old.charges }
-        requires suits { (c : ChargeState) → slice_get self.old.charges place ≡ Some c → Suits c act }
+        requires suits { (c : ChargeState) → slice_get self.old.charges place ≡ Some c → Suits self.old.journal.version c act }
         ensures did { OnOk result ((c : ChargeState) → slice_get self.old.charges place ≡ Some c → mine self.new.pass ≡ done self.old.pass.number c.side c.stream act ∷ mine self.old.pass) }
         ensures noted { OnOk result (IsNoted S.written self.new) }
         ensures begun { OnErr result (IsBegun S.written self.new) }
@@ -144,7 +165,7 @@ impl<L: Link, S: Sink> Host<L, S> {
     fn perform(&mut self, place: usize, act: Act) -> Result<Option<Mode>, LiveFault>
         requires noted { IsNoted S.written self.old }
         requires place { place < length self.old.charges }
-        requires suits { (c : ChargeState) → slice_get self.old.charges place ≡ Some c → Suits c act }
+        requires suits { (c : ChargeState) → slice_get self.old.charges place ≡ Some c → Suits self.old.journal.version c act }
         ensures did { IfOk result (λ mode. (c : ChargeState) → slice_get self.old.charges place ≡ Some c → DidAt self.old self.new c.side c.stream act mode) }
         ensures noted { OnOk result (IsNoted S.written self.new) }
         ensures begun { OnErr result (IsBegun S.written self.new) }
@@ -188,7 +209,7 @@ fn is_for(side: End, packet: &Packet<'_>) -> bool {
     }
 }
 
-/// Does this act at the side of a charge, by one call of the book.
+/// Does this act at the side of a charge, by one call of the book. A journal of version 2 has a line for each act of a side.
 fn drive(
     alloc: Global,
     book: &Book,
@@ -198,19 +219,19 @@ fn drive(
     out: &mut [u8; MAX_PACKET],
 ) -> Result<Done, DriveFault>
     requires book { (pass.old.book ≡ book.now.id) × IsChargeOf book.now.id book.now.sides charge.old }
-    requires suits { Suits charge.old act.now }
+    requires suits { Suits Two charge.old act.now }
     ensures driven { IfOk result (Driven pass.old pass.new charge.old charge.new act.now out.old out.new) }
     ensures unchanged { IfErr result (λ _. Unchanged pass.old pass.new charge.old charge.new out.old out.new) }
 {
     match act {
         Act::Start(word) => book.start(pass, charge, *word, out),
+        Act::Batch(word) => book.start_batch(pass, charge, *word, out),
         Act::Resend => book.resend(pass, charge, out),
         Act::Deliver(packet, word) => {
             book.deliver(alloc, pass, charge, &packet.as_packet(), *word, out)
         }
         Act::Crash => book.crash(pass, charge),
         Act::Recover => book.recover(pass, charge),
-        Act::Batch(_) => unreachable!(),
         Act::Put(_) => unreachable!(),
         Act::Get => unreachable!(),
         Act::Ack => unreachable!(),

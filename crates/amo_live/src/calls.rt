@@ -4,7 +4,7 @@ ghost use Rattle.amo_object.specs.declared.step.End.TheVariants as end;
 ghost use Rattle.amo_packet.specs.Message.{IsShort};
 ghost use Rattle.amo_text.specs.Message.{IsMessage};
 ghost use Rattle.amo_core.specs.declared.act.Act.TheVariants as act;
-ghost use Rattle.amo_audit.specs.Journal.{HasReply};
+ghost use Rattle.amo_journal.specs.Journal.{HasReply};
 ghost use Rattle.amo_book.specs.Calls.{put_answer, get_answer, ack_answer};
 ghost use Rattle.amo_book.specs.Fault.{put_message};
 ghost use Rattle.amo_book.specs.Pass.{Answer, Grown};

@@ -1,7 +1,7 @@
 //! Why a live host ends.
 ghost use Rattle.std.specs.Prelude.{◌≡◌};
 
-use amo_audit::JournalFault;
+use amo_journal::JournalFault;
 use std::alloc::AllocError;
 use std::io;
 use std::io::ErrorKind;
@@ -52,12 +52,15 @@ pub enum OpenFault {
     /// This line, counted from 1, is the first that is no line.
     #[error("the journal's line {0} is malformed")]
     Malformed(u64),
-    /// This line, counted from 1, has a number that is not its line less 1.
+    /// This line, counted from 1, has a number that is not how many events are before it.
     #[error("the journal's line {0} has another number")]
     Gap(u64),
     /// This line, counted from 1, is an event of the other side.
     #[error("the journal's line {0} is of the other side")]
     OtherSide(u64),
+    /// Starts of batches are wanted, and the journal is of version 1, which has no lines for them.
+    #[error("the journal is of version 1, which tells of no batches: begin new journals at both hosts, or leave out --batch")]
+    NoBatches,
     /// The machine's fault: memory was refused.
     #[error("out of memory")]
     NoMemory,

@@ -1,15 +1,19 @@
 //! A live host: how it opens, hears and sends.
 ghost use Rattle.std.specs.Prelude.{◌≡◌, ◌<◌, ◌≤◌, [], Some, IfOk, IfSome, length, slice_get};
+ghost use Rattle.amo_packet.specs.Packet.{body_of, packet_of};
+ghost use Rattle.amo_packet.specs.Grammar.{CanBeWritten, Spells};
+ghost use Rattle.amo_journal.specs.Version.{newest};
 ghost use Rattle.amo_book.specs.Charge.{ChargeState};
 ghost use Rattle.amo_live.specs.Host.{IsNoted, IsOpened, sides_from};
-ghost use Rattle.amo_live.specs.Noted.{opened_at};
+ghost use Rattle.amo_live.specs.Noted.{Holds};
 
 use crate::outbox::Outbox;
 use crate::{Durable, Journal, LiveFault};
 use amo_book::{Book, Charge, OpenFault, Pass};
+use amo_journal::Version;
 use amo_net::{Link, MAX_DATAGRAM};
 use amo_object::End;
-use amo_packet::MAX_PACKET;
+use amo_packet::{MAX_PACKET, Packet, ReadFault, read, read_1};
 use amo_text::Sink;
 use std::alloc::{AllocError, Global};
 use std::marker::Model;
@@ -43,8 +47,8 @@ impl<L, S> Model for Host<L, S> {
 }
 
 impl<L: Link + Drop, S: Sink + Drop> Host<L, S> {
-    /// A host of this side of the streams from 1 on, 1 to 256 of them, that has made no event. Its journal is one of which nothing was
-    /// written yet.
+    /// A host of this side of the streams from 1 on, 1 to 256 of them, that has made no event. Its journal is one of which no line was
+    /// written yet, but the heading was, if it is new.
     #[tactic(auto, using(crate::proofs::Opens::may_open))]
     pub fn open(
         alloc: Global,
@@ -54,7 +58,7 @@ impl<L: Link + Drop, S: Sink + Drop> Host<L, S> {
         journal: Journal<S>,
     ) -> Result<Host<L, S>, LiveFault>
         requires streams { (1 ≤ streams) × (streams ≤ 256) }
-        requires unwritten { journal ≡ opened_at journal.sink journal.next }
+        requires unwritten { Holds S.written journal [] }
         ensures opened { IfOk result (IsOpened side streams link journal) }
         ensures noted { IfOk result (IsNoted S.written) }
     {
@@ -98,6 +102,24 @@ impl<L: Link, S: Sink> Host<L, S> {
         ensures { self.new ≡ record self.old { link = self.new.link; outbox = [] } }
     {
         self.outbox.send(&mut self.link)
+    }
+
+    /// The version of the journal, which says which events this host can note.
+    pub fn version(&self) -> Version
+        ensures { result ≡ self.now.journal.version }
+    {
+        self.journal.version()
+    }
+
+    /// The packet that a datagram is, if the journal has a line for its delivery.
+    pub fn read<'a>(&self, bytes: &'a [u8]) -> Result<Packet<'a>, ReadFault>
+        ensures found { IfOk result (λ p. Spells (newest self.now.journal.version) bytes.now (packet_of p)) }
+        ensures fits { IfOk result (λ p. CanBeWritten (body_of p.body)) }
+    {
+        match self.version() {
+            Version::One => read_1(bytes),
+            Version::Two => read(bytes),
+        }
     }
 
     /// The place of the charge of this stream, if there is one.

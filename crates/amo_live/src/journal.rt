@@ -1,12 +1,12 @@
 //! The journal of a live host.
-ghost use Rattle.std.specs.Prelude.{◌≡◌, List, OnOk, OnErr};
+ghost use Rattle.std.specs.Prelude.{◌≡◌, [], List, IfOk, OnOk, OnErr};
 ghost use Rattle.amo_world.specs.declared.event.Event.{Event};
-ghost use Rattle.amo_audit.specs.Journal.{CanSpell};
-ghost use Rattle.amo_live.specs.Noted.{Adds, AddsFront, Holds, IsSameJournal, opened_at};
+ghost use Rattle.amo_journal.specs.Journal.{CanSpell};
+ghost use Rattle.amo_live.specs.Noted.{Adds, AddsFront, Holds, IsSameJournal, beginning, going_on};
 
 use crate::LiveFault;
-use amo_audit::write_line;
-use amo_text::{Sink, SinkFault};
+use amo_journal::{Version, write_line};
+use amo_text::{Sink, SinkFault, write_all};
 use amo_world::Event;
 use std::alloc::Global;
 use std::marker::Model;
@@ -21,53 +21,99 @@ pub trait Durable: Sink {
         ensures { Keeps (Self.written self.old) (Self.written self.new) };
 }
 
-/// A journal that goes on. Contracts see its sink and the number of its next line, now and when it was opened.
+/// A journal that goes on. Contracts see its version, its sink and the number of its next line; and of when it was opened its sink, the number
+/// of the first line to come, and what was to stand in front of that.
 #[derive(Drop)]
 pub struct Journal<S> {
+    version: Version,
     sink: S,
     // A line is made whole here before it is written.
     room: Vec<u8>,
     next: u64,
     opened: Snapshot<S>,
     first: Snapshot<u64>,
+    is_new: Snapshot<bool>,
 }
 
 impl<S> Model for Journal<S> {
-    ghost use Rattle.amo_live.specs.Noted.{JournalState};
+    ghost use Rattle.amo_live.specs.Noted.{JournalState, front_of};
 
     ghost Value = { JournalState S };
 
-    ghost view = { λ j. record { sink = j.sink; next = j.next; opened = j.opened.value; first = j.first.value } };
+    ghost view = { λ j. record { version = j.version; sink = j.sink; next = j.next; opened = j.opened.value; first = j.first.value; front = front_of j.is_new.value j.version } };
+}
+
+impl<S: Sink + Drop> Journal<S> {
+    /// A new journal of this version in this sink, where there is nothing yet. Its heading is written, whole, before anything else.
+    ///
+    /// Where that fails a beginning of the heading was written, and the journal can only be begun again.
+    pub fn begin(alloc: Global, sink: S, version: Version) -> Result<Journal<S>, LiveFault>
+        ensures begun { IfOk result (IsSameJournal (beginning version sink)) }
+        ensures headed { IfOk result (λ journal. Holds S.written journal []) }
+    {
+        let opened = Snapshot::of(&sink);
+        let first = Snapshot::of(&0);
+        let is_new = Snapshot::of(&true);
+        let mut sink = sink;
+        let Ok(()) = write_all(&mut sink, version.heading()) else {
+            return Err(LiveFault::Journal);
+        };
+        Ok(Journal {
+            version,
+            sink,
+            room: Vec::new(alloc),
+            next: 0,
+            opened,
+            first,
+            is_new,
+        })
+    }
 }
 
 impl<S: Sink> Journal<S> {
-    /// A journal that goes on in this sink behind so many lines.
-    pub fn new(alloc: Global, sink: S, lines: u64) -> Journal<S>
-        ensures { result ≡ opened_at sink lines }
+    /// A journal that goes on in this sink, in its version and behind so many lines.
+    pub fn go_on(alloc: Global, sink: S, version: Version, lines: u64) -> Journal<S>
+        ensures { result ≡ going_on version sink lines }
     {
         let opened = Snapshot::of(&sink);
         let first = Snapshot::of(&lines);
+        let is_new = Snapshot::of(&false);
         Journal {
+            version,
             sink,
             room: Vec::new(alloc),
             next: lines,
             opened,
             first,
+            is_new,
         }
+    }
+
+    /// Its version, which says which events have a line.
+    pub fn version(&self) -> Version
+        ensures { result ≡ self.now.version }
+    {
+        self.version
     }
 
     /// Writes the line of this event, whole, with the next number.
     ///
     /// Where that fails a beginning of the line was written, and the journal can only be opened again.
     pub fn note(&mut self, event: &Event) -> Result<(), LiveFault>
-        requires { CanSpell event.now }
+        requires { CanSpell self.old.version event.now }
         ensures noted { OnOk result (Adds S.written self.old self.new event.now) }
         ensures begun { OnErr result (AddsFront S.written self.old self.new event.now) }
     {
         if self.next == u64::MAX {
             return Err(LiveFault::Full);
         }
-        write_line(&mut self.room, self.next, event, &mut self.sink)?;
+        write_line(
+            &mut self.room,
+            self.version,
+            self.next,
+            event,
+            &mut self.sink,
+        )?;
         self.next += 1;
         Ok(())
     }

@@ -10,6 +10,10 @@
 //! client. A crash of the process forgets all but the journal. What had left before is in there: so what the peer and the clients
 //! were shown is explained by the journals of both hosts, which `amo audit` merges.
 //!
+//! **A journal has a version**, which its first line tells. A new one of a receiver is of version 2, and so is one of a sender that starts batches:
+//! its heading is written before anything else. One that is there already goes on in its own version, and that decides which packets the host
+//! reads: what has no line in its journal does not happen.
+//!
 //! The contracts say it so. Each call that makes an event asks that the journal has all lines so far, and gives that back with
 //! Ok. It never touches the link: what its row emits is added to the packets that are to leave. [`Host::send`], which hands them to the
 //! link, asks for the same. Where a line fails the call answers a fault, and says only that a beginning of the lines was written: no
@@ -41,6 +45,7 @@ mod timer;
 mod turns;
 mod words;
 
+pub use amo_journal::Version;
 pub use disk::{Disk, scan_all};
 pub use fault::{LiveFault, OpenFault, ProcessFault, ServeFault};
 pub use host::Host;

@@ -1,7 +1,7 @@
 //! Notes what calls of a book answered.
 ghost use Rattle.std.specs.Prelude.{◌≡◌, ◌<◌, IfOk, IfSome, OnOk, OnErr};
 ghost use Rattle.amo_packet.specs.Stream.{IsStream};
-ghost use Rattle.amo_audit.specs.Journal.{HasAct, HasReply};
+ghost use Rattle.amo_journal.specs.Journal.{HasAct, HasReply};
 ghost use Rattle.amo_book.specs.Pass.{PassState, Grown, mine};
 ghost use Rattle.amo_live.specs.Noted.{Begins, Holds, IsSameJournal};
 
@@ -23,7 +23,7 @@ pub fn note_answer<S: Sink>(
 ) -> Result<Option<(Reply, u64)>, LiveFault>
     requires pass { pass < 64 }
     requires stream { IsStream stream }
-    requires spelt { IfSome known (λ k. HasAct side stream act × HasReply act k.0) }
+    requires spelt { IfSome known (λ k. HasAct journal.old.version side stream act × HasReply act k.0) }
     ensures back { IfOk result (λ back. back ≡ known) }
     ensures noted { OnOk result ((v w : PassState) → v.number ≡ pass → Grown v w side stream act known → Holds S.written journal.old (mine v) → Holds S.written journal.new (mine w)) }
     ensures begun { OnErr result ((v w : PassState) → v.number ≡ pass → Grown v w side stream act known → Holds S.written journal.old (mine v) → Begins S.written journal.new (mine w)) }

@@ -31,6 +31,7 @@ impl Plan {
                 streams: host.streams,
                 tick: u64::from(host.tick),
                 each: settings.each,
+                batch: settings.batch,
                 most: u64::MAX,
                 spelling: Spelling {
                     hex: settings.hex,
@@ -58,6 +59,7 @@ impl Plan {
                 streams: host.streams,
                 tick: u64::from(host.tick),
                 each: false,
+                batch: false,
                 most: settings.count.unwrap_or(u64::MAX),
                 spelling: Spelling {
                     hex: false,

@@ -1,15 +1,18 @@
 //! A whole process, from the start of its host to its end.
-ghost use Rattle.std.specs.Prelude.{◌≡◌, ◌≤◌, IfOk};
+ghost use Rattle.std.specs.Prelude.{◌≡◌, ◌≤◌, [], IfOk};
 ghost use Rattle.amo_book.specs.Pass.{mine};
 ghost use Rattle.amo_live.specs.Host.{IsNoted, first_events, sides_from};
-ghost use Rattle.amo_live.specs.Service.{streams_of, words_of};
+ghost use Rattle.amo_live.specs.Noted.{Holds, IsSameJournal, opening};
+ghost use Rattle.amo_live.specs.Service.{new_version, streams_of, words_of};
 
 use crate::{
     Desk, Durable, Ended, FreshWords, Host, Input, Journal, Limits, LiveFault, Plan, ProcessFault,
     Scan, Service, Setup, serve,
 };
+use amo_journal::Version;
 use amo_net::Link;
 use amo_object::End;
+use amo_text::Sink;
 use amo_word::{ChaChaWords, Words};
 use std::alloc::Global;
 use std::io::{Read, Write};
@@ -18,7 +21,8 @@ use std::random::RandomSource;
 use std::rt::Clock;
 
 /// Runs a host of 1 to 256 streams over this link until its clients are done. The system waits for the link by this number. Lines come
-/// from the reader, and answers go to the output. The journal goes on in the sink, of which this was read.
+/// from the reader, and answers go to the output. The journal goes on in the sink, of which this was read. It is refused where batches are to
+/// be started for which it has no lines.
 pub fn run_process<
     R: AllocGlobal + Clock + Eprint + RandomSource,
     I: Read + AsRawFd + Drop,
@@ -37,6 +41,7 @@ pub fn run_process<
 ) -> Result<Ended, ProcessFault>
     requires { (1 ≤ plan.setup.streams) × (plan.setup.streams ≤ 256) }
 {
+    scan.admit(plan.setup.batch)?;
     let alloc = rt.alloc();
     let words = ChaChaWords::new(seed(rt)?, 0);
     let desk = Desk {
@@ -87,8 +92,8 @@ fn work<
     }
 }
 
-/// A host over this link, with a journal of which this was read. Where it has a line, it is noted that each stream's side crashed and is
-/// up again.
+/// A host over this link, with a journal of which this was read. Where it has a line of an event, it is noted that each stream's side crashed
+/// and is up again. Where it has no line at all it is begun: its heading is written, before anything else.
 pub fn start<L: Link + Drop, S: Durable + Drop, W: Words + Drop>(
     alloc: Global,
     setup: Setup,
@@ -98,21 +103,39 @@ pub fn start<L: Link + Drop, S: Durable + Drop, W: Words + Drop>(
     words: W,
 ) -> Result<Service<L, S, W>, LiveFault>
     requires { (1 ≤ setup.streams) × (setup.streams ≤ 256) }
-    // The journal has all lines so far, and goes on where it was read to the end. What it was handed first tells of a crash of each
-    // side and its recovery, where it has a line, and else of nothing.
+    // The journal has all lines so far. It goes on in its version where it was read to the end, or begins with its heading. What it was handed
+    // first tells of a crash of each side and its recovery, where it has a line of an event, and else of nothing.
     ensures noted { IfOk result (λ service. IsNoted S.written service.host) }
-    ensures journal { IfOk result (λ service. (service.host.journal.opened ≡ sink) × (service.host.journal.first ≡ scan.lines)) }
+    ensures journal { IfOk result (λ service. IsSameJournal (opening (new_version setup) scan.version scan.lines sink) service.host.journal) }
     // It has the streams that it was set up for, and none of the words that the journal tells of is used again.
     ensures streams { IfOk result (λ service. streams_of service ≡ setup.streams) }
     ensures words { IfOk result (λ service. words_of service ≡ scan.used) }
     ensures back { IfOk result (λ service. mine service.host.pass ≡ first_events service.host.pass.number (sides_from setup.side 1 setup.streams) scan.lines) }
 {
     let lines = scan.lines();
+    let journal = open_journal(alloc, sink, scan.version(), lines, setup.new_version())?;
     let words = FreshWords::new(words, scan.into_used());
-    let journal = Journal::new(alloc, sink, lines);
     let mut host = Host::open(alloc, setup.side, setup.streams, link, journal)?;
     if lines > 0 {
         host.come_back()?;
     }
     Ok(Service::new(alloc, host, words, setup)?)
+}
+
+/// The journal in a sink that was read: it goes on in the version that its lines tell, behind so many. Where none tells it, it is new, and begins
+/// in this version.
+fn open_journal<S: Sink + Drop>(
+    alloc: Global,
+    sink: S,
+    known: Option<Version>,
+    lines: u64,
+    version: Version,
+) -> Result<Journal<S>, LiveFault>
+    ensures opened { IfOk result (IsSameJournal (opening version known lines sink)) }
+    ensures headed { IfOk result (λ journal. Holds S.written journal []) }
+{
+    match known {
+        Some(known) => Ok(Journal::go_on(alloc, sink, known, lines)),
+        None => Journal::begin(alloc, sink, version),
+    }
 }

@@ -1,12 +1,13 @@
-//! Reads a journal in pieces: where it ends, and which words it has.
-ghost use Rattle.std.specs.Prelude.{◌≡◌, ◌<◌, ◌++◌, ◌∷◌, ◌⊎◌, ◌↔◌, ℕ, List, [], IfErr, IsOk, IsTrue, OnOk};
+//! Reads a journal in pieces: of which version it is, where it ends, and which words it has.
+ghost use Rattle.std.specs.Prelude.{◌≡◌, ◌≢◌, ◌+◌, ◌++◌, ◌∷◌, ◌⊎◌, ◌↔◌, ℕ, List, [], length, IfErr, IfSome, IsOk, IsSome, IsTrue, OnOk, true, unwrap_or};
 ghost use Rattle.amo_text.specs.Line.{Lacks};
-ghost use Rattle.amo_live.specs.Scan.{BeginsLine, Scanned};
+ghost use Rattle.amo_journal.specs.Version.{heading};
+ghost use Rattle.amo_live.specs.Scan.{BeginsHeading, BeginsJournal, BeginsLine, IsTooLong, Scanned};
 ghost use Rattle.amo_live.specs.Words.{with_act};
 
 use crate::{OpenFault, UsedWords};
-use amo_audit::read_line;
 use amo_core::Act;
+use amo_journal::{Version, read_line};
 use amo_object::End;
 use amo_packet::MAX_PACKET;
 use amo_text::next_line;
@@ -18,12 +19,13 @@ use std::marker::Model;
 /// a side, a stream, `deliver`, a word and `done`, have 57 bytes at most, and there are 7 spaces.
 const LONGEST_LINE: usize = 2 * MAX_PACKET + 64;
 
-/// What was read so far. Contracts see the side that each line is of, how many lines and bytes are whole, the bytes behind them, and the words
-/// that the lines may have used up.
+/// What was read so far. Contracts see the side that each line is of, the version where a line told it, how many lines of events and how many
+/// bytes are whole, the bytes behind them, and the words that the lines may have used up.
 #[derive(Drop)]
 pub struct Scan {
     alloc: Global,
     side: End,
+    version: Option<Version>,
     lines: u64,
     whole: u64,
     rest: Vec<u8>,
@@ -39,7 +41,7 @@ impl Model for Scan {
 
     ghost coded = { Prim.hlevel (codes, words_code) };
 
-    ghost view = { λ s. record { side = s.side; lines = s.lines; whole = s.whole; rest = s.rest.items; used = s.used } };
+    ghost view = { λ s. record { side = s.side; version = s.version; lines = s.lines; whole = s.whole; rest = s.rest.items; used = s.used } };
 }
 
 impl Scan {
@@ -52,6 +54,7 @@ impl Scan {
         Scan {
             alloc,
             side,
+            version: None,
             lines: 0,
             whole: 0,
             rest: Vec::new(alloc),
@@ -59,14 +62,21 @@ impl Scan {
         }
     }
 
-    /// How many whole lines there are.
+    /// The journal's version. None where it has no whole line: it is new, or was torn in its first line.
+    pub fn version(&self) -> Option<Version>
+        ensures { result ≡ self.now.version }
+    {
+        self.version
+    }
+
+    /// How many whole lines of events there are.
     pub fn lines(&self) -> u64
         ensures { result ≡ self.now.lines }
     {
         self.lines
     }
 
-    /// How many bytes the whole lines have.
+    /// How many bytes the whole lines have, the heading with them.
     pub fn whole(&self) -> u64
         ensures { result ≡ self.now.whole }
     {
@@ -78,6 +88,17 @@ impl Scan {
         ensures { result ≡ self.used }
     {
         self.used
+    }
+
+    /// Refuses the journal where starts of batches are wanted, and its version has no lines for them.
+    pub fn admit(&self, batch: bool) -> Result<(), OpenFault>
+        ensures ok { IsOk result ↔ (batch ≡ true → self.now.version ≢ Some Version.One) }
+        ensures fault { IfErr result (λ fault. fault ≡ OpenFault.NoBatches) }
+    {
+        match self.version {
+            Some(Version::One) if batch => Err(OpenFault::NoBatches),
+            _ => Ok(()),
+        }
     }
 
     /// Reads on. A fault says that the file is no journal of a host of this side; it names the line, counted from 1.
@@ -96,24 +117,34 @@ impl Scan {
 
     /// All was read. A file without a whole line is a journal only where what it has begins one: else it is somebody else's, and must not be cut.
     pub fn end(&self) -> Result<(), OpenFault>
-        ensures ok { IsOk result ↔ ((0 < self.now.lines) ⊎ BeginsLine self.now.rest) }
+        ensures ok { IsOk result ↔ (IsSome self.now.version ⊎ BeginsJournal self.now.rest) }
         ensures malformed { IfErr result (λ fault. fault ≡ OpenFault.Malformed 1) }
     {
-        if self.lines == 0 && !begins_first_line(self.rest.as_slice()) {
+        if self.version.is_none() && !begins_journal(self.rest.as_slice()) {
             return Err(OpenFault::Malformed(1));
         }
         Ok(())
     }
 
-    /// Bytes without a line's end follow.
-    #[tactic(auto, using(crate::proofs::Scans::goes_on))]
+    /// The place of the line that is read, counted from 1.
+    fn place(&self) -> u64 {
+        let before = match self.version {
+            Some(version) => version.lines_before() as u64,
+            None => 0,
+        };
+        self.lines.saturating_add(before).saturating_add(1)
+    }
+
+    /// Bytes without a line's end follow. Only what is too long for any line is refused, where there is memory.
+    #[tactic(auto, using(crate::proofs::Scans::goes_on, crate::proofs::Longest::too_long))]
     fn go_on(&mut self, text: &[u8]) -> Result<(), OpenFault>
         requires { Lacks 10 text.now }
         ensures side { self.new.side ≡ self.old.side }
         ensures scanned { OnOk result ((before : List ℕ) → Scanned self.old before → Scanned self.new (before ++ text.now)) }
+        ensures refused { IfErr result (λ fault. (fault ≡ OpenFault.NoMemory) ⊎ IsTooLong (self.old.rest ++ text.now)) }
     {
         if text.len() > LONGEST_LINE || self.rest.len() > LONGEST_LINE {
-            return Err(OpenFault::Malformed(self.lines.saturating_add(1)));
+            return Err(OpenFault::Malformed(self.place()));
         }
         if self.rest.extend_from_slice(text).is_err() {
             return Err(OpenFault::NoMemory);
@@ -121,46 +152,105 @@ impl Scan {
         Ok(())
     }
 
-    /// The bytes behind the last line are a line, too.
-    #[tactic(auto, using(crate::proofs::Scans::ends_line))]
+    /// The bytes behind the last line are a line, too: the heading of version 2, or that of an event.
     fn end_line(&mut self) -> Result<(), OpenFault>
         ensures side { self.new.side ≡ self.old.side }
         ensures scanned { OnOk result ((before : List ℕ) → Scanned self.old before → Scanned self.new (before ++ 10 ∷ [])) }
     {
-        let read = match read_line(self.alloc, self.rest.as_slice()) {
-            Ok(read) => read,
-            Err(_) => return Err(OpenFault::NoMemory),
-        };
-        let Some(at) = self.lines.checked_add(1) else {
-            return Err(OpenFault::Malformed(self.lines));
-        };
-        let Some((number, event)) = read else {
-            return Err(OpenFault::Malformed(at));
-        };
-        if number != self.lines {
-            return Err(OpenFault::Gap(at));
+        match self.version {
+            None if is_heading(self.rest.as_slice()) => self.end_heading(),
+            None => self.end_event(Version::One),
+            Some(version) => self.end_event(version),
         }
-        if event.side != self.side {
-            return Err(OpenFault::OtherSide(at));
-        }
-        let Some(whole) = self.whole.checked_add(self.rest.len() as u64 + 1) else {
-            return Err(OpenFault::Malformed(at));
+    }
+
+    /// They are the heading of version 2.
+    #[tactic(auto, using(crate::proofs::Scans::ends_heading))]
+    fn end_heading(&mut self) -> Result<(), OpenFault>
+        requires first { self.old.version ≡ None }
+        requires text { self.old.rest ++ 10 ∷ [] ≡ heading Version.Two }
+        ensures side { self.new.side ≡ self.old.side }
+        ensures scanned { OnOk result ((before : List ℕ) → Scanned self.old before → Scanned self.new (before ++ 10 ∷ [])) }
+    {
+        let Some(whole) = self.whole_with_rest() else {
+            return Err(OpenFault::Malformed(1));
         };
-        let Ok(()) = use_up(&mut self.used, &event) else {
-            return Err(OpenFault::NoMemory);
-        };
-        self.lines = at;
+        self.version = Some(Version::Two);
         self.whole = whole;
         self.rest.clear();
         Ok(())
     }
+
+    /// They are the line of an event in this version, which is that of the lines before.
+    fn end_event(&mut self, version: Version) -> Result<(), OpenFault>
+        requires { version ≡ unwrap_or self.old.version Version.One }
+        ensures side { self.new.side ≡ self.old.side }
+        ensures scanned { OnOk result ((before : List ℕ) → Scanned self.old before → Scanned self.new (before ++ 10 ∷ [])) }
+    {
+        let place = self.place();
+        let read = match read_line(self.alloc, version, self.rest.as_slice()) {
+            Ok(read) => read,
+            Err(_) => return Err(OpenFault::NoMemory),
+        };
+        let Some(line) = read else {
+            return Err(OpenFault::Malformed(place));
+        };
+        if line.number != self.lines {
+            return Err(OpenFault::Gap(place));
+        }
+        if line.event.side != self.side {
+            return Err(OpenFault::OtherSide(place));
+        }
+        let Some(lines) = self.lines.checked_add(1) else {
+            return Err(OpenFault::Malformed(place));
+        };
+        let Some(whole) = self.whole_with_rest() else {
+            return Err(OpenFault::Malformed(place));
+        };
+        let Ok(()) = use_up(&mut self.used, &line.event) else {
+            return Err(OpenFault::NoMemory);
+        };
+        self.version = Some(version);
+        self.lines = lines;
+        self.whole = whole;
+        self.rest.clear();
+        Ok(())
+    }
+
+    /// How many bytes the whole lines have once the line that is read has its end.
+    fn whole_with_rest(&self) -> Option<u64>
+        ensures { IfSome result (λ whole. whole ≡ self.now.whole + (length self.now.rest + 1)) }
+    {
+        self.whole.checked_add(self.rest.len() as u64 + 1)
+    }
 }
 
-/// Whether a journal's first line may begin so.
+/// Whether a journal of either version may begin so, in front of the end of its first line.
+fn begins_journal(text: &[u8]) -> bool
+    ensures { IsTrue result ↔ BeginsJournal text.now }
+{
+    begins_first_line(text) || begins_heading(text)
+}
+
+/// Whether an event's first line may begin so.
 fn begins_first_line(text: &[u8]) -> bool
     ensures { IsTrue result ↔ BeginsLine text.now }
 {
     matches!(text, [] | [b'0'] | [b'0', b' ', ..])
+}
+
+/// Whether the heading of version 2 begins so.
+fn begins_heading(text: &[u8]) -> bool
+    ensures { IsTrue result ↔ BeginsHeading text.now }
+{
+    Version::Two.heading().starts_with(text)
+}
+
+/// Whether this is the heading of version 2, in front of its end.
+fn is_heading(text: &[u8]) -> bool
+    ensures { IsTrue result ↔ (text.now ++ 10 ∷ [] ≡ heading Version.Two) }
+{
+    text.len() + 1 == Version::Two.heading().len() && begins_heading(text)
 }
 
 /// Notes the word that an event may have used up.

@@ -1,17 +1,20 @@
 //! What a live host does with datagrams, times and its clients' messages.
 ghost use Rattle.std.specs.Prelude.{◌≡◌, [], IfOk, OnOk, is_some, length};
+ghost use Rattle.amo_packet.specs.Packet.{body_of};
+ghost use Rattle.amo_packet.specs.Grammar.{messages_of};
 ghost use Rattle.amo_live.specs.Client.{has};
-ghost use Rattle.amo_live.specs.Host.{IsNoted, Puts};
-ghost use Rattle.amo_live.specs.Service.{PutsNone, got_by, shown_by, spelling_of, streams_of, words_of};
+ghost use Rattle.amo_live.specs.Host.{Did, IsNoted, Puts};
+ghost use Rattle.amo_live.specs.Service.{PutsNone, got_by, new_version, shown_by, spelling_of, start_of, starts_batches, streams_of, words_of};
 ghost use Rattle.amo_live.specs.Shown.{ShowsMore};
 
 use crate::lines::{Spelling, Word, push_message, push_word};
 use crate::timer::Timer;
 use crate::{FreshWords, Host, LiveFault};
 use amo_core::{MAX_WAITING, Mode};
+use amo_journal::Version;
 use amo_net::{Link, MAX_DATAGRAM};
 use amo_object::End;
-use amo_packet::{Body, Message, read_1};
+use amo_packet::{Body, MAX_BATCH, Message, Packet, read};
 use amo_text::Sink;
 use amo_word::Words;
 use std::alloc::{AllocError, Global};
@@ -25,6 +28,8 @@ struct Lane {
     mode: Mode,
     /// How many messages wait for their handshake.
     waiting: u64,
+    /// How many messages have come and were not got.
+    held: usize,
     /// A message was put, and its client does not know yet what became of it.
     owed: bool,
     timer: Timer,
@@ -35,6 +40,7 @@ impl Lane {
         Lane {
             mode,
             waiting: 0,
+            held: 0,
             owed: false,
             timer: Timer::unset(),
         }
@@ -70,6 +76,8 @@ pub struct Service<L, S, W> {
     got: u64,
     /// How many streams' clients have no answer yet.
     owed: u64,
+    /// A batch came for which the journal has no line.
+    missed: bool,
 }
 
 /// How a service is set up.
@@ -83,10 +91,24 @@ pub struct Setup {
     pub tick: u64,
     /// A stream's next message is put once its last one's answer came.
     pub each: bool,
+    /// The messages that wait on a stream travel together, at most four, if the journal has lines for that.
+    pub batch: bool,
     /// How many messages are got at most.
     pub most: u64,
     /// How messages and answers are spelt.
     pub spelling: Spelling,
+}
+
+impl Setup {
+    /// The version of its journal, where that is new. In version 2 batches have lines: a receiver's journal has them always.
+    pub fn new_version(&self) -> Version
+        ensures { result ≡ new_version self.now }
+    {
+        match self.side {
+            End::Sender if !self.batch => Version::One,
+            _ => Version::Two,
+        }
+    }
 }
 
 impl<L: Link + Drop, S: Sink + Drop, W: Words + Drop> Service<L, S, W> {
@@ -117,6 +139,7 @@ impl<L: Link + Drop, S: Sink + Drop, W: Words + Drop> Service<L, S, W> {
             shown: Vec::new(alloc),
             got: 0,
             owed: 0,
+            missed: false,
         })
     }
 }
@@ -162,6 +185,11 @@ impl<L: Link, S: Sink, W: Words> Service<L, S, W> {
         ensures { result ≡ got_by self.now }
     {
         self.got
+    }
+
+    /// Whether a batch came for one of its streams for which its journal has no line, and which it took for no packet.
+    pub fn has_missed_batch(&self) -> bool {
+        self.missed
     }
 
     /// Whether no stream waits for its peer, and each client has its answers.
@@ -270,7 +298,7 @@ impl<L: Link, S: Sink, W: Words> Service<L, S, W> {
         );
     }
 
-    /// Begins the handshake of a stream's next message, if its sender is at rest and one waits.
+    /// Begins the handshake of a stream's next messages, if its sender is at rest and one waits.
     #[tactic(auto, using(crate::proofs::Putting::start_puts))]
     fn begin(&mut self, stream: u32, now: u64) -> Result<(), LiveFault>
         requires { IsNoted S.written self.old.host }
@@ -289,15 +317,45 @@ impl<L: Link, S: Sink, W: Words> Service<L, S, W> {
         let Some(word) = self.words.peek() else {
             return Ok(());
         };
-        if let Some(mode) = self.host.start(stream, word)? {
+        if let Some(mode) = self.start(stream, word)? {
             if mode == Mode::NeedId {
                 self.words.use_up()?;
-                let waiting = lane.waiting - 1;
+                let waiting = lane.waiting.saturating_sub(self.most_at_once());
                 self.set_lane(stream, Lane { waiting, ..lane });
             }
             self.enter(stream, mode, false, now);
         }
         Ok(())
+    }
+
+    /// Begins a handshake on a stream under this word, if its sender is at rest and a message waits: for one message, or for those that travel
+    /// together.
+    fn start(&mut self, stream: u32, word: u64) -> Result<Option<Mode>, LiveFault>
+        requires { IsNoted S.written self.old.host }
+        ensures noted { OnOk result (IsNoted S.written self.new.host) }
+        ensures did { IfOk result (Did self.old.host self.new.host stream (start_of self.old.setup.batch self.old.host.journal.version word)) }
+        ensures same { self.new ≡ record self.old { host = self.new.host } }
+    {
+        if self.batches() {
+            self.host.start_batch(stream, word)
+        } else {
+            self.host.start(stream, word)
+        }
+    }
+
+    /// How many messages travel in a handshake at most.
+    fn most_at_once(&self) -> u64 {
+        if self.batches() { MAX_BATCH as u64 } else { 1 }
+    }
+
+    /// Whether messages that wait travel together.
+    fn batches(&self) -> bool
+        ensures { result ≡ starts_batches self.now.setup.batch self.now.host.journal.version }
+    {
+        match self.host.version() {
+            Version::One => false,
+            Version::Two => self.setup.batch,
+        }
     }
 
     /// Takes the datagrams that have come, up to a bound.
@@ -328,7 +386,11 @@ impl<L: Link, S: Sink, W: Words> Service<L, S, W> {
         ensures shown { OnOk result (ShowsMore (spelling_of self.old) self.old.host.pass self.new.host.pass (shown_by self.old) (shown_by self.new)) }
         ensures spelling { spelling_of self.new ≡ spelling_of self.old }
     {
-        let Some(word) = self.word_for(bytes) else {
+        let Ok(packet) = self.host.read(bytes) else {
+            self.miss(bytes);
+            return Ok(());
+        };
+        let Some(word) = self.word_for(&packet) else {
             return Ok(());
         };
         let Some((stream, mode)) = self.host.deliver(bytes, word)? else {
@@ -340,8 +402,40 @@ impl<L: Link, S: Sink, W: Words> Service<L, S, W> {
         if lane.mode == Mode::Idle && mode == Mode::Accept {
             self.words.use_up()?;
         }
-        self.enter(stream, mode, false, now);
+        self.arrive(stream, mode, brought_by(&packet), now);
         self.go_on(stream, lane.mode, mode, now)
+    }
+
+    /// A datagram came that is no packet for which the journal has a line.
+    fn miss(&mut self, bytes: &[u8])
+        ensures host { self.new.host ≡ self.old.host }
+        ensures streams { streams_of self.new ≡ streams_of self.old }
+        ensures shown { (shown_by self.new ≡ shown_by self.old) × (self.new.setup ≡ self.old.setup) }
+    {
+        let is_missed = match read(bytes) {
+            Ok(
+                Packet {
+                    stream,
+                    body: Body::Batch(_, _),
+                },
+            ) => self.setup.side == End::Receiver && self.has(stream),
+            _ => false,
+        };
+        self.missed = self.missed || is_missed;
+    }
+
+    /// A packet that brings so many messages was delivered on a stream, whose side is in this mode now. It holds them, if it held none before.
+    fn arrive(&mut self, stream: u32, mode: Mode, brought: usize, now: u64)
+        ensures host { self.new.host ≡ self.old.host }
+        ensures streams { streams_of self.new ≡ streams_of self.old }
+        ensures shown { (shown_by self.new ≡ shown_by self.old) × (self.new.setup ≡ self.old.setup) }
+    {
+        if let Some(lane) = self.lane(stream) {
+            let holds_more = mode == Mode::Rcvd && lane.mode != Mode::Rcvd;
+            let held = if holds_more { brought } else { lane.held };
+            self.set_lane(stream, Lane { held, ..lane });
+        }
+        self.enter(stream, mode, false, now);
     }
 
     /// Goes on where a packet was delivered on a stream, whose side went from one mode into another.
@@ -354,23 +448,45 @@ impl<L: Link, S: Sink, W: Words> Service<L, S, W> {
         ensures spelling { spelling_of self.new ≡ spelling_of self.old }
     {
         match after {
-            Mode::Rcvd => self.get(stream, now),
+            Mode::Rcvd => self.get_all(stream, now),
             Mode::Quiet if before != Mode::Quiet => self.settle(stream, now),
             _ => Ok(()),
         }
     }
 
-    /// The word that a packet is delivered with: the next one for a needuid, 0 for any other. None for what is no packet, or where no word is left.
-    fn word_for(&self, bytes: &[u8]) -> Option<u64> {
-        let packet = read_1(bytes).ok()?;
+    /// The word that a packet is delivered with: the next one for a needuid, 0 for any other. None where no word is left.
+    fn word_for(&self, packet: &Packet<'_>) -> Option<u64> {
         match packet.body {
             Body::NeedUid(_) => self.words.peek(),
             _ => Some(0),
         }
     }
 
-    /// Gets the message that has come to a stream, and acknowledges it.
-    fn get(&mut self, stream: u32, now: u64) -> Result<(), LiveFault>
+    /// Gets the messages that have come to a stream, in their order, and acknowledges them together. Where no more are wanted it stops: those that
+    /// are left stay where they are, and no ack leaves.
+    fn get_all(&mut self, stream: u32, now: u64) -> Result<(), LiveFault>
+        requires { IsNoted S.written self.old.host }
+        ensures noted { OnOk result (IsNoted S.written self.new.host) }
+        ensures none_put { OnOk result (PutsNone self.old.host.pass self.new.host.pass) }
+        ensures streams { streams_of self.new ≡ streams_of self.old }
+        ensures shown { OnOk result (ShowsMore (spelling_of self.old) self.old.host.pass self.new.host.pass (shown_by self.old) (shown_by self.new)) }
+        ensures spelling { spelling_of self.new ≡ spelling_of self.old }
+    {
+        let Some(lane) = self.lane(stream) else {
+            return Ok(());
+        };
+        'messages: for _message in 0..lane.held {
+            if !self.get(stream)? {
+                return Ok(());
+            }
+        }
+        self.enter(stream, Mode::Ack, false, now);
+        self.host.resend(stream)?;
+        Ok(())
+    }
+
+    /// Gets the next message that has come to a stream, if one is wanted. Answers whether it did.
+    fn get(&mut self, stream: u32) -> Result<bool, LiveFault>
         requires { IsNoted S.written self.old.host }
         ensures noted { OnOk result (IsNoted S.written self.new.host) }
         ensures none_put { OnOk result (PutsNone self.old.host.pass self.new.host.pass) }
@@ -379,16 +495,18 @@ impl<L: Link, S: Sink, W: Words> Service<L, S, W> {
         ensures spelling { spelling_of self.new ≡ spelling_of self.old }
     {
         if self.got >= self.setup.most {
-            return Ok(());
+            return Ok(false);
         }
         let Some(message) = self.host.get(stream)? else {
-            return Ok(());
+            return Ok(false);
         };
         self.got = self.got.saturating_add(1);
         push_message(&mut self.shown, stream, &message, self.setup.spelling)?;
-        self.enter(stream, Mode::Ack, false, now);
-        self.host.resend(stream)?;
-        Ok(())
+        if let Some(lane) = self.lane(stream) {
+            let held = lane.held.saturating_sub(1);
+            self.set_lane(stream, Lane { held, ..lane });
+        }
+        Ok(true)
     }
 
     /// A handshake is over: the stream's next one begins, or its client is told what became of the last message.
@@ -444,5 +562,16 @@ impl<L: Link, S: Sink, W: Words> Service<L, S, W> {
             }
         }
         Ok(())
+    }
+}
+
+/// How many messages a packet brings.
+fn brought_by(packet: &Packet<'_>) -> usize
+    ensures { result ≡ length (messages_of (body_of packet.now.body)) }
+{
+    match packet.body {
+        Body::Send(_, _) => 1,
+        Body::Batch(_, parts) => parts.len(),
+        Body::NeedUid(_) | Body::Accept(_, _) | Body::Ack(_, _) | Body::Cleanup(_) => 0,
     }
 }

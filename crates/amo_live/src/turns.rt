@@ -83,6 +83,7 @@ pub fn serve<C: Clock + Eprint, L: Link, S: Durable, W: Words, I: Read, O: Write
 {
     let start = Instant::now(rt)?;
     let mut since: Option<u64> = None;
+    let mut told = false;
     'turns: for _turn in 0..u64::MAX {
         let now = microseconds(rt, &start)?;
         let is_over = limits.count.is_some_and(|count| count <= service.got());
@@ -104,8 +105,19 @@ pub fn serve<C: Clock + Eprint, L: Link, S: Durable, W: Words, I: Read, O: Write
             limits.sync,
             milliseconds(until, now),
         )?;
+        told = told || tell_of_batch(rt, service.has_missed_batch());
     }
     Ok(Ended::OnItsWay)
+}
+
+/// Tells that a batch came for which the journal has no line, if one has. Answers whether it did.
+fn tell_of_batch<C: Eprint>(rt: &C, has_missed_batch: bool) -> bool {
+    if has_missed_batch {
+        let _ = eprintln!(rt;
+            "amo: a batch came, and a journal of version 1 tells of none: begin new journals at both hosts, or send without --batch"
+        );
+    }
+    has_missed_batch
 }
 
 /// One turn, which waits at most so many milliseconds.

@@ -1,5 +1,5 @@
 //! Replays schedules.
-ghost use Rattle.std.specs.Prelude.{◌≡◌, [], ℕ, ◌+◌, List, ◌∷◌, Ok, IfOk, IfErr, OnOk, IsErrOf};
+ghost use Rattle.std.specs.Prelude.{◌≡◌, [], ℕ, ◌+◌, List, ◌∷◌, Ok, IfOk, IfErr, OnErr, OnOk, IsErrOf};
 ghost use Rattle.std.specs.Io.KnownBytes.{Appends};
 ghost use Rattle.amo_world.specs.declared.event.Event.{Event};
 ghost use Rattle.amo_text.specs.Sink.{AppendsFront};
@@ -32,8 +32,9 @@ pub fn replay<W: Sink>(alloc: Global, bytes: &[u8], sink: &mut W) -> Result<Endi
         → AppendsFront (W.written sink.old) (W.written sink.new) (flatten (transcript lines)) }
     ensures failed { IsErrOf result ToolFault.Device → W.failures sink.new ≡ W.failures sink.old + 1 }
     ensures calm { ¬ (IsErrOf result ToolFault.Device) → W.failures sink.new ≡ W.failures sink.old }
-    // Nothing is written of a malformed schedule, whatever the answer.
+    // Nothing is written of a malformed schedule. It is found out without memory, a book or the device, so that none of them is blamed.
     ensures malformed { ((lines : List ScheduleLine) → ¬ (SpellsSchedule bytes.now lines)) → W.written sink.new ≡ W.written sink.old }
+    ensures reads { OnErr result (IsSchedule bytes.now) }
 {
     let mut schedule = match Schedule::of(bytes) {
         Ok(schedule) => schedule,

@@ -1,5 +1,5 @@
 -- The pumps of a host have its charges.
-use Rattle.std.proofs.Common.{◌≡◌, ℕ, zero, suc, ◌+◌, ◌*◌, ◌/◌, ◌%◌, ◌<◌, ◌≤◌, List, [], ◌∷◌, ◌++◌, length, map, slice_get, Some, refl, sym, ap, ◌∙◌, subst, append_assoc, arith}
+use Rattle.std.proofs.Common.{◌≡◌, ℕ, Bool, zero, suc, ◌+◌, ◌*◌, ◌/◌, ◌%◌, ◌<◌, ◌≤◌, List, [], ◌∷◌, ◌++◌, length, map, slice_get, Some, refl, sym, ap, ◌∙◌, subst, append_assoc, arith}
 use Rattle.std.proofs.lemmas.List.{length-append, length-map}
 use Rattle.std.proofs.lemmas.Nat.{div-add-mod', mod_below}
 use Rattle.std.proofs.Math.Nat.{mul_comm}
@@ -8,8 +8,9 @@ use Rattle.amo_book.specs.Charge.{ChargeState, IsChargeOf}
 use Rattle.amo_book.specs.Closed.{HasCharge}
 use Rattle.amo_host.specs.Charges.{CanBeDriven}
 use Rattle.amo_host.specs.Division.{Divides, CanBeDivided}
-use Rattle.amo_host.specs.Station.{Station}
+use Rattle.amo_host.specs.Station.{Station, IsStation}
 use Rattle.amo_run.specs.Crew.{IsOurs, dealt}
+use Rattle.amo_run.specs.Versions.{version_for, starting}
 
 pub each_at : {A : Type 0} (P : A → Type 0) (xs : List A) (k : ℕ) (x : A) → Each P xs → slice_get xs k ≡ Some x → P x
 each_at P [] k x h e = cc
@@ -62,9 +63,18 @@ each_map : {A B : Type 0} (P : B → Type 0) (f : A → B) (xs : List A) → Eac
 each_map P f [] h = tt
 each_map P f (x ∷ xs) h = (h.0, each_map P f xs h.1)
 
+-- a pump stays one, however it starts
+still : {W : Type 0} (batch : Bool) (s : Station W) → IsStation s → IsStation (starting batch s)
+still batch s h = record { host = h.host; modes = h.modes; sides = h.sides }
+
+dealt_starting : {W : Type 0} (batch : Bool) (ss : List (Station W)) → dealt (map (starting batch) ss) ≡ dealt ss
+dealt_starting batch [] = refl
+dealt_starting batch (s ∷ ss) = ap (λ l. s.charges ++ l) (dealt_starting batch ss)
+
 module _ {W : Type 0} (charges : List ChargeState) (window pumps : ℕ) (words : List W) (stations : List (Station W)) where
-  stations_ours : (b : BookState) → Divides charges window pumps words stations → Each (IsChargeOf b.id b.sides) charges → Each (IsOurs {W = W} b) stations
-  stations_ours b d h = each_of (IsOurs {W = W} b) stations (λ p s e. (each_of (IsChargeOf b.id b.sides) s.charges (λ k x at. each_at (IsChargeOf b.id b.sides) charges (p + pumps * k) x h (sym ((d.part p s e).each k) ∙ at)), (d.begins p s e).station, (d.begins p s e).plain))
+  stations_ours : (batch : Bool) (b : BookState) → Divides charges window pumps words stations → Each (IsChargeOf b.id b.sides) charges → Each (IsOurs {W = W} (version_for batch) b) (map (starting batch) stations)
+  stations_ours batch b d h = each_map (IsOurs {W = W} (version_for batch) b) (starting batch) stations (each_of (λ (s : Station W). IsOurs {W = W} (version_for batch) b (starting batch s)) stations (λ p s e.
+      (each_of (IsChargeOf b.id b.sides) s.charges (λ k x at. each_at (IsChargeOf b.id b.sides) charges (p + pumps * k) x h (sym ((d.part p s e).each k) ∙ at)), still batch s (d.begins p s e).station, refl)))
 
   stations_have : Divides charges window pumps words stations → 1 ≤ pumps → (place : ℕ) → HasCharge charges place → HasCharge (dealt stations) place
   stations_have d some place h =
@@ -81,15 +91,17 @@ module _ {A W : Type 0} (f : A → Station W) (old new : List A) (stations : Lis
   pub kept : map f new ≡ map f old ++ stations → (place : ℕ) → HasCharge (dealt (map f old)) place → HasCharge (dealt (map f new)) place
   kept e place h = subst (λ l. HasCharge l place) (sym (ap dealt e ∙ dealt_both (map f old) stations)) (has_left (dealt (map f old)) (dealt stations) place h)
 
-  pub added : (charges : List ChargeState) (window pumps : ℕ) (words : List W) → map f new ≡ map f old ++ stations → Divides charges window pumps words stations → 1 ≤ pumps
+  pub added : (batch : Bool) (charges : List ChargeState) (window pumps : ℕ) (words : List W) → map f new ≡ map f old ++ map (starting batch) stations → Divides charges window pumps words stations → 1 ≤ pumps
       → (place : ℕ) → HasCharge charges place → HasCharge (dealt (map f new)) place
-  added charges window pumps words e d some place h =
-      subst (λ l. HasCharge l place) (sym (ap dealt e ∙ dealt_both (map f old) stations)) (has_right (dealt (map f old)) (dealt stations) place (stations_have charges window pumps words stations d some place h))
+  added batch charges window pumps words e d some place h =
+      let all : dealt (map f new) ≡ dealt (map f old) ++ dealt stations = ap dealt e ∙ (dealt_both (map f old) (map (starting batch) stations) ∙ ap (λ l. dealt (map f old) ++ l) (dealt_starting batch stations)) in
+      subst (λ l. HasCharge l place) (sym all) (has_right (dealt (map f old)) (dealt stations) place (stations_have charges window pumps words stations d some place h))
 
-  pub ours : (b : BookState) (charges : List ChargeState) (window pumps : ℕ) (words : List W) → map f new ≡ map f old ++ stations → Divides charges window pumps words stations
-      → Each (IsChargeOf b.id b.sides) charges → Each (λ (x : A). IsOurs b (f x)) old → Each (λ (x : A). IsOurs b (f x)) new
-  ours b charges window pumps words e d h was =
-      map_each (IsOurs {W = W} b) f new (subst (Each (IsOurs {W = W} b)) (sym e) (each_both (IsOurs {W = W} b) (map f old) stations (each_map (IsOurs {W = W} b) f old was) (stations_ours charges window pumps words stations b d h)))
+  pub ours : (batch : Bool) (b : BookState) (charges : List ChargeState) (window pumps : ℕ) (words : List W) → map f new ≡ map f old ++ map (starting batch) stations → Divides charges window pumps words stations
+      → Each (IsChargeOf b.id b.sides) charges → Each (λ (x : A). IsOurs (version_for batch) b (f x)) old → Each (λ (x : A). IsOurs (version_for batch) b (f x)) new
+  ours batch b charges window pumps words e d h was =
+      let Ours : Station W → Type 0 = IsOurs {W = W} (version_for batch) b in
+      map_each Ours f new (subst (Each Ours) (sym e) (each_both Ours (map f old) (map (starting batch) stations) (each_map Ours f old was) (stations_ours charges window pumps words stations batch b d h)))
 
   pub counted : map f new ≡ map f old ++ stations → length new ≡ length old + length stations
   counted e = sym (length-map new f) ∙ (ap length e ∙ (length-append (map f old) stations ∙ ap (λ n. n + length stations) (length-map old f)))

@@ -7,3 +7,4 @@ pub mod Openings
 pub mod Spellings
 pub mod Tellings
 pub mod Turning
+pub mod Versions

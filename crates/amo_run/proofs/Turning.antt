@@ -1,9 +1,9 @@
 -- What a pump's calls do to its pass and its charges.
-use Rattle.std.proofs.Common.{◌≡◌, ℕ, Bool, true, false, zero, suc, ◌<◌, ◌^◌, List, [], ◌∷◌, ◌++◌, Option, Some, None, slice_get, slice_set, refl, sym, ap, ap₂, ◌∙◌, subst, append_assoc, append-nil}
+use Rattle.std.proofs.Common.{◌≡◌, ℕ, Bool, true, false, zero, suc, ◌<◌, ◌≤◌, ◌^◌, List, [], ◌∷◌, ◌++◌, Option, Some, None, slice_get, slice_set, refl, sym, ap, ap₂, ◌∙◌, subst, append_assoc, append-nil}
 use Rattle.amo_object.specs.declared.step.End.{End}
 use Rattle.amo_object.specs.declared.step.End.TheVariants as end
 use Rattle.amo_packet.specs.declared.packet.OwnedPacket.{OwnedPacket}
-use Rattle.amo_packet.specs.Grammar.{Spells}
+use Rattle.amo_packet.specs.Grammar.{Spells, version_of as spelt_under}
 use Rattle.amo_core.specs.declared.act.Act.{Act}
 use Rattle.amo_core.specs.declared.act.Act.TheVariants as act
 use Rattle.amo_core.specs.declared.reply.Reply.TheVariants as reply
@@ -29,11 +29,14 @@ use Rattle.hex.specs.Hex.{IsBytes}
 use Rattle.amo_world.specs.History.{IsRight, stream_before}
 use Rattle.amo_world.specs.Stream.{Stream, reply_of}
 use Rattle.amo_book.specs.Charge.{IsChargeOf}
-use Rattle.amo_audit.specs.Journal.{HasAct, HasReply, IsPacketOf}
-use Rattle.amo_audit.proofs.Packets.{packet_spelt}
+use Rattle.amo_journal.specs.declared.version.Version.{Version}
+use Rattle.amo_journal.specs.Journal.{HasAct, HasReply, IsPacketOf}
+use Rattle.amo_journal.specs.Version.{newest, HasBatches}
+use Rattle.amo_journal.proofs.Packets.{packet_spelt}
 use Rattle.amo_run.specs.Fits.{Fits, AllFit}
 use Rattle.amo_run.specs.Told.{Tells}
-use Rattle.amo_run.specs.Engine.{tie, ties, Stands, Works, Advances, Recorded, IsSmall, act_told, done_at, told_of}
+use Rattle.amo_run.specs.Engine.{tie, ties, Works, Advances, Recorded, IsSmall, act_told, done_at, told_of}
+use Rattle.amo_run.specs.Versions.{version_for, version_of}
 use Rattle.amo_run.proofs.Hosts.{each_at}
 use Rattle.amo_run.proofs.Tellings.{tells_none, tells_one, tells_more}
 
@@ -43,27 +46,27 @@ ties_set [] k c d at same = refl
 ties_set (x ∷ xs) zero c d at same = let is : x ≡ c = cc in ap (λ t. t ∷ ties xs) (same ∙ sym (ap tie is))
 ties_set (x ∷ xs) (suc k) c d at same = ap (λ l. tie x ∷ l) (ties_set xs k c d at same)
 
-pub fit_none : (sides : List (End × ℕ)) → AllFit sides []
-fit_none sides = All-nil (λ (one : ℕ × Event). Fits sides one.1)
+pub fit_none : (version : Version) (sides : List (End × ℕ)) → AllFit version sides []
+fit_none version sides = All-nil (λ (one : ℕ × Event). Fits version sides one.1)
 
-pub fit_one : (sides : List (End × ℕ)) (n : ℕ) (e : Event) → Fits sides e → AllFit sides ((n, e) ∷ [])
-fit_one sides n e f = All-cons (λ (one : ℕ × Event). Fits sides one.1) (n, e) [] f (fit_none sides)
+pub fit_one : (version : Version) (sides : List (End × ℕ)) (n : ℕ) (e : Event) → Fits version sides e → AllFit version sides ((n, e) ∷ [])
+fit_one version sides n e f = All-cons (λ (one : ℕ × Event). Fits version sides one.1) (n, e) [] f (fit_none version sides)
 
-resends : (side : End) (stream : ℕ) → HasAct side stream act.Resend
-resends end.Sender stream = tt
-resends end.Receiver stream = tt
+resends : (version : Version) (side : End) (stream : ℕ) → HasAct version side stream act.Resend
+resends version end.Sender stream = tt
+resends version end.Receiver stream = tt
 
-crashes : (side : End) (stream : ℕ) → HasAct side stream act.Crash
-crashes end.Sender stream = tt
-crashes end.Receiver stream = tt
+crashes : (version : Version) (side : End) (stream : ℕ) → HasAct version side stream act.Crash
+crashes version end.Sender stream = tt
+crashes version end.Receiver stream = tt
 
-recovers : (side : End) (stream : ℕ) → HasAct side stream act.Recover
-recovers end.Sender stream = tt
-recovers end.Receiver stream = tt
+recovers : (version : Version) (side : End) (stream : ℕ) → HasAct version side stream act.Recover
+recovers version end.Sender stream = tt
+recovers version end.Receiver stream = tt
 
-delivers : (side : End) (stream : ℕ) (p : OwnedPacket) (word : ℕ) → IsPacketOf stream p → word < 2 ^ 64 → HasAct side stream (act.Deliver p word)
-delivers end.Sender stream p word h small = (h, small)
-delivers end.Receiver stream p word h small = (h, small)
+delivers : (version : Version) (side : End) (stream : ℕ) (p : OwnedPacket) (word : ℕ) → IsPacketOf version stream p → word < 2 ^ 64 → HasAct version side stream (act.Deliver p word)
+delivers version end.Sender stream p word h small = (h, small)
+delivers version end.Receiver stream p word h small = (h, small)
 
 -- a packet for the charge in a place is one of its stream
 for_stream : {W : Type 0} (s : Station W) (place : ℕ) (p : OwnedPacket) (c : ChargeState) → IsStation s → IsFor s.host place p → slice_get s.charges place ≡ Some c → p.stream ≡ c.stream
@@ -73,104 +76,128 @@ for_stream s place p c h f at =
     let both : Some p.stream ≡ Some c.stream = sym f.stream ∙ streams in cc
 
 -- only a sender starts
-starts : (s : Stream) (side : End) (stream word : ℕ) → reply_of s side (act.Start word) ≡ Some reply.Done → word < 2 ^ 64 → HasAct side stream (act.Start word)
-starts s end.Sender stream word is small = small
-starts s end.Receiver stream word is small = cc
+starts : (version : Version) (s : Stream) (side : End) (stream word : ℕ) → reply_of s side (act.Start word) ≡ Some reply.Done → word < 2 ^ 64 → HasAct version side stream (act.Start word)
+starts version s end.Sender stream word is small = small
+starts version s end.Receiver stream word is small = cc
+
+starts_batch : (version : Version) (s : Stream) (side : End) (stream word : ℕ) → HasBatches version → reply_of s side (act.Batch word) ≡ Some reply.Done → word < 2 ^ 64 → HasAct version side stream (act.Batch word)
+starts_batch version s end.Sender stream word has is small = (has, small)
+starts_batch version s end.Receiver stream word has is small = cc
+
+-- a pump whose messages travel together has the version with lines for that
+batches_told : (together : Bool) → together ≡ true → HasBatches (version_for together)
+batches_told true is = tt
+batches_told false is = cc
 
 module _ {W : Type 0} (book : BookState) (s t : Station W) (v w : PassState) where
-  pub same_advances : Works book w t → t.charges ≡ s.charges → w ≡ v → Advances book v w s t []
-  same_advances b c h = record { together = b; charges = ap ties c; tells = tells_none v w h; fit = fit_none book.sides }
+  pub same_advances : Works book w t → t.batches ≡ s.batches → t.charges ≡ s.charges → w ≡ v → Advances book v w s t []
+  same_advances b plain c h = record { together = b; charges = ap ties c; batches = plain; tells = tells_none v w h; fit = fit_none (version_of s) book.sides }
 
-  nothing : (old new : List ℕ) → Works book v s → Stands book w t → Nothing s t v w old new → Advances book v w s t []
-  nothing old new was b h = same_advances (b, ap (λ (x : Station W). x.batches) h.0 ∙ was.1) (ap (λ (x : Station W). x.charges) h.0) h.1
+  nothing : (old new : List ℕ) → Works book w t → Nothing s t v w old new → Advances book v w s t []
+  nothing old new b h = same_advances b (ap (λ (x : Station W). x.batches) h.0) (ap (λ (x : Station W). x.charges) h.0) h.1
 
   -- an event at a charge of the book
-  happened : (r : Station W) (old new : List ℕ) (place now : ℕ) (a : Act) (resent : Bool) (side : End) (stream : ℕ) (done : Done) → r.charges ≡ s.charges → r.batches ≡ s.batches → Works book v s → Stands book w t
-      → Happened r t v w old new place now a resent side stream done → done.position < 2 ^ 64 → HasAct side stream a → HasReply a reply.Done → Advances book v w s t ((done.position, event v.number side stream a reply.Done) ∷ [])
+  happened : (r : Station W) (old new : List ℕ) (place now : ℕ) (a : Act) (resent : Bool) (side : End) (stream : ℕ) (done : Done) → r.charges ≡ s.charges → r.batches ≡ s.batches → Works book v s → Works book w t
+      → Happened r t v w old new place now a resent side stream done → done.position < 2 ^ 64 → HasAct (version_of s) side stream a → HasReply a reply.Done
+      → Advances book v w s t ((done.position, event v.number side stream a reply.Done) ∷ [])
   happened r old new place now a resent side stream done same plain was b h small acts replies =
       let e : Event = event v.number h.charge.side h.charge.stream a reply.Done in
       let one : Tells v w ((done.position, e) ∷ []) = tells_one v w e done.position h.driven.grown h.driven.answered refl small in
       let at : slice_get s.charges place ≡ Some h.charge = sym (ap (λ l. slice_get l place) same) ∙ h.at in
-      let ours : IsChargeOf book.id book.sides h.charge = each_at (IsChargeOf book.id book.sides) s.charges place h.charge was.0.0.1 at in
+      let ours : IsChargeOf book.id book.sides h.charge = each_at (IsChargeOf book.id book.sides) s.charges place h.charge was.0.1 at in
       let there : ◌≡◌ {A = End × ℕ} (side, stream) (h.charge.side, h.charge.stream) = ap₂ (λ (p : End) (q : ℕ). (p, q)) h.of_side h.of_stream in
       record {
-        together = (b, h.batches ∙ plain ∙ was.1);
+        together = b;
         charges = ap ties h.charges ∙ (ties_set r.charges place h.charge (record h.charge { mode = done.mode }) h.at refl ∙ ap ties same);
+        batches = h.batches ∙ plain;
         tells = subst (λ (x : End × ℕ). Tells v w ((done.position, event v.number x.0 x.1 a reply.Done) ∷ [])) (sym there) one;
-        fit = fit_one book.sides done.position (event v.number side stream a reply.Done) (record { place = h.charge.place; at = ours.1 ∙ sym (ap Some there); act = acts; reply = replies });
+        fit = fit_one (version_of s) book.sides done.position (event v.number side stream a reply.Done) (record { place = h.charge.place; at = ours.1 ∙ sym (ap Some there); act = acts; reply = replies });
       }
 
-  fate : (a : Act) (k : Kind) (stream now : ℕ) (turned : Turned) → act_told k None ≡ Some a → ((side : End) (named : ℕ) → HasAct side named a) → HasReply a reply.Done → Works book v s → Stands book w t → GoesDownOrUp a k stream now s t v w turned → IsSmall turned
-      → Advances book v w s t (told_of v.number None turned)
+  fate : (a : Act) (k : Kind) (stream now : ℕ) (turned : Turned) → act_told k None ≡ Some a → ((side : End) (named : ℕ) → HasAct (version_of s) side named a) → HasReply a reply.Done → Works book v s → Works book w t
+      → GoesDownOrUp a k stream now s t v w turned → IsSmall turned → Advances book v w s t (told_of v.number None turned)
   fate a k stream now Idle is acts replies was b h small = absurd h
   fate a k stream now (Unread f) is acts replies was b h small = absurd h
-  fate a k stream now Stranger is acts replies was b h small = same_advances (b, ap (λ (x : Station W). x.batches) h.1 ∙ was.1) (ap (λ (x : Station W). x.charges) h.1) h.2
+  fate a k stream now Stranger is acts replies was b h small = same_advances b (ap (λ (x : Station W). x.batches) h.1) (ap (λ (x : Station W). x.charges) h.1) h.2
   fate a k stream now (Did side named j done) is acts replies was b (place, at, same, of, none, words, rest) small =
       subst (λ (o : Option Act). Advances book v w s t (done_at v.number side named done.position o)) (sym (ap (λ x. act_told x None) of ∙ is)) (happened s rest.0 rest.1 place now a false side named done refl refl was b rest.2 small.0 (acts side named) replies)
 
-  pub crash_advances : (stream now : ℕ) (turned : Turned) → Works book v s → Stands book w t → GoesDownOrUp act.Crash kind.Crash stream now s t v w turned → IsSmall turned
+  pub crash_advances : (stream now : ℕ) (turned : Turned) → Works book v s → Works book w t → GoesDownOrUp act.Crash kind.Crash stream now s t v w turned → IsSmall turned
       → Advances book v w s t (told_of v.number None turned)
-  crash_advances stream now turned was b h small = fate act.Crash kind.Crash stream now turned refl crashes tt was b h small
+  crash_advances stream now turned was b h small = fate act.Crash kind.Crash stream now turned refl (crashes (version_of s)) tt was b h small
 
-  pub recover_advances : (stream now : ℕ) (turned : Turned) → Works book v s → Stands book w t → GoesDownOrUp act.Recover kind.Recover stream now s t v w turned → IsSmall turned
+  pub recover_advances : (stream now : ℕ) (turned : Turned) → Works book v s → Works book w t → GoesDownOrUp act.Recover kind.Recover stream now s t v w turned → IsSmall turned
       → Advances book v w s t (told_of v.number None turned)
-  recover_advances stream now turned was b h small = fate act.Recover kind.Recover stream now turned refl recovers tt was b h small
+  recover_advances stream now turned was b h small = fate act.Recover kind.Recover stream now turned refl (recovers (version_of s)) tt was b h small
 
-  pub failed_advances : (to_come : W → ℕ → Option ℕ) (old new : List ℕ) (fault : PumpFault) → Works book v s → Stands book w t → Fails to_come s t v w old new fault → Advances book v w s t []
-  failed_advances to_come old new fault was b h = same_advances (b, h.batches ∙ was.1) h.charges h.pass
+  pub failed_advances : (to_come : W → ℕ → Option ℕ) (old new : List ℕ) (fault : PumpFault) → Works book w t → Fails to_come s t v w old new fault → Advances book v w s t []
+  failed_advances to_come old new fault b h = same_advances b h.batches h.charges h.pass
 
-  started_advances : (to_come : W → ℕ → Option ℕ) (now : ℕ) (old new : List ℕ) (word : ℕ) (side : End) (stream : ℕ) (done : Done) → Works book v s → Stands book w t → IsRight w.seen
-      → Starts to_come now s t v w old new word (act.Start word) side stream done → IsSmall (Did side stream (kind.Start word) done) → Advances book v w s t (told_of v.number None (Did side stream (kind.Start word) done))
-  started_advances to_come now old new word side stream done was b right (place, next, drew, h) small =
-      let last : IsRight (event v.number h.charge.side h.charge.stream (act.Start word) reply.Done ∷ h.driven.grown.earlier) = subst IsRight h.driven.grown.seen right in
-      let replied : reply_of (stream_before h.driven.grown.earlier (event v.number h.charge.side h.charge.stream (act.Start word) reply.Done)) side (act.Start word) ≡ Some reply.Done =
-      ap (λ (x : End). reply_of (stream_before h.driven.grown.earlier (event v.number h.charge.side h.charge.stream (act.Start word) reply.Done)) x (act.Start word)) h.of_side ∙ last.0 in
-      happened (moved_past s place) old new place now (act.Start word) false side stream done refl refl was b h small.0 (starts (stream_before h.driven.grown.earlier (event v.number h.charge.side h.charge.stream (act.Start word) reply.Done)) side stream word replied small.1) tt
+  -- a start, of one message or of a batch
+  started_advances : (to_come : W → ℕ → Option ℕ) (now : ℕ) (old new : List ℕ) (word : ℕ) (a : Act) (side : End) (stream : ℕ) (done : Done) → Works book v s → Works book w t → IsRight w.seen
+      → Starts to_come now s t v w old new word a side stream done → done.position < 2 ^ 64 → ((before : Stream) → reply_of before side a ≡ Some reply.Done → HasAct (version_of s) side stream a) → HasReply a reply.Done
+      → Advances book v w s t ((done.position, event v.number side stream a reply.Done) ∷ [])
+  started_advances to_come now old new word a side stream done was b right (place, next, drew, h) small acts replies =
+      let e : Event = event v.number h.charge.side h.charge.stream a reply.Done in
+      let before : Stream = stream_before h.driven.grown.earlier e in
+      let last : IsRight (e ∷ h.driven.grown.earlier) = subst IsRight h.driven.grown.seen right in
+      let replied : reply_of before side a ≡ Some reply.Done = ap (λ (x : End). reply_of before x a) h.of_side ∙ last.0 in
+      happened (moved_past s place) old new place now a false side stream done refl refl was b h small (acts before replied) replies
 
-  pub alone_advances : (to_come : W → ℕ → Option ℕ) (now : ℕ) (old new : List ℕ) (turned : Turned) → Works book v s → Stands book w t → IsRight w.seen → TurnsAlone to_come now s t v w old new turned → IsSmall turned
+  pub alone_advances : (to_come : W → ℕ → Option ℕ) (now : ℕ) (old new : List ℕ) (turned : Turned) → Works book v s → Works book w t → IsRight w.seen → TurnsAlone to_come now s t v w old new turned → IsSmall turned
       → Advances book v w s t (told_of v.number None turned)
-  alone_advances to_come now old new Idle was b right h small = nothing old new was b h.1
+  alone_advances to_come now old new Idle was b right h small = nothing old new b h.1
   alone_advances to_come now old new (Unread f) was b right h small = absurd h
   alone_advances to_come now old new Stranger was b right h small = absurd h
-  alone_advances to_come now old new (Did side stream kind.Resend done) was b right (place, next, words, h) small = happened s old new place now act.Resend true side stream done refl refl was b h small.0 (resends side stream) tt
-  alone_advances to_come now old new (Did side stream (kind.Start word) done) was b right (plain, started) small = started_advances to_come now old new word side stream done was b right started small
-  alone_advances to_come now old new (Did side stream (kind.Batch word) done) was b right (together, started) small = absurd (let both : true ≡ false = sym together ∙ was.1 in cc)
+  alone_advances to_come now old new (Did side stream kind.Resend done) was b right (place, next, words, h) small = happened s old new place now act.Resend true side stream done refl refl was b h small.0 (resends (version_of s) side stream) tt
+  alone_advances to_come now old new (Did side stream (kind.Start word) done) was b right (plain, started) small =
+      started_advances to_come now old new word (act.Start word) side stream done was b right started small.0 (λ before replied. starts (version_of s) before side stream word replied small.1) tt
+  alone_advances to_come now old new (Did side stream (kind.Batch word) done) was b right (together, started) small =
+      started_advances to_come now old new word (act.Batch word) side stream done was b right started small.0 (λ before replied. starts_batch (version_of s) before side stream word (batches_told s.batches together) replied small.1) tt
   alone_advances to_come now old new (Did side stream (kind.Deliver word) done) was b right h small = absurd h
   alone_advances to_come now old new (Did side stream kind.Crash done) was b right h small = absurd h
   alone_advances to_come now old new (Did side stream kind.Recover done) was b right h small = absurd h
 
-  pub with_advances : (to_come : W → ℕ → Option ℕ) (newest now : ℕ) (bytes old new : List ℕ) (p : OwnedPacket) (turned : Turned) → Works book v s → Stands book w t → IsBytes bytes
-      → Spells 1 bytes p → ((q : OwnedPacket) → Spells newest bytes q → p ≡ q) → TurnsWith to_come newest bytes now s t v w old new turned → IsSmall turned
+  pub with_advances : (to_come : W → ℕ → Option ℕ) (known now : ℕ) (bytes old new : List ℕ) (p : OwnedPacket) (turned : Turned) → Works book v s → Works book w t → IsBytes bytes
+      → Spells (newest (version_of s)) bytes p → ((q : OwnedPacket) → Spells known bytes q → p ≡ q) → TurnsWith to_come known bytes now s t v w old new turned → IsSmall turned
       → Advances book v w s t (told_of v.number (Some p) turned)
-  with_advances to_come newest now bytes old new p Idle was b known first one h small = absurd h
-  with_advances to_come newest now bytes old new p (Unread f) was b known first one h small = nothing old new was b h.1
-  with_advances to_come newest now bytes old new p Stranger was b known first one (q, spelt, strange, h) small = nothing old new was b h
-  with_advances to_come newest now bytes old new p (Did side stream kind.Resend done) was b known first one h small = absurd h
-  with_advances to_come newest now bytes old new p (Did side stream (kind.Start word) done) was b known first one h small = absurd h
-  with_advances to_come newest now bytes old new p (Did side stream (kind.Batch word) done) was b known first one h small = absurd h
-  with_advances to_come newest now bytes old new p (Did side stream (kind.Deliver word) done) was b known first one (q, place, spelt, meant, drew, h) small =
-      let whole = packet_spelt bytes p q known first (sym (one q spelt)) in
-      let same : q.stream ≡ stream = for_stream s place q h.charge was.0.1 meant h.at ∙ sym h.of_stream in
-      let packet : IsPacketOf stream q = record { version = whole.0.1; spellable = whole.0.0; bytes = whole.0.2; stream = same } in
+  with_advances to_come known now bytes old new p Idle was b are first one h small = absurd h
+  with_advances to_come known now bytes old new p (Unread f) was b are first one h small = nothing old new b h.1
+  with_advances to_come known now bytes old new p Stranger was b are first one (q, spelt, strange, h) small = nothing old new b h
+  with_advances to_come known now bytes old new p (Did side stream kind.Resend done) was b are first one h small = absurd h
+  with_advances to_come known now bytes old new p (Did side stream (kind.Start word) done) was b are first one h small = absurd h
+  with_advances to_come known now bytes old new p (Did side stream (kind.Batch word) done) was b are first one h small = absurd h
+  with_advances to_come known now bytes old new p (Did side stream (kind.Deliver word) done) was b are first one (q, place, spelt, meant, drew, h) small =
+      let whole = packet_spelt (newest (version_of s)) bytes p q are first (sym (one q spelt)) in
+      let told : spelt_under q.body ≤ newest (version_of s) = subst (λ (x : OwnedPacket). spelt_under x.body ≤ newest (version_of s)) (one q spelt) first.version in
+      let same : q.stream ≡ stream = for_stream s place q h.charge was.1 meant h.at ∙ sym h.of_stream in
+      let packet : IsPacketOf (version_of s) stream q = record { version_is = told; spellable = whole.0.0; bytes = whole.0.1; stream = same } in
       subst (λ (x : OwnedPacket). Advances book v w s t ((done.position, event v.number side stream (act.Deliver x word) reply.Done) ∷ [])) (sym (one q spelt))
-      (happened s old new place now (act.Deliver q word) false side stream done refl refl was b h small.0 (delivers side stream q word packet small.1) tt)
-  with_advances to_come newest now bytes old new p (Did side stream kind.Crash done) was b known first one h small = absurd h
-  with_advances to_come newest now bytes old new p (Did side stream kind.Recover done) was b known first one h small = absurd h
+      (happened s old new place now (act.Deliver q word) false side stream done refl refl was b h small.0 (delivers (version_of s) side stream q word packet small.1) tt)
+  with_advances to_come known now bytes old new p (Did side stream kind.Crash done) was b are first one h small = absurd h
+  with_advances to_come known now bytes old new p (Did side stream kind.Recover done) was b are first one h small = absurd h
 
   pub recorded_turn : (old new more : List (ℕ × Event)) → Advances book v w s t more → new ≡ old ++ more → Recorded book v w s t old new
   recorded_turn old new more a added = record { more = more; added = added; advances = a }
 
-  pub recorded_none : (old new : List (ℕ × Event)) → Works book w t → t.charges ≡ s.charges → w ≡ v → new ≡ old → Recorded book v w s t old new
-  recorded_none old new b c h same = record { more = []; added = same ∙ sym (append-nil old); advances = same_advances b c h }
+  pub recorded_none : (old new : List (ℕ × Event)) → Works book w t → t.batches ≡ s.batches → t.charges ≡ s.charges → w ≡ v → new ≡ old → Recorded book v w s t old new
+  recorded_none old new b plain c h same = record { more = []; added = same ∙ sym (append-nil old); advances = same_advances b plain c h }
+
+  -- its version is what it was
+  pub same_version : (version : Version) (old new : List (ℕ × Event)) → version ≡ version_of s → Recorded book v w s t old new → version ≡ version_of t
+  same_version version old new is r = is ∙ ap version_for (sym r.advances.batches)
 
 pub recorded_more : {W : Type 0} (book : BookState) (r s t : Station W) (u v w : PassState) (a b c : List (ℕ × Event)) → Recorded book u v r s a b → Recorded book v w s t b c → Recorded book u w r t a c
-recorded_more book r s t u v w a b c x y = record {
-  more = x.more ++ y.more;
-  added = y.added ∙ (ap (λ l. l ++ y.more) x.added ∙ append_assoc a x.more y.more);
-  advances = record {
-    together = y.advances.together;
-    charges = y.advances.charges ∙ x.advances.charges;
-    tells = tells_more u v w x.more y.more x.advances.tells y.advances.tells;
-    fit = All-append (λ (one : ℕ × Event). Fits book.sides one.1) x.more y.more x.advances.fit y.advances.fit;
-  };
-}
+recorded_more book r s t u v w a b c x y =
+    let later : AllFit (version_of r) book.sides y.more = subst (λ (together : Bool). AllFit (version_for together) book.sides y.more) x.advances.batches y.advances.fit in
+    record {
+      more = x.more ++ y.more;
+      added = y.added ∙ (ap (λ l. l ++ y.more) x.added ∙ append_assoc a x.more y.more);
+      advances = record {
+        together = y.advances.together;
+        charges = y.advances.charges ∙ x.advances.charges;
+        batches = y.advances.batches ∙ x.advances.batches;
+        tells = tells_more u v w x.more y.more x.advances.tells y.advances.tells;
+        fit = All-append (λ (one : ℕ × Event). Fits (version_of r) book.sides one.1) x.more y.more x.advances.fit later;
+      };
+    }

@@ -8,9 +8,12 @@ use Rattle.amo_book.specs.Charge.{ChargeState, IsChargeOf}
 use Rattle.amo_book.specs.Closed.{AllCharges}
 use Rattle.amo_book.specs.Pass.{PassState}
 use Rattle.amo_host.specs.Station.{Station, IsStation}
+use Rattle.amo_journal.specs.declared.version.Version.{Version}
+use Rattle.amo_journal.specs.declared.version.Version.TheVariants.{One}
 use Rattle.amo_run.specs.Told.{Tells, told}
 use Rattle.amo_run.specs.Engine.{ties}
 use Rattle.amo_run.specs.Fits.{AllFit}
+use Rattle.amo_run.specs.Versions.{version_of}
 use Rattle.amo_run.specs.declared.crew.Crew.{Crew}
 use Rattle.amo_run.specs.declared.home.Home.{Home}
 use Rattle.amo_run.specs.declared.work.Done.{Done}
@@ -19,23 +22,23 @@ use Rattle.amo_run.specs.declared.work.ClientThread.{ClientThread}
 use Rattle.amo_run.specs.declared.work.PumpJob.{PumpJob}
 use Rattle.amo_run.specs.declared.work.PumpThread.{PumpThread}
 
--- the events by which the pass's own have grown, each of a side of the book, or a list that was given up
-abbrev pub Made : {A : Type 0} → List (End × ℕ) → PassState → PassState → Result (Vec (ℕ × Event) A) NoMemory → Type 0
-Made sides v w (Ok made) = Tells v w made.items × AllFit sides made.items
-Made sides v w (Err fault) = (lost : List (ℕ × Event)) × Tells v w lost
+-- the events by which the pass's own have grown, each of a side of the book and with a line in this version of journals, or a list that was given up
+abbrev pub Made : {A : Type 0} → Version → List (End × ℕ) → PassState → PassState → Result (Vec (ℕ × Event) A) NoMemory → Type 0
+Made version sides v w (Ok made) = Tells v w made.items × AllFit version sides made.items
+Made version sides v w (Err fault) = (lost : List (ℕ × Event)) × Tells v w lost
 
 -- the second list is the first with these events behind it
 abbrev pub Adds : {A : Type 0} → Result (Vec (ℕ × Event) A) NoMemory → List (ℕ × Event) → List (ℕ × Event) → Type 0
 Adds (Ok made) es es' = es' ≡ es ++ made.items
 Adds (Err fault) es es' = ⊥
 
--- a client's thread: the pass is back, with these events in its history
+-- a client's thread: the pass is back, with these events in its history, for which the first version of journals has lines, too
 abbrev pub Did : BookState → PassState → Done → Type 0
-Did book v d = Made book.sides v d.pass d.made
+Did book v d = Made One book.sides v d.pass d.made
 
--- a pump's thread: so is its pass, and its charges are those that it was given
-abbrev pub Returned : BookState → PassState → List ChargeState → Pumped → Type 0
-Returned book v charges d = Made book.sides v d.pass d.made × (ties d.charges.items ≡ ties charges)
+-- a pump's thread: so is its pass, with events for which the pump's version has lines, and its charges are those that it was given
+abbrev pub Returned : {W : Type 0} → BookState → PassState → Station W → Pumped → Type 0
+Returned book v s d = Made (version_of s) book.sides v d.pass d.made × (ties d.charges.items ≡ ties s.charges)
 
 -- P holds of each element with its number, counted from k
 abbrev pub EachAt : {A : Type 0} → (ℕ → A → Type 0) → ℕ → List A → Type 0
@@ -46,16 +49,18 @@ EachAt P k (x ∷ xs) = P k x × EachAt P (suc k) xs
 abbrev pub IsNew : BookState → ℕ → PassState → Type 0
 IsNew book p c = c ≡ first_pass book.id p
 
--- a pump whose charges are this book's, and for which each message travels by itself
-abbrev pub IsOurs : {W : Type 0} → BookState → Station W → Type 0
-IsOurs book s = Each (IsChargeOf book.id book.sides) s.charges × IsStation s × (s.batches ≡ false)
+-- a pump whose charges are this book's, and whose events have lines in this version of journals
+abbrev pub IsOurs : {W : Type 0} → Version → BookState → Station W → Type 0
+IsOurs version book s = Each (IsChargeOf book.id book.sides) s.charges × IsStation s × (version_of s ≡ version)
 
 -- the thread was promised to give that pass back
 abbrev pub IsClient : BookState → ℕ → ClientThread → Type 0
 IsClient book p t = (t.thread.promise.book.value ≡ book) × (t.thread.promise.pass.value ≡ first_pass book.id p)
 
-abbrev pub IsPump : BookState → ℕ → PumpThread → Type 0
-IsPump book p t = (t.thread.promise.book.value ≡ book) × (t.thread.promise.pass.value ≡ first_pass book.id p)
+-- the same of a pump's, whose events have lines in this version
+abbrev pub IsPump : Version → BookState → ℕ → PumpThread → Type 0
+IsPump version book p t = (t.thread.promise.book.value ≡ book) × (t.thread.promise.pass.value ≡ first_pass book.id p)
+    × (version_of t.thread.promise.pump.value ≡ version)
 
 -- the charges of these pumps, pump by pump
 abbrev pub dealt : {W : Type 0} → List (Station W) → List ChargeState
@@ -77,22 +82,23 @@ abbrev pub joined : List PassState → List (ℕ × Event)
 joined [] = []
 joined (c ∷ cs) = told c ++ joined cs
 
--- The passes that are back are the first of the book. The list has all their events, unless memory was refused.
-pub record SoFar (of : BookState) (h : Home) : Type 0 where
+-- The passes that are back are the first of the book. The list has all their events, each with a line in this version of journals, unless memory was
+-- refused.
+pub record SoFar (version : Version) (of : BookState) (h : Home) : Type 0 where
   pub passes : EachAt (IsHome of) 0 h.passes.items
   pub events : h.is_short ≡ false → h.events.items ≡ joined h.passes.items
-  pub fit : h.is_short ≡ false → AllFit of.sides h.events.items
+  pub fit : h.is_short ≡ false → AllFit version of.sides h.events.items
 
 -- All passes are back, and so are these charges, unless memory was refused.
-pub record IsBack (of : BookState) (charges : List ChargeState) (h : Home) : Type 0 where
-  pub sofar : SoFar of h
+pub record IsBack (version : Version) (of : BookState) (charges : List ChargeState) (h : Home) : Type 0 where
+  pub sofar : SoFar version of h
   pub count : length h.passes.items ≡ of.passes
   pub charges_are : h.is_short ≡ false → ties h.charges.items ≡ ties charges
 
 -- No pass made a call yet, and there is one for each pump and each script. The pumps have all charges of the book.
-pub record IsReady {S C : Type 0} (crew : Crew S C) : Type 0 where
+pub record IsReady {S C : Type 0} (version : Version) (crew : Crew S C) : Type 0 where
   pub passes : EachAt (IsNew crew.book) 0 crew.passes.items × (length crew.passes.items ≡ crew.book.passes)
   pub enough : length crew.jobs.items + length crew.scripts.items ≤ length crew.passes.items
-  pub ours : Each (λ (j : PumpJob C). IsOurs crew.book j.task.pump) crew.jobs.items
+  pub ours : Each (λ (j : PumpJob C). IsOurs version crew.book j.task.pump) crew.jobs.items
   pub all : AllCharges (dealt (map (λ (j : PumpJob C). j.task.pump) crew.jobs.items)) (length crew.book.sides)
   pub lawful : IsLawful crew.book.sides crew.book.passes

@@ -1,5 +1,5 @@
 -- What turns do to a pump, its pass and the record of its events.
-use Rattle.std.specs.Prelude.{◌≡◌, ℕ, false, ◌<◌, ◌^◌, List, [], ◌∷◌, ◌++◌, map, Option, Some, None, Result, Ok, Err}
+use Rattle.std.specs.Prelude.{◌≡◌, ℕ, ◌<◌, ◌^◌, List, [], ◌∷◌, ◌++◌, map, Option, Some, None, Result, Ok, Err}
 use Rattle.atomic_table.specs.Seated.{TableId}
 use Rattle.amo_object.specs.declared.step.End.{End}
 use Rattle.amo_packet.specs.declared.packet.OwnedPacket.{OwnedPacket}
@@ -19,6 +19,7 @@ use Rattle.amo_host.specs.declared.turned.Turned.TheVariants.{Did}
 use Rattle.amo_run.specs.declared.engine.Turn.{Turn}
 use Rattle.amo_run.specs.Fits.{AllFit}
 use Rattle.amo_run.specs.Told.{Tells, listed}
+use Rattle.amo_run.specs.Versions.{version_of}
 
 -- what no act changes in a charge: its book, its place there, its side and its stream
 abbrev pub tie : ChargeState → TableId × (ℕ × (End × ℕ))
@@ -28,19 +29,17 @@ abbrev pub ties : List ChargeState → List (TableId × (ℕ × (End × ℕ)))
 ties charges = map tie charges
 
 -- a pump, whose charges are this book's as the pass is
-abbrev pub Stands : {W : Type 0} → BookState → PassState → Station W → Type 0
-Stands book v s = BelongTogether book v s × IsStation s
-
--- the same, and each message travels by itself, as the first version of journals has it
 abbrev pub Works : {W : Type 0} → BookState → PassState → Station W → Type 0
-Works book v s = Stands book v s × (s.batches ≡ false)
+Works book v s = BelongTogether book v s × IsStation s
 
--- The pass's own events have grown by these, each of a side of the book. Pass and pump still belong together, and the charges are those that the pump had.
+-- The pass's own events have grown by these, each of a side of the book, and with a line in the pump's version of journals. Pass and pump still belong
+-- together, the charges are those that the pump had, and it starts as it did.
 pub record Advances {W : Type 0} (book : BookState) (v w : PassState) (s t : Station W) (made : List (ℕ × Event)) : Type 0 where
   pub together : Works book w t
   pub charges : ties t.charges ≡ ties s.charges
+  pub batches : t.batches ≡ s.batches
   pub tells : Tells v w made
-  pub fit : AllFit book.sides made
+  pub fit : AllFit (version_of s) book.sides made
 
 -- the same, and the record has grown by these events
 pub record Recorded {W : Type 0} (book : BookState) (v w : PassState) (s t : Station W) (old new : List (ℕ × Event)) : Type 0 where

@@ -7,4 +7,5 @@ pub mod Parts
 pub mod Ran
 pub mod Sides
 pub mod Told
+pub mod Versions
 pub mod Whole

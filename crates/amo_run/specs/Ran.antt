@@ -1,10 +1,12 @@
 -- What a run answers.
-use Rattle.std.specs.Prelude.{◌≡◌, Bool, true, false, Some, []}
+use Rattle.std.specs.Prelude.{◌≡◌, Bool, true, false, Some, [], All}
 use Rattle.amo_book.specs.Closed.{ClosedState}
+use Rattle.amo_journal.specs.Journal.{CanSpell}
 use Rattle.amo_run.specs.declared.part.Part.TheVariants.{Both, Senders, Receivers}
 use Rattle.amo_run.specs.declared.ran.Ran.{Ran}
 use Rattle.amo_settings.specs.declared.run.RunSettings.{RunSettings}
 use Rattle.amo_run.specs.Parts.{sides_of, clients_of, pumps_of, passes_of}
+use Rattle.amo_run.specs.Versions.{version_for}
 use Rattle.amo_run.specs.Whole.{IsWhole}
 
 -- the events of the senders' book, and those of the receivers'
@@ -22,3 +24,7 @@ IsOfBooks true s r = IsOfTwo s r
 -- The events are the whole history of each book, in the order of positions: the history that its end tells of.
 abbrev pub IsRanOf : RunSettings → Ran → Type 0
 IsRanOf s r = IsOfBooks s.split s r
+
+-- each event has a line in a journal of the version that the settings choose
+abbrev pub HasLines : RunSettings → Ran → Type 0
+HasLines s r = All (CanSpell (version_for s.batch)) r.events.items × All (CanSpell (version_for s.batch)) r.receivers.items

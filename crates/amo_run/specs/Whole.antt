@@ -8,6 +8,7 @@ use Rattle.amo_book.specs.Charge.{IsChargeOf}
 use Rattle.amo_book.specs.Closed.{ClosedState, AllCharges}
 use Rattle.amo_book.specs.Pass.{Serves, automaton_after}
 use Rattle.amo_book.specs.Rule.{AllBelow}
+use Rattle.amo_journal.specs.declared.version.Version.{Version}
 use Rattle.amo_run.specs.declared.home.Home.{Home}
 use Rattle.amo_run.specs.Crew.{EachAt, IsHome, joined}
 use Rattle.amo_run.specs.Fits.{AllFit}
@@ -28,11 +29,11 @@ pub record IsWhole (sides : List (End × ℕ)) (passes : ℕ) (closed : ClosedSt
   pub count : closed.count ≡ length events
   pub states : closed.states ≡ map (λ side. automaton_after side.0 side.1 history) sides
 
--- all that the book gave out is back, with the events of each pass, unless memory was refused
-pub record Ends (book : BookState) (h : Home) : Type 0 where
+-- all that the book gave out is back, with the events of each pass, which have lines in this version of journals, unless memory was refused
+pub record Ends (version : Version) (book : BookState) (h : Home) : Type 0 where
   pub passes : EachAt (IsHome book) 0 h.passes.items
   pub count : length h.passes.items ≡ book.passes
   pub events : h.is_short ≡ false → h.events.items ≡ joined h.passes.items
   pub charges : h.is_short ≡ false → AllCharges h.charges.items (length book.sides)
   pub ours : h.is_short ≡ false → Each (IsChargeOf book.id book.sides) h.charges.items
-  pub fit : h.is_short ≡ false → AllFit book.sides h.events.items
+  pub fit : h.is_short ≡ false → AllFit version book.sides h.events.items

@@ -4,7 +4,8 @@ ghost use Rattle.amo_object.specs.declared.step.End.TheVariants as end;
 ghost use Rattle.amo_packet.specs.Message.{IsShort};
 ghost use Rattle.amo_text.specs.Message.{IsMessage};
 ghost use Rattle.amo_core.specs.declared.act.Act.TheVariants.{Get};
-ghost use Rattle.amo_audit.specs.Journal.{HasReply};
+ghost use Rattle.amo_journal.specs.declared.version.Version.{Version};
+ghost use Rattle.amo_journal.specs.Journal.{HasReply};
 ghost use Rattle.amo_world.specs.declared.event.Event.{Event};
 ghost use Rattle.amo_book.specs.Calls.{put_answer, get_answer, ack_answer};
 ghost use Rattle.amo_run.specs.Fits.{AllFit};
@@ -18,7 +19,8 @@ use amo_world::{Act, Event, NoMemory, Reply};
 use std::alloc::Global;
 use std::sync::Wait;
 
-/// Makes the calls of a script until it has no more, and answers the events that they made, each with its position.
+/// Makes the calls of a script until it has no more, and answers the events that they made, each with its position. Each has a line in a
+/// journal of either version.
 ///
 /// Nothing bounds a script, so this may never return. Where memory is refused the list is given up; the events stay in
 /// the history.
@@ -32,7 +34,7 @@ pub fn client<S: Script, R: Wait>(
 ) -> Result<Vec<(u64, Event)>, NoMemory>
     requires book { pass.old.book ≡ book.now.id }
     ensures told { IfOk result (λ made. Tells pass.old pass.new made.items) }
-    ensures fit { IfOk result (λ made. AllFit book.now.sides made.items) }
+    ensures fit { IfOk result (λ made. AllFit Version.One book.now.sides made.items) }
     ensures lost { OnErr result ((made : List (ℕ × Event)) × Tells pass.old pass.new made) }
 {
     let mut made = Vec::new(alloc);
@@ -59,7 +61,7 @@ fn answer<S: Script>(
 ) -> Result<Option<(u64, Event)>, NoMemory>
     requires book { pass.old.book ≡ book.now.id }
     ensures told { IfOk result (λ one. Tells pass.old pass.new (listed one)) }
-    ensures fit { IfOk result (λ one. AllFit book.now.sides (listed one)) }
+    ensures fit { IfOk result (λ one. AllFit Version.One book.now.sides (listed one)) }
     ensures memory { OnErr result (pass.new ≡ pass.old) }
 {
     match call {
@@ -80,7 +82,7 @@ fn put<S: Script>(
 ) -> Result<Option<(u64, Event)>, NoMemory>
     requires book { pass.old.book ≡ book.now.id }
     ensures told { IfOk result (λ one. Tells pass.old pass.new (listed one)) }
-    ensures fit { IfOk result (λ one. AllFit book.now.sides (listed one)) }
+    ensures fit { IfOk result (λ one. AllFit Version.One book.now.sides (listed one)) }
     ensures memory { OnErr result (pass.new ≡ pass.old) }
 {
     is_message(&message);
@@ -99,7 +101,7 @@ fn put<S: Script>(
 fn get<S: Script>(book: &Book, pass: &mut Pass, script: &mut S, stream: u32) -> Option<(u64, Event)>
     requires book { pass.old.book ≡ book.now.id }
     ensures told { Tells pass.old pass.new (listed result) }
-    ensures fit { AllFit book.now.sides (listed result) }
+    ensures fit { AllFit Version.One book.now.sides (listed result) }
 {
     let number = pass.number();
     let reply = ClientReply::Get(book.get(pass, stream));
@@ -122,7 +124,7 @@ fn get_ack<S: Script>(
 ) -> Option<(u64, Event)>
     requires book { pass.old.book ≡ book.now.id }
     ensures told { Tells pass.old pass.new (listed result) }
-    ensures fit { AllFit book.now.sides (listed result) }
+    ensures fit { AllFit Version.One book.now.sides (listed result) }
 {
     let number = pass.number();
     let answered = book.get_ack(pass, stream);

@@ -5,6 +5,7 @@ ghost use Rattle.amo_book.specs.Charge.{IsChargeOf};
 ghost use Rattle.amo_book.specs.Closed.{AllCharges};
 ghost use Rattle.amo_run.specs.Crew.{IsOurs, IsReady, dealt};
 ghost use Rattle.amo_run.specs.Parts.{hosts_of, passes_of, pumps_of, sides_of, HasWires};
+ghost use Rattle.amo_run.specs.Versions.{version_for};
 ghost use Rattle.amo_settings.specs.Limits.{AreWithin};
 
 use crate::host::{Host, pumps_of, push_host};
@@ -43,7 +44,7 @@ pub fn muster<S: Drop, C: Drop>(
     requires within { AreWithin settings.now }
     requires scripts { length scripts.items ≤ 56 }
     requires wires { HasWires part (pumps_of settings.now) (length wires.senders.items) (length wires.receivers.items) }
-    ensures ready { IfOk result IsReady }
+    ensures ready { IfOk result (IsReady (version_for settings.now.batch)) }
     ensures sides { IfOk result (λ crew. crew.book.sides ≡ sides_of part settings.now.streams) }
     ensures passes { IfOk result (λ crew. crew.book.passes ≡ passes_of part (pumps_of settings.now) (length scripts.items)) }
 {
@@ -76,7 +77,7 @@ fn jobs_of<C: Drop>(
     requires sides { book.now.sides ≡ sides_of part settings.now.streams }
     requires charges { AreFirstCharges book.now.id book.now.sides charges.items }
     requires belong { Each (IsChargeOf book.now.id book.now.sides) charges.items }
-    ensures ours { IfOk result (λ jobs. Each (λ j. IsOurs book.now j.task.pump) jobs.items) }
+    ensures ours { IfOk result (λ jobs. Each (λ j. IsOurs (version_for settings.now.batch) book.now j.task.pump) jobs.items) }
     ensures all { IfOk result (λ jobs. AllCharges (dealt (map (λ j. j.task.pump) jobs.items)) (length book.now.sides)) }
     ensures count { IfOk result (λ jobs. length jobs.items ≡ hosts_of part * pumps_of settings.now) }
 {

@@ -1,16 +1,23 @@
 //! What a pump's thread does: one turn after another over a link, with the crashes and recoveries of its host.
-ghost use Rattle.std.specs.Prelude.{◌≡◌, ◌≤◌, ◌<◌, ◌++◌, IfSome, OnOk, length, vec_len, vec_capacity};
+ghost use Rattle.std.specs.Prelude.{◌≡◌, ◌≤◌, ◌<◌, ◌++◌, ◌↔◌, IfOk, IfSome, IsErrOf, OnOk, Some, length, vec_len, vec_capacity};
+ghost use Rattle.amo_packet.specs.declared.fault.ReadFault.{ReadFault};
+ghost use Rattle.amo_packet.specs.Fault.{first_fault};
+ghost use Rattle.amo_packet.specs.Grammar.{CanBeWritten, Spells};
+ghost use Rattle.amo_packet.specs.Packet.{packet_of, body_of};
 ghost use Rattle.amo_host.specs.Station.{IsStation};
+ghost use Rattle.amo_journal.specs.Version.{newest};
 ghost use Rattle.amo_run.specs.Told.{listed};
 ghost use Rattle.amo_run.specs.Engine.{Advances, HasWord, Recorded, IsSmall, Works, act_told, told_of, made_in};
+ghost use Rattle.amo_run.specs.Versions.{version_of};
 
 use crate::Progress;
 use crate::plan::{Fate, Plan};
 use crate::source::Source;
 use amo_book::{Book, Pass};
 use amo_host::{Kind, Pump, PumpFault, Turned};
+use amo_journal::Version;
 use amo_net::{Link, MAX_DATAGRAM};
-use amo_packet::{MAX_PACKET, OwnedPacket, read_1};
+use amo_packet::{MAX_PACKET, OwnedPacket, Packet, ReadFault, read, read_1};
 use amo_word::{ChaChaWords, Words};
 use amo_world::{Act, Event, NoMemory, Reply};
 use std::alloc::Global;
@@ -138,10 +145,25 @@ fn turn_alone<W: Words + Drop>(
     }
 }
 
-/// A turn with a datagram. Its packet is copied for the event before the pump has it; one that has no line in a journal is none.
+/// The packet that all of the bytes spell, where its delivery has a line in a journal of this version; else their first fault to a reader
+/// that knows such packets alone.
+fn read_for(version: Version, bytes: &[u8]) -> Result<Packet<'_>, ReadFault>
+    ensures found { IfOk result (λ p. Spells (newest version) bytes.now (packet_of p)) }
+    ensures fits { IfOk result (λ p. CanBeWritten (body_of p.body)) }
+    ensures fault { (f : ReadFault) → IsErrOf result f ↔ (first_fault (newest version) bytes.now ≡ Some f) }
+{
+    match version {
+        Version::One => read_1(bytes),
+        Version::Two => read(bytes),
+    }
+}
+
+/// A turn with a datagram. Its packet is copied for the event before the pump has it; one that has no line in a journal of this version,
+/// which is the pump's, is none.
 #[tactic(auto, using(crate::proofs::Turning::failed_advances, crate::proofs::Turning::same_advances))]
 fn turn_with<W: Words + Drop>(
     alloc: Global,
+    version: Version,
     pump: &mut Pump<W>,
     book: &Book,
     pass: &mut Pass,
@@ -149,11 +171,12 @@ fn turn_with<W: Words + Drop>(
     bytes: &[u8],
     out: &mut [u8; MAX_PACKET],
 ) -> Result<Turn, PumpFault>
-    requires { Works book.now pass.old pump.old }
+    requires works { Works book.now pass.old pump.old }
+    requires version { version ≡ version_of pump.old }
     ensures { Advances book.now pass.old pass.new pump.old pump.new (made_in result) }
 {
     let number = pass.number();
-    let Ok(packet) = read_1(bytes) else {
+    let Ok(packet) = read_for(version, bytes) else {
         return Ok(turn_of(number, None, Turned::Idle));
     };
     let Ok(packet) = packet.copied(alloc) else {
@@ -283,17 +306,20 @@ impl<L: Link, W: Words + Drop> Engine<L, W> {
         tally.count(has_failed);
     }
 
-    /// One turn, with the datagram that has come, if one has; what it emits is sent.
+    /// One turn, with the datagram that has come, if one has; what it emits is sent. Its event has a line in a journal of this version,
+    /// which is the pump's.
     #[tactic(auto, using(crate::proofs::Turning::recorded_turn, crate::proofs::Turning::recorded_none))]
     pub fn turn(
         &mut self,
         alloc: Global,
+        version: Version,
         book: &Book,
         pass: &mut Pass,
         room: &mut Room,
         tally: &mut Tally,
     ) -> Result<(), NoMemory>
-        requires { Works book.now pass.old self.old.pump }
+        requires works { Works book.now pass.old self.old.pump }
+        requires version { version ≡ version_of self.old.pump }
         ensures { Recorded book.now pass.old pass.new self.old.pump self.new.pump tally.old.made.items tally.new.made.items }
     {
         tally.reserve()?;
@@ -304,6 +330,7 @@ impl<L: Link, W: Words + Drop> Engine<L, W> {
             None => turn_alone(&mut self.pump, book, pass, now, said),
             Some(length) => turn_with(
                 alloc,
+                version,
                 &mut self.pump,
                 book,
                 pass,
@@ -421,21 +448,23 @@ impl<L: Link> Engine<L, ChaChaWords> {
     }
 
     /// Makes one turn after another, until all crashes and recoveries of its host have happened and no book has clients at
-    /// work.
+    /// work. Its events have lines in a journal of this version, which is the pump's.
     ///
     /// Where memory is refused it ends at once.
-    #[tactic(auto, using(crate::proofs::Turning::recorded_more, crate::proofs::Turning::recorded_none))]
+    #[tactic(auto, using(crate::proofs::Turning::recorded_more, crate::proofs::Turning::recorded_none, crate::proofs::Turning::same_version))]
     pub fn work<R: Wait>(
         &mut self,
         rt: &R,
         alloc: Global,
+        version: Version,
         book: &Book,
         pass: &mut Pass,
         streams: &[u32],
         progress: &Progress,
         tally: &mut Tally,
     ) -> Result<(), NoMemory>
-        requires { Works book.now pass.old self.old.pump }
+        requires works { Works book.now pass.old self.old.pump }
+        requires version { version ≡ version_of self.old.pump }
         ensures { Recorded book.now pass.old pass.new self.old.pump self.new.pump tally.old.made.items tally.new.made.items }
     {
         let mut room = Room::default();
@@ -443,7 +472,7 @@ impl<L: Link> Engine<L, ChaChaWords> {
             if self.plan.is_over() && progress.has_no_clients() {
                 break;
             }
-            self.turn(alloc, book, pass, &mut room, tally)?;
+            self.turn(alloc, version, book, pass, &mut room, tally)?;
             self.turns = self.turns.saturating_add(1);
             self.follow_plan(rt, book, pass, streams, tally)?;
             tally.tell(progress, TOLD_AT_ONCE);

@@ -6,6 +6,7 @@ ghost use Rattle.amo_run.specs.Crew.{IsOurs, dealt};
 ghost use Rattle.amo_run.specs.Parts.{pumps_of};
 ghost use Rattle.amo_settings.specs.Limits.{AreWithin};
 ghost use Rattle.amo_run.specs.Sides.{IsHostOf};
+ghost use Rattle.amo_run.specs.Versions.{starting, version_for};
 
 use crate::plan::Plan;
 use crate::source::Source;
@@ -29,6 +30,8 @@ pub struct Host {
     /// The half of the crashes that are its own.
     crashes: u32,
     streams: u32,
+    /// Whether the messages that wait on a stream travel together.
+    batch: bool,
 }
 
 impl Host {
@@ -36,6 +39,7 @@ impl Host {
     pub fn of(settings: &RunSettings, side: End) -> Host
         requires { AreWithin settings.now }
         ensures host { (result.seed ≡ settings.now.seed) × (result.side ≡ side) × (result.streams ≡ settings.now.streams) }
+        ensures batch { result.batch ≡ settings.now.batch }
         ensures count { result.pumps ≡ pumps_of settings.now }
         ensures few { (1 ≤ result.pumps) × (result.pumps ≤ 4) × (result.pumps ≤ settings.now.streams) }
     {
@@ -49,6 +53,7 @@ impl Host {
             pumps: pumps_of(settings),
             crashes,
             streams: settings.streams,
+            batch: settings.batch,
         }
     }
 
@@ -108,8 +113,8 @@ pub fn push_host<C: Drop>(
     requires host { IsHostOf book.now charges.items }
     requires pumps { (1 ≤ host.pumps) × (host.pumps ≤ 4) × (host.pumps ≤ length charges.items) }
     requires wires { host.pumps ≤ length wires.items }
-    requires ours { Each (λ j. IsOurs book.now j.task.pump) jobs.old.items }
-    ensures ours { OnOk result (Each (λ j. IsOurs book.now j.task.pump) jobs.new.items) }
+    requires ours { Each (λ j. IsOurs (version_for host.batch) book.now j.task.pump) jobs.old.items }
+    ensures ours { OnOk result (Each (λ j. IsOurs (version_for host.batch) book.now j.task.pump) jobs.new.items) }
     ensures kept { OnOk result ((place : ℕ) → HasCharge (dealt (map (λ j. j.task.pump) jobs.old.items)) place → HasCharge (dealt (map (λ j. j.task.pump) jobs.new.items)) place) }
     ensures added { OnOk result ((place : ℕ) → HasCharge charges.items place → HasCharge (dealt (map (λ j. j.task.pump) jobs.new.items)) place) }
     ensures count { OnOk result (length jobs.new.items ≡ length jobs.old.items + host.pumps) }
@@ -129,6 +134,15 @@ pub fn push_host<C: Drop>(
     }
 }
 
+/// The pump, whose starts are of batches from now on, or of single messages.
+fn starting(pump: Pump<ChaChaWords>, batch: bool) -> Pump<ChaChaWords>
+    ensures { result ≡ starting batch pump }
+{
+    let mut pump = pump;
+    pump.batches(batch);
+    pump
+}
+
 /// Adds these pumps of a host.
 fn push_pumps<C: Drop>(
     alloc: Global,
@@ -139,7 +153,7 @@ fn push_pumps<C: Drop>(
 ) -> Result<(), AllocError>
     requires pumps { (1 ≤ host.pumps) × (host.pumps ≤ 4) × (length pumps.items ≡ host.pumps) }
     requires wires { host.pumps ≤ length wires.items }
-    ensures { OnOk result (map (λ j. j.task.pump) jobs.new.items ≡ map (λ j. j.task.pump) jobs.old.items ++ pumps.items) }
+    ensures { OnOk result (map (λ j. j.task.pump) jobs.new.items ≡ map (λ j. j.task.pump) jobs.old.items ++ map (starting host.batch) pumps.items) }
 {
     let mut wires = wires;
     let mut number = 0u32;
@@ -148,7 +162,7 @@ fn push_pumps<C: Drop>(
             unreachable!()
         };
         let task = Task {
-            pump,
+            pump: starting(pump, host.batch),
             plan: Plan::new(host.crashes),
             source: host.source(number),
             streams: host.streams(alloc, number)?,

@@ -1,12 +1,13 @@
 //! The end of a run.
 ghost use Rattle.std.specs.Prelude.{◌≡◌, All, IfOk, map};
 ghost use Rattle.amo_book.specs.Book.{IsLawful};
-ghost use Rattle.amo_audit.specs.Journal.{CanSpell};
+ghost use Rattle.amo_journal.specs.Journal.{CanSpell};
 ghost use Rattle.amo_run.specs.Whole.{Ends, IsWhole};
 
 use crate::RunFault;
 use crate::home::Home;
 use amo_book::{Book, Closed};
+use amo_journal::Version;
 use amo_world::Event;
 use std::alloc::{AllocError, Global};
 
@@ -21,13 +22,19 @@ pub struct Chronicle {
     pub busy: u64,
 }
 
-/// Closes the book, from which nothing is missing, and puts the events in order.
-pub fn settle(alloc: Global, book: Book, home: Home) -> Result<Chronicle, RunFault>
-    requires ends { Ends book home }
+/// Closes the book, from which nothing is missing, and puts the events in order. They have lines in a journal of this version.
+pub fn settle(
+    alloc: Global,
+    version: Version,
+    book: Book,
+    home: Home,
+) -> Result<Chronicle, RunFault>
+    requires ends { Ends version book home }
     requires lawful { IsLawful book.sides book.passes }
     ensures whole { IfOk result (λ r. IsWhole book.sides book.passes r.closed r.events.items) }
-    ensures spelt { IfOk result (λ r. All CanSpell r.events.items) }
+    ensures spelt { IfOk result (λ r. All (CanSpell version) r.events.items) }
 {
+    let _ = version;
     let Home {
         passes,
         charges,

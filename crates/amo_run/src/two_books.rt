@@ -1,7 +1,7 @@
 //! Two books at work at once.
 ghost use Rattle.std.specs.Prelude.{◌≡◌, ◌+◌, ◌≤◌, length, map, All, IfOk};
-ghost use Rattle.amo_audit.specs.Journal.{CanSpell};
 ghost use Rattle.amo_book.specs.Book.{Each};
+ghost use Rattle.amo_journal.specs.Journal.{CanSpell};
 ghost use Rattle.amo_run.specs.Crew.{EachAt, IsBack, IsNew, IsOurs, IsReady, dealt};
 ghost use Rattle.amo_run.specs.Whole.{IsWhole};
 
@@ -13,15 +13,17 @@ use crate::wire::Wire;
 use crate::work::PumpJob;
 use crate::{Progress, RunFault, Script};
 use amo_book::{Book, Pass};
+use amo_journal::Version;
 use std::alloc::Global;
 use std::snapshot::Snapshot;
 use std::sync::Wait;
 use std::thread;
 use std::thread::{Promise, Threads};
 
-/// The promise that all passes of a book are back, and the charges of these pumps.
+/// The promise that all passes of a book are back, with events that have lines in a journal of this version, and the charges of these pumps.
 #[derive(Drop)]
 pub struct BookPromise<C> {
+    pub version: Version,
     pub book: Snapshot<Book>,
     pub jobs: Snapshot<Vec<PumpJob<C>>>,
 }
@@ -30,22 +32,23 @@ impl<C> Promise<Result<Home, RunFault>> for BookPromise<C> {
     ghost use Rattle.std.specs.Prelude.{map, IfOk};
     ghost use Rattle.amo_run.specs.Crew.{IsBack, dealt};
 
-    ghost kept_by = { λ p r. IfOk r (λ h. IsBack p.book.value (dealt (map (λ j. j.task.pump) p.jobs.value.items)) h) };
+    ghost kept_by = { λ p r. IfOk r (λ h. IsBack p.version p.book.value (dealt (map (λ j. j.task.pump) p.jobs.value.items)) h) };
 }
 
-/// Runs both crews at once, until the clients of both are done, and closes the books.
+/// Runs both crews at once, until the clients of both are done, and closes the books. Each event has a line in a journal of this version.
 pub fn both_at_once<S: Script + Send + Drop, C: Wire + Send + Drop, R: Threads + Wait + Sync>(
     rt: &R,
     alloc: Global,
+    version: Version,
     one: Crew<S, C>,
     other: Crew<S, C>,
     progress: &Progress,
 ) -> Result<(Chronicle, Chronicle), RunFault>
-    requires one { IsReady one }
-    requires other { IsReady other }
+    requires one { IsReady version one }
+    requires other { IsReady version other }
     ensures one { IfOk result (λ t. IsWhole one.book.sides one.book.passes t.0.closed t.0.events.items) }
     ensures other { IfOk result (λ t. IsWhole other.book.sides other.book.passes t.1.closed t.1.events.items) }
-    ensures spelt { IfOk result (λ t. All CanSpell t.0.events.items × All CanSpell t.1.events.items) }
+    ensures spelt { IfOk result (λ t. All (CanSpell version) t.0.events.items × All (CanSpell version) t.1.events.items) }
 {
     let Crew {
         book,
@@ -63,6 +66,7 @@ pub fn both_at_once<S: Script + Send + Drop, C: Wire + Send + Drop, R: Threads +
     let (home, other_home) = both_homes(
         rt,
         alloc,
+        version,
         &book,
         &other_book,
         passes,
@@ -74,8 +78,8 @@ pub fn both_at_once<S: Script + Send + Drop, C: Wire + Send + Drop, R: Threads +
         progress,
     )?;
     Ok((
-        settle(alloc, book, home)?,
-        settle(alloc, other_book, other_home)?,
+        settle(alloc, version, book, home)?,
+        settle(alloc, version, other_book, other_home)?,
     ))
 }
 
@@ -83,6 +87,7 @@ pub fn both_at_once<S: Script + Send + Drop, C: Wire + Send + Drop, R: Threads +
 fn both_homes<S: Script + Send + Drop, C: Wire + Send + Drop, R: Threads + Wait + Sync>(
     rt: &R,
     alloc: Global,
+    version: Version,
     here: &Book,
     there: &Book,
     passes: Vec<Pass>,
@@ -95,12 +100,12 @@ fn both_homes<S: Script + Send + Drop, C: Wire + Send + Drop, R: Threads + Wait 
 ) -> Result<(Home, Home), RunFault>
     requires passes { EachAt (IsNew here.now) 0 passes.items × (length passes.items ≡ here.now.passes) }
     requires enough { length jobs.items + length scripts.items ≤ length passes.items }
-    requires ours { Each (λ j. IsOurs here.now j.task.pump) jobs.items }
+    requires ours { Each (λ j. IsOurs version here.now j.task.pump) jobs.items }
     requires other_passes { EachAt (IsNew there.now) 0 other_passes.items × (length other_passes.items ≡ there.now.passes) }
     requires other_enough { length other_jobs.items + length other_scripts.items ≤ length other_passes.items }
-    requires other_ours { Each (λ j. IsOurs there.now j.task.pump) other_jobs.items }
-    ensures one { IfOk result (λ t. IsBack here.now (dealt (map (λ j. j.task.pump) jobs.items)) t.0) }
-    ensures other { IfOk result (λ t. IsBack there.now (dealt (map (λ j. j.task.pump) other_jobs.items)) t.1) }
+    requires other_ours { Each (λ j. IsOurs version there.now j.task.pump) other_jobs.items }
+    ensures one { IfOk result (λ t. IsBack version here.now (dealt (map (λ j. j.task.pump) jobs.items)) t.0) }
+    ensures other { IfOk result (λ t. IsBack version there.now (dealt (map (λ j. j.task.pump) other_jobs.items)) t.1) }
 {
     thread::scope(
         thread::scope_env(),
@@ -108,14 +113,15 @@ fn both_homes<S: Script + Send + Drop, C: Wire + Send + Drop, R: Threads + Wait 
         |scope| -> Result<(Home, Home), RunFault>
             requires passes { EachAt (IsNew here.now) 0 passes.items × (length passes.items ≡ here.now.passes) }
             requires enough { length jobs.items + length scripts.items ≤ length passes.items }
-            requires ours { Each (λ j. IsOurs here.now j.task.pump) jobs.items }
+            requires ours { Each (λ j. IsOurs version here.now j.task.pump) jobs.items }
             requires other_passes { EachAt (IsNew there.now) 0 other_passes.items × (length other_passes.items ≡ there.now.passes) }
             requires other_enough { length other_jobs.items + length other_scripts.items ≤ length other_passes.items }
-            requires other_ours { Each (λ j. IsOurs there.now j.task.pump) other_jobs.items }
-            ensures one { IfOk result (λ t. IsBack here.entry.now (dealt (map (λ j. j.task.pump) jobs.items)) t.0) }
-            ensures other { IfOk result (λ t. IsBack there.entry.now (dealt (map (λ j. j.task.pump) other_jobs.items)) t.1) }
+            requires other_ours { Each (λ j. IsOurs version there.now j.task.pump) other_jobs.items }
+            ensures one { IfOk result (λ t. IsBack version here.entry.now (dealt (map (λ j. j.task.pump) jobs.items)) t.0) }
+            ensures other { IfOk result (λ t. IsBack version there.entry.now (dealt (map (λ j. j.task.pump) other_jobs.items)) t.1) }
         {
             let promise = BookPromise {
+                version,
                 book: Snapshot::of(there),
                 jobs: Snapshot::of(&other_jobs),
             };
@@ -124,12 +130,13 @@ fn both_homes<S: Script + Send + Drop, C: Wire + Send + Drop, R: Threads + Wait 
                 move || -> Result<Home, RunFault>
                     requires passes { EachAt (IsNew there.now) 0 other_passes.items × (length other_passes.items ≡ there.now.passes) }
                     requires enough { length other_jobs.items + length other_scripts.items ≤ length other_passes.items }
-                    requires ours { Each (λ j. IsOurs there.now j.task.pump) other_jobs.items }
-                    ensures { IfOk result (λ h. IsBack there.entry.now (dealt (map (λ j. j.task.pump) other_jobs.items)) h) }
+                    requires ours { Each (λ j. IsOurs version there.now j.task.pump) other_jobs.items }
+                    ensures { IfOk result (λ h. IsBack version there.entry.now (dealt (map (λ j. j.task.pump) other_jobs.items)) h) }
                 {
                     at_once(
                         rt,
                         alloc,
+                        version,
                         there,
                         other_passes,
                         other_jobs,
@@ -141,7 +148,7 @@ fn both_homes<S: Script + Send + Drop, C: Wire + Send + Drop, R: Threads + Wait 
             let Ok(thread) = thread else {
                 return Err(RunFault::NoMemory);
             };
-            let home = at_once(rt, alloc, here, passes, jobs, scripts, progress);
+            let home = at_once(rt, alloc, version, here, passes, jobs, scripts, progress);
             let other_home = thread.join(rt);
             Ok((home?, other_home?))
         },

@@ -1,10 +1,11 @@
 //! A whole run.
 ghost use Rattle.std.specs.Prelude.{◌≡◌, ◌+◌, ◌*◌, ◌≤◌, length, All, IfOk};
-ghost use Rattle.amo_audit.specs.Journal.{CanSpell};
+ghost use Rattle.amo_journal.specs.Journal.{CanSpell};
 ghost use Rattle.amo_run.specs.declared.part.Part.TheVariants.{Both, Senders, Receivers};
 ghost use Rattle.amo_run.specs.Parts.{clients_of, passes_of, pumps_of, sides_of};
-ghost use Rattle.amo_run.specs.Ran.{IsOfBooks, IsOfTwo, IsRanOf};
+ghost use Rattle.amo_run.specs.Ran.{HasLines, IsOfBooks, IsOfTwo, IsRanOf};
 ghost use Rattle.amo_settings.specs.Limits.{AreWithin};
+ghost use Rattle.amo_run.specs.Versions.{version_for};
 ghost use Rattle.amo_run.specs.Whole.{IsWhole};
 
 use crate::crew::{Crew, Wires, muster};
@@ -14,6 +15,7 @@ use crate::report::{Chronicle, settle};
 use crate::source::channel_words;
 use crate::threads::at_once;
 use crate::two_books::both_at_once;
+use crate::version::version_of;
 use crate::wire::{Socket, Wire};
 use crate::workload::workloads;
 use crate::{LinkKind, Progress, Ran, RunFault, RunSettings, Script};
@@ -26,7 +28,7 @@ use std::sync::{Mutex, Wait};
 use std::thread::Threads;
 
 /// Runs two hosts and their clients, each pump and each client on a thread of its own, until all clients are done and all crashes and
-/// recoveries have happened. It answers what they did.
+/// recoveries have happened. It answers what they did, each event with a line in a journal of the version that [`version_of`] tells.
 ///
 /// Sockets are opened first. A datagram that a link loses or refuses to carry is lost, and a link's failures are counted. No thread is
 /// left behind, also where one is refused.
@@ -37,7 +39,7 @@ pub fn run<R: Threads + Wait + Net + Sync>(
 ) -> Result<Ran, RunFault>
     requires within { AreWithin settings.now }
     ensures whole { IfOk result (IsRanOf settings.now) }
-    ensures spelt { IfOk result (λ r. All CanSpell r.events.items × All CanSpell r.receivers.items) }
+    ensures spelt { IfOk result (HasLines settings.now) }
 {
     run_watched(rt, alloc, settings, &Progress::new())
 }
@@ -51,7 +53,7 @@ pub fn run_watched<R: Threads + Wait + Net + Sync>(
 ) -> Result<Ran, RunFault>
     requires within { AreWithin settings.now }
     ensures whole { IfOk result (IsRanOf settings.now) }
-    ensures spelt { IfOk result (λ r. All CanSpell r.events.items × All CanSpell r.receivers.items) }
+    ensures spelt { IfOk result (HasLines settings.now) }
 {
     let ran = run_linked(rt, alloc, settings, progress);
     progress.end();
@@ -67,7 +69,7 @@ fn run_linked<R: Threads + Wait + Net + Sync>(
 ) -> Result<Ran, RunFault>
     requires within { AreWithin settings.now }
     ensures whole { IfOk result (IsRanOf settings.now) }
-    ensures spelt { IfOk result (λ r. All CanSpell r.events.items × All CanSpell r.receivers.items) }
+    ensures spelt { IfOk result (HasLines settings.now) }
 {
     match settings.link {
         LinkKind::Memory => run_in_memory(rt, alloc, settings, progress),
@@ -87,7 +89,7 @@ fn run_in_memory<R: Threads + Wait + Sync>(
 ) -> Result<Ran, RunFault>
     requires within { AreWithin settings.now }
     ensures whole { IfOk result (IsRanOf settings.now) }
-    ensures spelt { IfOk result (λ r. All CanSpell r.events.items × All CanSpell r.receivers.items) }
+    ensures spelt { IfOk result (HasLines settings.now) }
 {
     let Ok(channels) = channels(alloc, settings.seed, pumps_of(settings)) else {
         return Err(RunFault::NoMemory);
@@ -190,7 +192,7 @@ fn run_over<C: Wire + Send + Drop, R: Threads + Wait + Sync>(
     requires senders { pumps_of settings.now ≤ length wires.senders.items }
     requires receivers { pumps_of settings.now ≤ length wires.receivers.items }
     ensures whole { IfOk result (IsRanOf settings.now) }
-    ensures spelt { IfOk result (λ r. All CanSpell r.events.items × All CanSpell r.receivers.items) }
+    ensures spelt { IfOk result (HasLines settings.now) }
 {
     if settings.split {
         return run_apart(rt, alloc, settings, wires, progress);
@@ -215,9 +217,10 @@ pub fn run_scripts<S: Script + Send + Drop, C: Wire + Send + Drop, R: Threads + 
     requires senders { pumps_of settings.now ≤ length wires.senders.items }
     requires receivers { pumps_of settings.now ≤ length wires.receivers.items }
     requires scripts { length scripts.items ≤ 56 }
-    ensures spelt { IfOk result (λ r. All CanSpell r.events.items) }
+    ensures spelt { IfOk result (λ r. All (CanSpell (version_for settings.now.batch)) r.events.items) }
     ensures whole { IfOk result (λ r. IsWhole (sides_of Both settings.now.streams) (passes_of Both (pumps_of settings.now) (length scripts.items)) r.closed r.events.items) }
 {
+    let version = version_of(settings);
     let Crew {
         book,
         passes,
@@ -225,8 +228,8 @@ pub fn run_scripts<S: Script + Send + Drop, C: Wire + Send + Drop, R: Threads + 
         scripts,
     } = muster(alloc, settings, Part::Both, wires, scripts)?;
     progress.begin(1);
-    let home = at_once(rt, alloc, &book, passes, jobs, scripts, progress)?;
-    settle(alloc, book, home)
+    let home = at_once(rt, alloc, version, &book, passes, jobs, scripts, progress)?;
+    settle(alloc, version, book, home)
 }
 
 /// A run on two books: the senders', and the receivers'.
@@ -241,7 +244,7 @@ fn run_apart<C: Wire + Send + Drop, R: Threads + Wait + Sync>(
     requires senders { pumps_of settings.now ≤ length wires.senders.items }
     requires receivers { pumps_of settings.now ≤ length wires.receivers.items }
     ensures two { IfOk result (IsOfTwo settings.now) }
-    ensures spelt { IfOk result (λ r. All CanSpell r.events.items × All CanSpell r.receivers.items) }
+    ensures spelt { IfOk result (HasLines settings.now) }
 {
     let Wires { senders, receivers } = wires;
     let Ok(putting) = workloads(alloc, Part::Senders, settings) else {
@@ -260,6 +263,6 @@ fn run_apart<C: Wire + Send + Drop, R: Threads + Wait + Sync>(
     };
     let one = muster(alloc, settings, Part::Senders, senders, putting)?;
     let other = muster(alloc, settings, Part::Receivers, receivers, getting)?;
-    let (one, other) = both_at_once(rt, alloc, one, other, progress)?;
+    let (one, other) = both_at_once(rt, alloc, version_of(settings), one, other, progress)?;
     Ok(Ran::of_two(one, other))
 }

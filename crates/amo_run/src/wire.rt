@@ -2,10 +2,12 @@
 ghost use Rattle.std.specs.Prelude.{◌≡◌, ◌<◌};
 ghost use Rattle.amo_run.specs.Crew.{Returned};
 ghost use Rattle.amo_run.specs.Engine.{Works};
+ghost use Rattle.amo_run.specs.Versions.{version_of};
 
 use crate::Progress;
 use crate::work::{Pumped, Task, cut_off, drive};
 use amo_book::{Book, Pass};
+use amo_journal::Version;
 use amo_net::{Lossy, LossyEnd, UdpPort};
 use amo_word::ChaChaWords;
 use std::alloc::Global;
@@ -18,19 +20,22 @@ use std::sync::ledger::{Blank, Ledger};
 pub trait Wire {
     ghost use Rattle.amo_run.specs.Crew.{Returned};
     ghost use Rattle.amo_run.specs.Engine.{Works};
+    ghost use Rattle.amo_run.specs.Versions.{version_of};
 
-    /// Drives a pump over the link.
+    /// Drives a pump over the link. Its events have lines in a journal of this version.
     fn drive<R: Wait>(
         self,
         rt: &R,
         alloc: Global,
+        version: Version,
         book: &Book,
         pass: Pass,
         task: Task,
         progress: &Progress,
     ) -> Pumped
-        requires { Works book.now pass task.pump }
-        ensures { Returned book.now pass task.pump.charges result };
+        requires works { Works book.now pass task.pump }
+        requires version { version ≡ version_of task.pump }
+        ensures { Returned book.now pass task.pump result };
 }
 
 impl<'a, W: Wait> Wire for LossyEnd<'a, ChaChaWords, W> {
@@ -38,12 +43,13 @@ impl<'a, W: Wait> Wire for LossyEnd<'a, ChaChaWords, W> {
         self,
         rt: &R,
         alloc: Global,
+        version: Version,
         book: &Book,
         pass: Pass,
         task: Task,
         progress: &Progress,
     ) -> Pumped {
-        drive(rt, alloc, book, pass, task, self, progress)
+        drive(rt, alloc, version, book, pass, task, self, progress)
     }
 }
 
@@ -59,12 +65,23 @@ impl Wire for Socket {
         self,
         rt: &R,
         alloc: Global,
+        version: Version,
         book: &Book,
         pass: Pass,
         task: Task,
         progress: &Progress,
     ) -> Pumped {
-        drive_socket::<R, Brand>(rt, alloc, book, pass, task, self, progress, Blank::new(1))
+        drive_socket::<R, Brand>(
+            rt,
+            alloc,
+            version,
+            book,
+            pass,
+            task,
+            self,
+            progress,
+            Blank::new(1),
+        )
     }
 }
 
@@ -72,6 +89,7 @@ impl Wire for Socket {
 fn drive_socket<R: Wait, L: Ledger>(
     rt: &R,
     alloc: Global,
+    version: Version,
     book: &Book,
     pass: Pass,
     task: Task,
@@ -83,11 +101,12 @@ fn drive_socket<R: Wait, L: Ledger>(
     requires parts { blank.parts ≡ L.parts }
     requires some { 0 < L.parts }
     requires together { Works book.now pass task.pump }
-    ensures { Returned book.now pass task.pump.charges result }
+    requires version { version ≡ version_of task.pump }
+    ensures { Returned book.now pass task.pump result }
 {
     let Socket { port, peer } = socket;
     match port.connect::<L>(peer, blank) {
-        Ok(link) => drive(rt, alloc, book, pass, task, link, progress),
+        Ok(link) => drive(rt, alloc, version, book, pass, task, link, progress),
         Err(fault) => cut_off(alloc, book, pass, task, fault),
     }
 }

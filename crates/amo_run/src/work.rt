@@ -2,6 +2,7 @@
 ghost use Rattle.std.specs.Prelude.{◌≡◌, [], IfOk};
 ghost use Rattle.amo_run.specs.Crew.{Did, Returned};
 ghost use Rattle.amo_run.specs.Engine.{Works};
+ghost use Rattle.amo_run.specs.Versions.{version_of};
 
 use crate::engine::{Engine, Tally};
 use crate::plan::Plan;
@@ -11,6 +12,7 @@ use crate::wire::Wire;
 use crate::{Progress, Script, client};
 use amo_book::{Book, Charge, Pass};
 use amo_host::Pump;
+use amo_journal::Version;
 use amo_net::{Link, LinkFault};
 use amo_word::ChaChaWords;
 use amo_world::{Event, NoMemory};
@@ -85,7 +87,7 @@ pub struct PumpPromise {
 impl Promise<Pumped> for PumpPromise {
     ghost use Rattle.amo_run.specs.Crew.{Returned};
 
-    ghost kept_by = { λ p d. Returned p.book.value p.pass.value p.pump.value.charges d };
+    ghost kept_by = { λ p d. Returned p.book.value p.pass.value p.pump.value d };
 }
 
 /// A pump's thread that runs.
@@ -115,16 +117,18 @@ pub fn follow_script<S: Script + Drop, R: Wait>(
 pub fn follow_task<C: Wire + Drop, R: Wait>(
     rt: &R,
     alloc: Global,
+    version: Version,
     book: &Book,
     pass: Pass,
     job: PumpJob<C>,
     progress: &Progress,
 ) -> Pumped
-    requires { Works book.now pass job.task.pump }
-    ensures { Returned book.now pass job.task.pump.charges result }
+    requires works { Works book.now pass job.task.pump }
+    requires version { version ≡ version_of job.task.pump }
+    ensures { Returned book.now pass job.task.pump result }
 {
     let PumpJob { task, wire } = job;
-    wire.drive(rt, alloc, book, pass, task, progress)
+    wire.drive(rt, alloc, version, book, pass, task, progress)
 }
 
 /// Drives a pump over its link.
@@ -132,14 +136,16 @@ pub fn follow_task<C: Wire + Drop, R: Wait>(
 pub fn drive<L: Link + Drop, R: Wait>(
     rt: &R,
     alloc: Global,
+    version: Version,
     book: &Book,
     pass: Pass,
     task: Task,
     link: L,
     progress: &Progress,
 ) -> Pumped
-    requires { Works book.now pass task.pump }
-    ensures { Returned book.now pass task.pump.charges result }
+    requires works { Works book.now pass task.pump }
+    requires version { version ≡ version_of task.pump }
+    ensures { Returned book.now pass task.pump result }
 {
     let Task {
         pump,
@@ -166,6 +172,7 @@ pub fn drive<L: Link + Drop, R: Wait>(
     let worked = engine.work(
         rt,
         alloc,
+        version,
         book,
         &mut pass,
         streams.as_slice(),
@@ -192,7 +199,7 @@ pub fn drive<L: Link + Drop, R: Wait>(
 /// What comes back where there is no link, for want of a socket or of memory.
 #[tactic(auto, using(crate::proofs::Crews::made_kept, crate::proofs::Tellings::tells_none, crate::proofs::Turning::fit_none))]
 pub fn cut_off(alloc: Global, book: &Book, pass: Pass, task: Task, fault: LinkFault) -> Pumped
-    ensures { Returned book.now pass task.pump.charges result }
+    ensures { Returned book.now pass task.pump result }
 {
     let _ = book;
     let Task { pump, .. } = task;

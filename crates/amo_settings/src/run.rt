@@ -17,6 +17,8 @@ pub struct RunSettings {
     pub pumps: u32,
     /// Whether each host has a book of its own.
     pub split: bool,
+    /// Whether the messages that wait on a stream travel together, as a batch.
+    pub batch: bool,
 }
 
 /// What carries the packets of a run.

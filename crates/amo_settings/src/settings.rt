@@ -49,6 +49,8 @@ pub struct SendSettings {
     pub host: HostSettings,
     /// Whether a stream's next message is put only once the last one's answer came.
     pub each: bool,
+    /// Whether the messages that wait on a stream travel together, as a batch, which contradicts `each`.
+    pub batch: bool,
     /// Whether messages come in HEX.
     pub hex: bool,
 }

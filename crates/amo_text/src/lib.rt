@@ -46,6 +46,6 @@ pub use items::{CheckedItem, LineItem, LinesFault, first_malformed, item_in_fron
 pub use line::{cut, next_field, next_line};
 pub use message::{is_message, read_message};
 pub use reply::push_reply;
-pub use side::read_side;
+pub use side::{push_side, read_side};
 pub use sink::{Out, Sink, SinkFault, write_all};
 pub use stream::read_stream;

@@ -1,5 +1,5 @@
 //! Why the program fails.
-use amo_audit::JournalFault;
+use amo_journal::JournalFault;
 use amo_live::ProcessFault;
 use amo_replay::ToolFault;
 use amo_run::RunFault;
@@ -29,6 +29,11 @@ pub(crate) enum Failure {
 }
 
 impl From<ToolFault> for Failure {
+    ghost use Rattle.std.specs.Prelude.{◌≡◌};
+    ghost use Rattle.amo_tool.specs.Failure.{replay_failure};
+
+    ghost from_gives = { λ fault failure. failure ≡ replay_failure fault };
+
     fn from(fault: ToolFault) -> Failure {
         match fault {
             ToolFault::NoMemory => Failure::NoMemory,
@@ -39,6 +44,11 @@ impl From<ToolFault> for Failure {
 }
 
 impl From<JournalFault> for Failure {
+    ghost use Rattle.std.specs.Prelude.{◌≡◌};
+    ghost use Rattle.amo_tool.specs.Failure.{journal_failure};
+
+    ghost from_gives = { λ fault failure. failure ≡ journal_failure fault };
+
     fn from(fault: JournalFault) -> Failure {
         match fault {
             JournalFault::NoMemory => Failure::NoMemory,
@@ -48,6 +58,11 @@ impl From<JournalFault> for Failure {
 }
 
 impl From<RunFault> for Failure {
+    ghost use Rattle.std.specs.Prelude.{◌≡◌};
+    ghost use Rattle.amo_tool.specs.Failure.{run_failure};
+
+    ghost from_gives = { λ fault failure. failure ≡ run_failure fault };
+
     fn from(fault: RunFault) -> Failure {
         match fault {
             RunFault::NoMemory => Failure::NoMemory,
@@ -57,12 +72,22 @@ impl From<RunFault> for Failure {
 }
 
 impl From<ProcessFault> for Failure {
+    ghost use Rattle.std.specs.Prelude.{◌≡◌};
+    ghost use Rattle.amo_tool.specs.declared.failure.Failure.TheVariants.{Host};
+
+    ghost from_gives = { λ fault failure. failure ≡ Host fault };
+
     fn from(fault: ProcessFault) -> Failure {
         Failure::Host(fault)
     }
 }
 
 impl From<AllocError> for Failure {
+    ghost use Rattle.std.specs.Prelude.{◌≡◌};
+    ghost use Rattle.amo_tool.specs.declared.failure.Failure.TheVariants.{NoMemory};
+
+    ghost from_gives = { λ _ failure. failure ≡ NoMemory };
+
     fn from(_: AllocError) -> Failure {
         Failure::NoMemory
     }

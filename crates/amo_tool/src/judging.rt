@@ -2,7 +2,8 @@
 ghost use Rattle.std.specs.Prelude.{◌≡◌, ◌<◌};
 
 use crate::failure::Failure;
-use amo_audit::{JournalFault, Verdict, explain, report, tell};
+use amo_audit::{Verdict, explain, report, tell};
+use amo_journal::JournalFault;
 use amo_text::Out;
 use std::io::{BufWriter, Printer, Write};
 use std::marker::Brand;

@@ -1,7 +1,6 @@
 //! A line at a terminal that tells how far a run is.
-ghost use Rattle.std.specs.Prelude.{All, IfOk};
-ghost use Rattle.amo_audit.specs.Journal.{CanSpell};
-ghost use Rattle.amo_run.specs.Ran.{IsRanOf};
+ghost use Rattle.std.specs.Prelude.{IfOk};
+ghost use Rattle.amo_run.specs.Ran.{HasLines, IsRanOf};
 ghost use Rattle.amo_settings.specs.Limits.{AreWithin};
 
 use amo_run::{Progress, Ran, RunFault, RunSettings, run_watched};
@@ -30,7 +29,7 @@ pub(crate) fn run_shown<R: Threads + Wait + Net + Sync, E: Write + IsTerminal + 
 ) -> Result<Ran, RunFault>
     requires within { AreWithin settings.now }
     ensures whole { IfOk result (IsRanOf settings.now) }
-    ensures spelt { IfOk result (λ r. All CanSpell r.events.items × All CanSpell r.receivers.items) }
+    ensures spelt { IfOk result (HasLines settings.now) }
 {
     let progress = Progress::new();
     if errors.is_terminal() {
@@ -50,7 +49,7 @@ fn run_beside_line<R: Threads + Wait + Net + Sync, E: Write + Send + Drop>(
 ) -> Result<Ran, RunFault>
     requires within { AreWithin settings.now }
     ensures whole { IfOk result (IsRanOf settings.now) }
-    ensures spelt { IfOk result (λ r. All CanSpell r.events.items × All CanSpell r.receivers.items) }
+    ensures spelt { IfOk result (HasLines settings.now) }
 {
     thread::scope(
         thread::scope_env(),
@@ -58,7 +57,7 @@ fn run_beside_line<R: Threads + Wait + Net + Sync, E: Write + Send + Drop>(
         |scope| -> Result<Ran, RunFault>
             requires within { AreWithin settings.now }
             ensures whole { IfOk result (IsRanOf settings.entry.now) }
-            ensures spelt { IfOk result (λ r. All CanSpell r.events.items × All CanSpell r.receivers.items) }
+            ensures spelt { IfOk result (HasLines settings.entry.now) }
         {
             let _ = scope.spawn(move || show_until_end(rt, alloc, progress, terminal));
             run_watched(rt, alloc, settings, progress)

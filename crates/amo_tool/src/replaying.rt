@@ -1,5 +1,8 @@
 //! Replays the schedule in a file.
-ghost use Rattle.std.specs.Prelude.{◌≡◌, ◌<◌};
+ghost use Rattle.std.specs.Prelude.{◌≡◌, ◌<◌, ℕ, IfOk, List};
+ghost use Rattle.amo_replay.specs.Ending.{status_of};
+ghost use Rattle.amo_replay.specs.Transcript.{IsTranscript};
+ghost use Rattle.amo_replay.specs.declared.endings.Ending.{Ending};
 
 use crate::failure::Failure;
 use amo_replay::{Ending, ToolFault, ending, replay};
@@ -17,8 +20,29 @@ pub(crate) fn replay_file<R: AllocGlobal + Files + Print, E: Write + Drop>(
     errors: E,
 ) -> Result<u8, Failure> {
     let bytes = fs::read(rt, file)?;
-    let how = replay_bytes::<R, Brand>(rt, bytes.as_slice(), Blank::new(1))?;
-    tell_ending::<R, E, Brand>(rt, &how, errors, Blank::new(1))
+    replay_and_tell::<R, E, Brand, Brand>(
+        rt,
+        bytes.as_slice(),
+        errors,
+        Blank::new(1),
+        Blank::new(1),
+    )
+}
+
+/// Replays the bytes of a schedule, tells how that ended, and answers the status that goes with it.
+fn replay_and_tell<R: AllocGlobal + Print, E: Write + Drop, L: Ledger, M: Ledger>(
+    rt: &R,
+    bytes: &[u8],
+    errors: E,
+    transcript: Blank,
+    telling: Blank,
+) -> Result<u8, Failure>
+    requires transcript { (transcript.name ≡ L.name) × (transcript.parts ≡ L.parts) × (0 < L.parts) }
+    requires telling { (telling.name ≡ M.name) × (telling.parts ≡ M.parts) × (0 < M.parts) }
+    ensures { IfOk result (λ status. (texts : List (List ℕ)) × ((ending : Ending) × (IsTranscript bytes.now texts ending × (status ≡ status_of ending)))) }
+{
+    let how = replay_bytes::<R, L>(rt, bytes, transcript)?;
+    tell_ending::<R, E, M>(rt, &how, errors, telling)
 }
 
 /// Replays the bytes of a schedule to standard output. What was written has left when it answers.
@@ -30,6 +54,7 @@ fn replay_bytes<R: AllocGlobal + Print, L: Ledger>(
     requires name { blank.name ≡ L.name }
     requires parts { blank.parts ≡ L.parts }
     requires some { 0 < L.parts }
+    ensures { IfOk result (λ ending. (texts : List (List ℕ)) × IsTranscript bytes.now texts ending) }
 {
     let buffered = BufWriter::new(rt.alloc(), io::writer(rt))?;
     let mut out = Out::<BufWriter<Printer<'_, R>>, L>::new(buffered, blank);
@@ -48,6 +73,7 @@ fn tell_ending<R: AllocGlobal, E: Write + Drop, L: Ledger>(
     requires name { blank.name ≡ L.name }
     requires parts { blank.parts ≡ L.parts }
     requires some { 0 < L.parts }
+    ensures { IfOk result (λ status. status ≡ status_of how.now) }
 {
     let mut out = Out::<E, L>::new(errors, blank);
     match ending(rt.alloc(), how, &mut out) {

@@ -16,7 +16,6 @@ ghost use Rattle.amo_core.specs.declared.mode.Mode.TheVariants as mode;
 ghost use Rattle.amo_core.specs.declared.reply.Reply.TheVariants as reply;
 ghost use Rattle.amo_core.specs.declared.reply.Reply.TheVariants.{Done};
 ghost use Rattle.amo_core.specs.declared.sender.SenderMode.TheVariants as sending;
-ghost use Rattle.amo_core.specs.declared.sender.TheConstants.{MAX_WAITING};
 ghost use Rattle.amo_core.specs.Automaton.{row, used_word};
 ghost use Rattle.amo_core.specs.Sender as sender;
 ghost use Rattle.amo_core.specs.Receiver as receiver;
@@ -168,9 +167,9 @@ pub fn acts_have_replies()
 pub fn calls_reply_by_mode()
     ensures put_while_down { (s : Stream) (m : List ℕ) → sender.kind s.sender.state.mode ≡ mode.Down → reply_of s Sender (Put m) ≡ Some reply.Down }
     ensures put_while_full { (s : Stream) (m : List ℕ) → sender.kind s.sender.state.mode ≢ mode.Down
-        → length s.sender.state.waiting ≡ MAX_WAITING → reply_of s Sender (Put m) ≡ Some reply.Full }
+        → length s.sender.state.waiting ≡ sender.max_waiting → reply_of s Sender (Put m) ≡ Some reply.Full }
     ensures put_with_room { (s : Stream) (m : List ℕ) → sender.kind s.sender.state.mode ≢ mode.Down
-        → length s.sender.state.waiting ≢ MAX_WAITING → reply_of s Sender (Put m) ≡ Some reply.Ok }
+        → length s.sender.state.waiting ≢ sender.max_waiting → reply_of s Sender (Put m) ≡ Some reply.Ok }
     ensures ack_while_down { (s : Stream) → sender.kind s.sender.state.mode ≡ mode.Down → reply_of s Sender Ack ≡ Some reply.Down }
     ensures ack_while_waiting { (s : Stream) → sender.kind s.sender.state.mode ≢ mode.Down
         → s.sender.state.waiting ≢ [] → reply_of s Sender Ack ≡ Some reply.NotYet }

@@ -14,6 +14,7 @@ returns c =
     let seed : rule_of c.text.result ≡ text (codes "seed") = search rules in
     let journal : rule_of c.text-2.result ≡ text (codes "journal") = search rules in
     let split : rule_of c.flag.result ≡ flag (codes "split") = search rules in
+    let batch : rule_of c.flag-2.result ≡ flag (codes "batch") = search rules in
     let none : IsCommand (new_app (codes "run")) c.with_texts.result = c.with_texts.ensures in
     let one = with_argument c.in_ok-arg.ensures streams c.number.ensures.local none in
     let two = with_argument c.in_ok-arg-2.ensures clients c.number-2.ensures.local one in
@@ -22,4 +23,5 @@ returns c =
     let five = with_argument c.in_ok-arg-5.ensures links.2 c.link.ensures.local four in
     let six = with_argument c.in_ok-arg-6.ensures journal c.text-2.ensures.local five in
     let seven = with_argument c.in_ok-arg-7.ensures c.pumps.ensures.rule c.pumps.ensures.local six in
-    IfOk-weaker c.arg-8.result _ _ (λ m h. (links.0, links.1, with_argument h split c.flag.ensures.local seven)) c.arg-8.ensures
+    let eight = with_argument c.in_ok-arg-8.ensures split c.flag.ensures.local seven in
+    IfOk-weaker c.arg-9.result _ _ (λ m h. (links.0, links.1, with_argument h batch c.flag-2.ensures.local eight)) c.arg-9.ensures

@@ -5,7 +5,7 @@ use Rattle.amo_audit.proofs.entering.enter_both.Given as goal
 
 -- both have come so far
 abbrev pub invariant-loop-right : goal.invariant-loop-right
-invariant-loop-right l = Along l.first l.second l.world l.left.next l.left.rest.now l.right.next l.right.rest.now
+invariant-loop-right l = Along l.first l.second l.world l.left.next l.left.rest l.right.next l.right.rest
 
 abbrev pub decreases-loop-right : goal.decreases-loop-right
-decreases-loop-right l = left_of l.left.next l.left.rest.now + left_of l.right.next l.right.rest.now
+decreases-loop-right l = left_of l.left.next l.left.rest + left_of l.right.next l.right.rest

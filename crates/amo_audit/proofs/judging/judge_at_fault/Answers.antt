@@ -11,7 +11,7 @@ loop-right-init c =
       followed = record {
         past = [];
         follows = c.in_ok-both.ensures.follows;
-        going = begin c.args.first.now c.args.second.now c.in_ok-left.left.next c.in_ok-left.left.rest.now c.in_ok-right.right.next c.in_ok-right.right.rest.now x y p q apart
+        going = begin c.args.first c.args.second c.in_ok-left.left.next c.in_ok-left.left.rest c.in_ok-right.right.next c.in_ok-right.right.rest x y p q apart
             (c.in_ok-left.ensures.coming 0 x p) (c.in_ok-right.ensures.coming 0 y q);
       };
       left_stream = c.in_ok-left.ensures.stream;
@@ -23,10 +23,10 @@ pub loop-right-preserved-then-may_go : goal.loop-right-preserved-then-may_go
 loop-right-preserved-then-may_go c =
     let followed = c.loop-right.invariant.followed in
     let may = (c.may_go.ensures followed.past followed.follows).0 c.if-may_go.true in
-    let more = one_is_left followed.past c.loop-right.left.next c.loop-right.left.rest.now may in
+    let more = one_is_left followed.past c.loop-right.left.next c.loop-right.left.rest may in
     record {
-      followed = left_taken c.args.first.now c.args.second.now c.loop-right.both c.take.new.self c.loop-right.left.next c.loop-right.left.rest.now c.loop-right.right.next c.loop-right.right.rest.now followed
-          c.in_ok-left-2.left.next c.in_ok-left-2.left.rest.now may c.in_ok-left-2.ensures.follows;
+      followed = left_taken c.args.first c.args.second c.loop-right.both c.take.new.self c.loop-right.left.next c.loop-right.left.rest c.loop-right.right.next c.loop-right.right.rest followed
+          c.in_ok-left-2.left.next c.in_ok-left-2.left.rest may c.in_ok-left-2.ensures.follows;
       left_stream = c.in_ok-left-2.ensures.stream;
       right_stream = c.loop-right.invariant.right_stream;
       few = omega (arith, c.loop-right.invariant.few, c.in_ok-left-2.ensures.lines, c.in_ok-left-2.ensures.fewer, more);
@@ -36,10 +36,10 @@ pub loop-right-preserved : goal.loop-right-preserved
 loop-right-preserved c =
     let followed = c.loop-right.invariant.followed in
     let may = (c.may_go-else-may_go.ensures followed.past followed.follows).0 c.if-may_go-2.true in
-    let more = one_is_left followed.past c.loop-right.right.next c.loop-right.right.rest.now may in
+    let more = one_is_left followed.past c.loop-right.right.next c.loop-right.right.rest may in
     record {
-      followed = right_taken c.args.first.now c.args.second.now c.loop-right.both c.take-then-may_go-2.new.self c.loop-right.left.next c.loop-right.left.rest.now c.loop-right.right.next c.loop-right.right.rest.now followed
-          c.in_ok-right-2.right.next c.in_ok-right-2.right.rest.now (λ first. untrue _ c.if-may_go.false ((c.may_go.ensures followed.past followed.follows).1 first)) may c.in_ok-right-2.ensures.follows;
+      followed = right_taken c.args.first c.args.second c.loop-right.both c.take-then-may_go-2.new.self c.loop-right.left.next c.loop-right.left.rest c.loop-right.right.next c.loop-right.right.rest followed
+          c.in_ok-right-2.right.next c.in_ok-right-2.right.rest (λ first. untrue _ c.if-may_go.false ((c.may_go.ensures followed.past followed.follows).1 first)) may c.in_ok-right-2.ensures.follows;
       left_stream = c.loop-right.invariant.left_stream;
       right_stream = c.in_ok-right-2.ensures.stream;
       few = omega (arith, c.loop-right.invariant.few, c.in_ok-right-2.ensures.lines, c.in_ok-right-2.ensures.fewer, more);
@@ -48,7 +48,7 @@ loop-right-preserved c =
 pub returns-else-may_go-2 : goal.returns-else-may_go-2
 returns-else-may_go-2 c =
     let followed = c.loop-right.invariant.followed in
-    stuck c.args.first.now c.args.second.now followed.past c.loop-right.left.next c.loop-right.left.rest.now c.loop-right.right.next c.loop-right.right.rest.now followed.going
+    stuck c.args.first c.args.second followed.past c.loop-right.left.next c.loop-right.left.rest c.loop-right.right.next c.loop-right.right.rest followed.going
     (λ p q. elim c.if-is_some.branch [
       | then-is_some w ↦ none_next_then _ _ c.is_some.ensures w.if-is_some.true p
       | else-is_some+then-is_some-2 w ↦ none_next_then _ _ w.is_some-else-is_some.ensures w.if-is_some-2.true q
@@ -59,5 +59,5 @@ returns-else-may_go-2 c =
 pub returns : goal.returns
 returns c =
     let followed = c.loop-right.invariant.followed in
-    all_judged c.args.first.now c.args.second.now followed.past c.loop-right.left.next c.loop-right.left.rest.now c.loop-right.right.next c.loop-right.right.rest.now followed.going c.verdict.result
+    all_judged c.args.first c.args.second followed.past c.loop-right.left.next c.loop-right.left.rest c.loop-right.right.next c.loop-right.right.rest followed.going c.verdict.result
     (is_none _ _ c.is_some.ensures c.if-is_some.false) (is_none _ _ c.is_some-else-is_some.ensures c.if-is_some-2.false) (c.verdict.ensures followed.past followed.follows)

@@ -1,15 +1,6 @@
-use Rattle.amo_audit.proofs.Judged.{journal_streams}
-use Rattle.amo_audit.proofs.Steps.{untrue}
+use Rattle.std.proofs.Common.{arith}
+use Rattle.amo_audit.proofs.Named.{found_within}
 use Rattle.amo_audit.proofs.judging.judge_both.Goals as goal
 
-pub returns-then-meet : goal.returns-then-meet
-returns-then-meet c =
-    let (x, p, marks) = c.in_default.ensures.marks in
-    let (y, q, marks') = c.in_default-mark_journal.ensures.marks in
-    (x, y, p, q, (c.meet.ensures x y marks marks' (journal_streams c.args.first.now x p) (journal_streams c.args.second.now y q)).0 c.if-meet.true)
-
-pub judge_merged-requires : goal.judge_merged-requires
-judge_merged-requires c =
-    let (x, p, marks) = c.in_default.ensures.marks in
-    let (y, q, marks') = c.in_default-mark_journal.ensures.marks in
-    (x, y, p, q, λ shares. untrue _ c.if-meet.false ((c.meet.ensures x y marks marks' (journal_streams c.args.first.now x p) (journal_streams c.args.second.now y q)).1 shares))
+pub counted-requires : goal.counted-requires
+counted-requires c = found_within c.open-ours.result c.open-theirs.result (omega arith) (omega arith) c.judge_lines.result c.judge_lines.ensures

@@ -1,4 +1,4 @@
-use Rattle.std.proofs.Common.{List, length, map, sym, ap, ◌∙◌, subst, arith}
+use Rattle.std.proofs.Common.{◌≡◌, Bool, List, length, map, sym, ap, ◌∙◌, subst, arith}
 use Rattle.amo_object.specs.declared.step.End.TheVariants.{Sender, Receiver}
 use Rattle.amo_book.specs.Book.{Each}
 use Rattle.amo_book.specs.Closed.{AllCharges}
@@ -6,6 +6,7 @@ use Rattle.amo_run.specs.declared.part.Part.{Part}
 use Rattle.amo_run.specs.declared.work.PumpJob.{PumpJob}
 use Rattle.amo_run.specs.Crew.{IsOurs, dealt}
 use Rattle.amo_run.specs.Parts.{sides_of}
+use Rattle.amo_run.specs.Versions.{version_for}
 use Rattle.amo_run.proofs.Openings.{both_hosts, one_host, enough_charges, all_of_both, all_of_one}
 use Rattle.amo_run.proofs.crew.jobs_of.Goals as goal
 use Rattle.amo_run.proofs.crew.jobs_of.Goals.{in-Both+in-Ok+in_ok-push_host-in-Both+in_ok-push_host-in-Both-2, in-Senders+in_ok-push_host-in-Senders, in-Receivers+in_ok-push_host-in-Receivers}
@@ -25,6 +26,11 @@ pub push_host-requires-in-Both-clause-pumps : goal.push_host-requires-in-Both-cl
 push_host-requires-in-Both-clause-pumps g c = let t = both_hosts c.args.settings.now.streams c.args.book.now c.args.charges.items c.in-Ok.front.items c.in-Ok.back.items c.requires.within.streams.0
     (c.requires.sides ∙ ap (λ (p : Part). sides_of p c.args.settings.now.streams) c.in-Both.is) c.requires.charges c.requires.belong c.in-Ok.ensures.all c.in-Ok.ensures.count in
     let long = t.2 in let few = c.of-receiver.ensures.few in let most = few.2 in (few.0, few.1, omega arith)
+
+pub push_host-requires-in-Both-clause-ours : goal.push_host-requires-in-Both-clause-ours
+push_host-requires-in-Both-clause-ours g c =
+    let same : c.of-sender.result.batch ≡ c.of-receiver.result.batch = c.of-sender.ensures.batch ∙ sym c.of-receiver.ensures.batch in
+    subst (λ (batch : Bool). Each (λ (j : PumpJob g.row.C.Denot). IsOurs (version_for batch) c.args.book.now j.task.pump) c.push_host.new.jobs.items) same c.in_ok-push_host-in-Both.ensures.ours
 
 pub push_host-requires-in-Senders-clause-host : goal.push_host-requires-in-Senders-clause-host
 push_host-requires-in-Senders-clause-host g c = let t = one_host Sender c.args.settings.now.streams c.args.book.now c.args.charges.items c.requires.within.streams.0
@@ -46,11 +52,12 @@ push_host-requires-in-Receivers-clause-pumps g c = let t = one_host Receiver c.a
 
 pub returns-clause-ours : goal.returns-clause-ours
 returns-clause-ours g c =
-    let Ours : List (PumpJob g.row.C.Denot) → Type 0 = λ l. Each (λ (j : PumpJob g.row.C.Denot). IsOurs c.args.book.now j.task.pump) l in
+    let Ours : Bool → List (PumpJob g.row.C.Denot) → Type 0 = λ batch l. Each (λ (j : PumpJob g.row.C.Denot). IsOurs (version_for batch) c.args.book.now j.task.pump) l in
+    let as_asked = Ours c.args.settings.now.batch in
     elim c.match-part.branch [
-      | in-Both+in-Ok+in_ok-push_host-in-Both+in_ok-push_host-in-Both-2 w ↦ subst Ours (sym (ap (λ v. v.items) w.jobs-is)) w.in_ok-push_host-in-Both-2.ensures.ours
-      | in-Senders+in_ok-push_host-in-Senders w ↦ subst Ours (sym (ap (λ v. v.items) w.jobs-is)) w.in_ok-push_host-in-Senders.ensures.ours
-      | in-Receivers+in_ok-push_host-in-Receivers w ↦ subst Ours (sym (ap (λ v. v.items) w.jobs-is)) w.in_ok-push_host-in-Receivers.ensures.ours
+      | in-Both+in-Ok+in_ok-push_host-in-Both+in_ok-push_host-in-Both-2 w ↦ subst as_asked (sym (ap (λ v. v.items) w.jobs-is)) (subst (λ (batch : Bool). Ours batch w.push_host-in-Both.new.jobs.items) c.of-receiver.ensures.batch w.in_ok-push_host-in-Both-2.ensures.ours)
+      | in-Senders+in_ok-push_host-in-Senders w ↦ subst as_asked (sym (ap (λ v. v.items) w.jobs-is)) (subst (λ (batch : Bool). Ours batch w.push_host-in-Senders.new.jobs.items) c.of-sender.ensures.batch w.in_ok-push_host-in-Senders.ensures.ours)
+      | in-Receivers+in_ok-push_host-in-Receivers w ↦ subst as_asked (sym (ap (λ v. v.items) w.jobs-is)) (subst (λ (batch : Bool). Ours batch w.push_host-in-Receivers.new.jobs.items) c.of-receiver.ensures.batch w.in_ok-push_host-in-Receivers.ensures.ours)
     ]
 
 pub returns-clause-all : goal.returns-clause-all

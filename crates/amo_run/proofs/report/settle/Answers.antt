@@ -41,4 +41,4 @@ returns-clause-spelt c = let z = c.in-Ok.ensures.closed.0 in
     let m = merged c.args.book z.history c.args.home.passes.items c.args.home.events.items sorted c.requires.ends.passes z.each (subst (λ (n : ℕ). AllBelow n z.history) (sym c.requires.ends.count) z.no_others)
     (c.requires.ends.events c.if-is_short.false) c.sort_by_key.ensures.permutation up small in
     let bare : c.in-Ok-bare.events.items ≡ map (λ (x : ℕ × Event). x.1) sorted = c.in-Ok-bare.ensures in
-    all_lines c.args.book z.history c.in-Ok-bare.events.items c.args.home.events.items sorted c.requires.lawful (c.requires.ends.fit c.if-is_short.false) c.sort_by_key.ensures.permutation bare (bare ∙ m.0) z.no_others
+    all_lines c.args.version c.args.book z.history c.in-Ok-bare.events.items c.args.home.events.items sorted c.requires.lawful (c.requires.ends.fit c.if-is_short.false) c.sort_by_key.ensures.permutation bare (bare ∙ m.0) z.no_others

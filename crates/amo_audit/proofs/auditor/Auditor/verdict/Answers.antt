@@ -5,8 +5,8 @@ use Rattle.amo_audit.proofs.Found.{all_well}
 use Rattle.amo_audit.proofs.Judged.{sound_events, event_at_fault, no_gap_found}
 use Rattle.amo_audit.proofs.auditor.Auditor.verdict.Goals as goal
 
-pub returns-in-Nothing-clause-of_bytes : goal.returns-in-Nothing-clause-of_bytes
-returns-in-Nothing-clause-of_bytes c = λ lines bytes audits spells. all_well _ _ _ lines bytes c.in-Nothing.is audits spells
+pub returns-in-Nothing-clause-of_lines : goal.returns-in-Nothing-clause-of_lines
+returns-in-Nothing-clause-of_lines c = λ numbered lines audits spells. all_well _ _ _ numbered lines c.in-Nothing.is audits spells
 
 pub returns-in-Nothing-clause-of_events : goal.returns-in-Nothing-clause-of_events
 returns-in-Nothing-clause-of_events c = λ events audits. sound_events _ _ _ events audits c.in-Nothing.is

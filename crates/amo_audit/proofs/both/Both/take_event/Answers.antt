@@ -2,9 +2,9 @@ use Rattle.std.proofs.Common.{◌∷◌, [], List, reverse, sym, subst}
 use Rattle.std.proofs.lemmas.List.{reverse-append}
 use Rattle.std.proofs.lemmas.Result.{IfOk-weaker}
 use Rattle.amo_world.specs.declared.event.Event.{Event}
-use Rattle.amo_audit.specs.declared.numbered.Numbered.{Numbered}
+use Rattle.amo_journal.specs.declared.numbered.Numbered.{Numbered}
 use Rattle.amo_audit.specs.Audit.{Audits}
-use Rattle.amo_audit.specs.Journal.{numbered}
+use Rattle.amo_journal.specs.Journal.{numbered}
 use Rattle.amo_audit.proofs.Judged.{one_event_more}
 use Rattle.amo_audit.proofs.both.Both.take_event.Goals as goal
 

@@ -3,6 +3,7 @@ use Rattle.amo_packet.specs.declared.packet.OwnedPacket.{OwnedPacket}
 use Rattle.amo_packet.specs.Grammar.{Spells}
 use Rattle.amo_core.specs.declared.act.Act.TheVariants as act
 use Rattle.amo_core.specs.declared.mode.Mode.{Mode}
+use Rattle.amo_journal.specs.Version.{newest}
 use Rattle.amo_book.specs.Pass.{mine}
 use Rattle.amo_live.specs.declared.fault.LiveFault.{LiveFault}
 use Rattle.amo_live.specs.Host.{Did}
@@ -15,13 +16,15 @@ returns-in_default-copied-clause-begun g c = begins_whole g.S.Sink.written c.arg
 
 pub perform-requires-clause-suits : goal.perform-requires-clause-suits
 perform-requires-clause-suits g c = λ d at.
-    let spelt : Spells 1 c.args.bytes.now c.in-Ok-copied.packet = subst (λ (p : OwnedPacket). Spells 1 c.args.bytes.now p) (sym c.in-Ok-copied.ensures.ok) c.in-Ok.ensures.found in
+    let version = c.args.self.now.journal.version in
+    let spelt : Spells (newest version) c.args.bytes.now c.in-Ok-copied.packet = subst (λ (p : OwnedPacket). Spells (newest version) c.args.bytes.now p) (sym c.in-Ok-copied.ensures.ok) c.in-Ok.ensures.found in
     let of : c.in-Ok-copied.packet.stream ≡ c.in-Ok.packet.stream = ap (λ (p : OwnedPacket). p.stream) c.in-Ok-copied.ensures.ok in
-    deliver_suits d c.args.bytes.now c.in-Ok-copied.packet c.args.word (λ i. omega (arith, c.type_inv.bytes i)) spelt (of ∙ sym (c.in-Some.ensures.1 d at)) c.ranges.word.fits
+    deliver_suits version d c.args.bytes.now c.in-Ok-copied.packet c.args.word (λ i. omega (arith, c.type_inv.bytes i)) spelt (of ∙ sym (c.in-Some.ensures.1 d at)) c.ranges.word.fits
 
 pub returns-in-Ok-Some-clause-delivered : goal.returns-in-Ok-Some-clause-delivered
 returns-in-Ok-Some-clause-delivered g c =
-    let spelt : Spells 1 c.args.bytes.now c.in-Ok-copied.packet = subst (λ (p : OwnedPacket). Spells 1 c.args.bytes.now p) (sym c.in-Ok-copied.ensures.ok) c.in-Ok.ensures.found in
+    let version = c.args.self.now.journal.version in
+    let spelt : Spells (newest version) c.args.bytes.now c.in-Ok-copied.packet = subst (λ (p : OwnedPacket). Spells (newest version) c.args.bytes.now p) (sym c.in-Ok-copied.ensures.ok) c.in-Ok.ensures.found in
     let of : c.in-Ok-copied.packet.stream ≡ c.in-Ok.packet.stream = ap (λ (p : OwnedPacket). p.stream) c.in-Ok-copied.ensures.ok in
     let did = did_at c.args.self.now c.perform.new.self c.in-Some.place c.in-Ok.packet.stream (act.Deliver c.in-Ok-copied.packet c.args.word) c.perform.result c.in-Some.ensures.0 c.in-Some.ensures.1 c.perform.ensures.did in
     let is : c.perform.result ≡ Ok (Some c.in-Ok-Some.mode) = c.in-Ok-Some.is ∙ ap (λ (o : Option Mode). let r : Result (Option Mode) LiveFault = Ok o in r) c.in-Ok-Some.field-0-is in

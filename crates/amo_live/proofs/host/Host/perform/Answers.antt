@@ -2,14 +2,14 @@ use Rattle.std.proofs.Common.{◌≡◌, ℕ, ◌<◌, length, slice_get, Some, 
 use Rattle.std.proofs.lemmas.Option.{same_Some}
 use Rattle.amo_object.specs.declared.step.End.{End}
 use Rattle.amo_core.specs.declared.reply.Reply.TheVariants.{Done}
-use Rattle.amo_audit.specs.Journal.{HasAct}
+use Rattle.amo_journal.specs.Journal.{HasAct}
 use Rattle.amo_book.specs.Pass.{PassState, GrownBy, event, mine}
 use Rattle.amo_host.proofs.StationLemmas.{read_at}
-use Rattle.amo_live.specs.Host.{HostState, IsNoted, side_of}
+use Rattle.amo_live.specs.Host.{HostState, IsNoted, Suits, side_of}
 use Rattle.amo_live.specs.Noted.{Holds}
 use Rattle.amo_live.proofs.Onwards.{begins_whole}
 use Rattle.amo_live.proofs.Returning.{host_after, stays_in_order}
-use Rattle.amo_live.proofs.Suiting.{acts_done}
+use Rattle.amo_live.proofs.Suiting.{acts_done, suits_two}
 use Rattle.amo_live.proofs.host.Host.perform.Goals as goal
 
 pub drive-requires-clause-suits : goal.drive-requires-clause-suits
@@ -19,7 +19,7 @@ drive-requires-clause-suits g c =
     let within : c.args.place < length h.charges = subst (λ (t : HostState g.row.L.Denot g.row.S.Denot). c.args.place < length t.charges) (sym c.self.view_is) c.requires.place in
     let at = read_at h.charges c.args.place charge within c.index_mut-charge.ensures.value in
     let suits = c.requires.suits charge (subst (λ (t : HostState g.row.L.Denot g.row.S.Denot). slice_get t.charges c.args.place ≡ Some charge) c.self.view_is at) in
-    suits
+    suits_two c.args.self.now.journal.version charge c.args.act suits
 
 pub returns-in-Err-NoMemory-clause-begun : goal.returns-in-Err-NoMemory-clause-begun
 returns-in-Err-NoMemory-clause-begun g c =
@@ -34,7 +34,9 @@ note_answer-requires-clause-spelt g c =
     let within : c.args.place < length h.charges = subst (λ (t : HostState g.row.L.Denot g.row.S.Denot). c.args.place < length t.charges) (sym c.self.view_is) c.requires.place in
     let at = read_at h.charges c.args.place charge within c.index_mut-charge.ensures.value in
     let suits = c.requires.suits charge (subst (λ (t : HostState g.row.L.Denot g.row.S.Denot). slice_get t.charges c.args.place ≡ Some charge) c.self.view_is at) in
-    (subst (λ (s : End). HasAct s c.stream-stream.result c.args.act) (sym c.side-side.ensures) (subst (λ (n : ℕ). HasAct charge.side n c.args.act) (sym c.stream-stream.ensures.number) suits.1), acts_done c.args.act suits.0)
+    let version = h.journal.version in
+    let known : Suits version charge c.args.act = subst (λ (t : HostState g.row.L.Denot g.row.S.Denot). Suits t.journal.version charge c.args.act) (sym c.self.view_is) suits in
+    (subst (λ (s : End). HasAct version s c.stream-stream.result c.args.act) (sym c.side-side.ensures) (subst (λ (n : ℕ). HasAct version charge.side n c.args.act) (sym c.stream-stream.ensures.number) known.1), acts_done c.args.act known.0)
 
 pub returns-in-Err-clause-begun : goal.returns-in-Err-clause-begun
 returns-in-Err-clause-begun g c =

@@ -8,7 +8,7 @@ use Rattle.amo_live.proofs.Suiting.{put_spelt}
 use Rattle.amo_live.proofs.host.Host.put.Goals as goal
 
 pub note_answer-requires-clause-spelt : goal.note_answer-requires-clause-spelt
-note_answer-requires-clause-spelt g c = put_spelt c.args.stream c.args.message c.in-Ok.copy c.reply_to_put-known.result c.is_message.ensures c.in-Ok.ensures.cases c.reply_to_put-known.ensures.reply
+note_answer-requires-clause-spelt g c = put_spelt c.self.inside.journal.version c.args.stream c.args.message c.in-Ok.copy c.reply_to_put-known.result c.is_message.ensures c.in-Ok.ensures.cases c.reply_to_put-known.ensures.reply
 
 pub returns-in-Err-clause-begun : goal.returns-in-Err-clause-begun
 returns-in-Err-clause-begun g c =

@@ -8,8 +8,8 @@ abbrev pub invariant-pumps : goal.invariant-pumps
 invariant-pumps g l = record {
   rest : EachAt (IsNew l.book.now) 0 l.passes.items;
   enough : length l.jobs.items + length l.scripts.items ≤ length l.passes.items;
-  ours : Each (λ j. IsOurs l.book.now j.task.pump) l.jobs.items;
-  threads : EachAt (IsPump l.book.now) (length l.passes.items) (reverse l.pumps.items);
+  ours : Each (λ j. IsOurs l.version l.book.now j.task.pump) l.jobs.items;
+  threads : EachAt (IsPump l.version l.book.now) (length l.passes.items) (reverse l.pumps.items);
   count : length l.pumps.items + length l.passes.items ≡ l.book.now.passes;
   room : length l.pumps.items + length l.jobs.items ≤ vec_capacity l.pumps;
   homes : l.book.now.passes ≤ vec_capacity l.passes;

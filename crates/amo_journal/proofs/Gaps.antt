@@ -1,0 +1,68 @@
+-- Numbers of lines, one line more.
+use Rattle.std.proofs.Common.{◌≡◌, ◌≢◌, ℕ, ◌+◌, Option, None, Some, List, [], ◌∷◌, ◌++◌, length, refl, sym, ◌∙◌, ap, subst, arith, append_assoc}
+use Rattle.std.proofs.lemmas.List.{length-append}
+use Rattle.amo_world.specs.declared.event.Event.{Event}
+use Rattle.amo_journal.specs.declared.numbered.Numbered.{Numbered}
+use Rattle.amo_journal.specs.Journal.{numbered, IsGapAt}
+use Rattle.amo_journal.specs.Gathering.{Keeps, Gathers}
+
+pub length_push : (lines : List Numbered) (l : Numbered) (count : ℕ) → count ≡ length lines → count + 1 ≡ length (lines ++ l ∷ [])
+length_push lines l count is = ap (λ n. n + 1) is ∙ sym (length-append lines (l ∷ []))
+
+pub length-numbered : (n : ℕ) (events : List Event) → length (numbered n events) ≡ length events
+length-numbered n [] = refl
+length-numbered n (e ∷ events) = let rest = length-numbered (n + 1) events in omega (arith, rest)
+
+numbered_push : (n k : ℕ) (events : List Event) (l : Numbered) → k ≡ n + length events → l.number ≡ k → numbered n events ++ l ∷ [] ≡ numbered n (events ++ l.event ∷ [])
+numbered_push n k [] l here is =
+    let same : l.number ≡ n = omega arith in
+    ap (λ (m : ℕ). line m ∷ []) same
+  where
+    line : ℕ → Numbered
+    line m = record { number = m; event = l.event }
+numbered_push n k (e ∷ events) l here is =
+    ap (λ (t : List Numbered). record { number = n; event = e } ∷ t) (numbered_push (n + 1) k events l (omega arith) is)
+
+module _ (lines : List Numbered) (events : List Event) (l : Numbered) (count : ℕ) (counted : count ≡ length lines) where
+  -- the next number
+  pub next_number : lines ≡ numbered 0 events → l.number ≡ count → lines ++ l ∷ [] ≡ numbered 0 (events ++ l.event ∷ [])
+  next_number are is =
+      let long = ap length are ∙ length-numbered 0 events in
+      ap (λ (t : List Numbered). t ++ l ∷ []) are ∙ numbered_push 0 count events l (omega (arith, counted, long)) is
+
+  -- another number
+  pub gap_here : lines ≡ numbered 0 events → l.number ≢ count → IsGapAt (lines ++ l ∷ []) (count + 1)
+  gap_here are other =
+      let long = counted ∙ ap length are ∙ length-numbered 0 events in
+      record {
+        before = events;
+        line = l;
+        after = [];
+        whole = ap (λ (t : List Numbered). t ++ l ∷ []) are;
+        other = λ e. other (e ∙ sym long);
+        count = ap (λ n. n + 1) long;
+      }
+
+-- a gap stays the first
+pub gap_stays : (lines : List Numbered) (l : Numbered) (at : ℕ) → IsGapAt lines at → IsGapAt (lines ++ l ∷ []) at
+gap_stays lines l at gap = record {
+  before = gap.before;
+  line = gap.line;
+  after = gap.after ++ l ∷ [];
+  whole = ap (λ (t : List Numbered). t ++ l ∷ []) gap.whole ∙ append_assoc (numbered 0 gap.before) (gap.line ∷ gap.after) (l ∷ []);
+  other = gap.other;
+  count = gap.count;
+}
+
+module _ (events : List Event) (count : ℕ) (gap : Option ℕ) (lines : List Numbered) (l : Numbered) where
+  -- the event of the next line is kept
+  pub event_kept : (items : List Event) → gap ≡ None → l.number ≡ count → items ≡ events ++ l.event ∷ [] → Gathers events count gap lines → Gathers items (count + 1) gap (lines ++ l ∷ [])
+  event_kept items none is more gathers =
+      let keeps = subst (λ (g : Option ℕ). Keeps events g lines) none gathers.1 in (
+        length_push lines l count gathers.0,
+        subst (λ (g : Option ℕ). Keeps items g (lines ++ l ∷ [])) (sym none) (next_number lines events l count gathers.0 keeps is ∙ ap (numbered 0) (sym more)),
+      )
+
+  -- the first gap is kept
+  pub gap_kept : gap ≡ None → l.number ≢ count → Gathers events count gap lines → Gathers events (count + 1) (Some (count + 1)) (lines ++ l ∷ [])
+  gap_kept none other gathers = (length_push lines l count gathers.0, gap_here lines events l count gathers.0 (subst (λ (g : Option ℕ). Keeps events g lines) none gathers.1) other)

@@ -1,0 +1,9 @@
+pub mod Fields
+pub mod Written
+pub mod Unambiguous
+pub mod Packets
+pub mod InFront
+pub mod Gaps
+pub mod ReadOn
+pub mod Versions
+pub mod Further

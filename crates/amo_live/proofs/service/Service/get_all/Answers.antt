@@ -1,0 +1,36 @@
+use Rattle.std.proofs.Common.{◌≡◌, ◌∙◌, refl, sym, ap, rules}
+use Rattle.amo_live.specs.Service.{shown_by, spelling_of}
+use Rattle.amo_live.proofs.Showing.{resend_shows, shows_after, shows_as, shows_on}
+use Rattle.amo_live.proofs.service.Service.get_all.Goals as goal
+
+pub returns-then-not-branch-clause-shown : goal.returns-then-not-branch-clause-shown
+returns-then-not-branch-clause-shown g c =
+    let so_far = c.messages.invariant in
+    shows_after (spelling_of c.args.self.now) (spelling_of c.messages.self) c.args.self.now.host.pass c.messages.self.host.pass c.get.new.self.host.pass
+    (shown_by c.args.self.now) (shown_by c.messages.self) (shown_by c.get.new.self) so_far.spelling so_far.shown c.in_ok-get.ensures.shown
+
+pub messages-preserved : goal.messages-preserved
+messages-preserved g c =
+    let so_far = c.messages.invariant in
+    record {
+      noted = search rules;
+      none_put = search rules;
+      streams = c.get.ensures.streams ∙ so_far.streams;
+      shown = shows_after (spelling_of c.args.self.now) (spelling_of c.messages.self) c.args.self.now.host.pass c.messages.self.host.pass c.get.new.self.host.pass
+          (shown_by c.args.self.now) (shown_by c.messages.self) (shown_by c.get.new.self) so_far.spelling so_far.shown c.in_ok-get.ensures.shown;
+      spelling = c.get.ensures.spelling ∙ so_far.spelling;
+    }
+
+pub returns-clause-shown : goal.returns-clause-shown
+returns-clause-shown g c =
+    let so_far = c.messages.invariant in
+    let spelling = spelling_of c.args.self.now in
+    let first = c.args.self.now.host.pass in
+    let middle = c.messages.self.host.pass in
+    let old = shown_by c.args.self.now in
+    let before = shown_by c.messages.self in
+    let new = shown_by c.enter.new.self in
+    let entered : c.enter.new.self.host ≡ c.messages.self.host = c.enter.ensures.host in
+    let two = resend_shows c.enter.new.self.host c.resend.new.self spelling c.args.stream c.in_ok-resend.field-0 before new c.in_ok-resend.ensures.did c.enter.ensures.shown.0 in
+    shows_on spelling first middle c.resend.new.self.pass old before new so_far.shown
+    (shows_as spelling spelling c.enter.new.self.host.pass c.resend.new.self.pass middle c.resend.new.self.pass before new before new refl (ap (λ h. h.pass) (sym entered)) refl refl refl two)
