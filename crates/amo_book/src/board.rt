@@ -1,6 +1,6 @@
 //! The table of a book, and the steps of its calls.
 //! The atomic word 0 is the count. Each side has an atomic word that is its gate, and a slot that holds its automaton.
-ghost use Rattle.std.specs.Prelude.{◌≡◌, ◌≢◌, ℕ, List, ◌+◌, ◌%◌, ◌^◌, ◌<◌, true, false, [], ◌∷◌, length, Some, None, IfSome, IfNone, slice_get};
+ghost use Rattle.std.specs.Prelude.{◌≡◌, ◌≢◌, ◌↔◌, ℕ, List, ◌+◌, ◌%◌, ◌^◌, ◌<◌, true, false, [], ◌∷◌, length, Some, None, IsTrue, IfSome, IfNone, slice_get};
 ghost use Rattle.amo_core.specs.declared.automaton.Automaton.{Automaton};
 ghost use Rattle.amo_core.specs.Automaton.{row, mode_of};
 ghost use Rattle.amo_object.specs.declared.step.End.TheVariants as end_of;
@@ -148,7 +148,8 @@ impl Board {
     }
 
     /// The same for a charge, which holds the mode that its side was left in. No client's call changes a sender's mode, so a
-    /// sender is in it. A receiver may be in another, since a get changes its mode.
+    /// sender is in it; that is looked at, since the rule of the table does not say it. A receiver may be in another, since a get changes its
+    /// mode.
     pub fn take_as_held(&self, seat: &mut Chair, site: Site, held: Mode) -> Option<Housed>
         requires own { seat.old.table_id ≡ self.now.table.shared.table_id }
         requires place { IsSite self.now.setup.sides.items site }
@@ -159,7 +160,7 @@ impl Board {
         ensures busy { IfNone result (seat.new.me ≡ seat.old.me) }
     {
         let automaton = self.take(seat, site)?;
-        if site.side == End::Sender && automaton.mode() != held {
+        if !may_drive(site.side, held, automaton.mode()) {
             self.put_back(seat, site.place, automaton);
             return None;
         }
@@ -230,4 +231,11 @@ impl Board {
     {
         self.table.shared.join_seat::<Gather>(seat, other);
     }
+}
+
+/// Whether a charge that holds a mode may drive its side, which is found in this one.
+fn may_drive(side: End, held: Mode, found: Mode) -> bool
+    ensures { IsTrue result ↔ (side ≡ end_of.Sender → found ≡ held) }
+{
+    side == End::Receiver || found == held
 }

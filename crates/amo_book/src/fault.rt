@@ -137,7 +137,8 @@ impl AckFault {
 /// Why an act of a host was not done. Nothing changed.
 #[derive(Clone, Copy, Debug, PartialEq, Eq, Error)]
 pub enum DriveFault {
-    /// Another call was at work at the side. The caller may try again.
+    /// Another call was at work at the side. The caller may try again. It is the answer too where a sender is in another mode than its charge
+    /// was told last, and would be at each try; but nobody else changes that mode, so it never comes.
     #[error("the side is busy")]
     Busy,
     /// Memory was refused for the message of a packet. The caller may try again later.

@@ -68,6 +68,7 @@ pub trait Counted {
 impl Counted for Brand {
     ghost use Rattle.amo_book.specs.Plays.{some_event};
 
+    // The proof of each call picks its event. This one only stands in its place here.
     ghost event = { some_event };
 }
 

@@ -1,5 +1,5 @@
 -- What a pump does in a turn.
-use Rattle.std.specs.Prelude.{◌≡◌, ℕ, ◌+◌, Bool, true, false, List, ◌⊎◌, Option, Some, None, slice_get, slice_set, Contains}
+use Rattle.std.specs.Prelude.{◌≡◌, ℕ, ◌+◌, Bool, true, false, List, Option, Some, None, slice_get, slice_set, Contains}
 use Rattle.std.specs.Borrow.{Bor}
 use Rattle.amo_object.specs.declared.step.End.{End}
 use Rattle.amo_packet.specs.declared.packet.OwnedPacket.{OwnedPacket}
@@ -13,16 +13,17 @@ use Rattle.amo_book.specs.Charge.{ChargeState}
 use Rattle.amo_book.specs.Drive.{Driven}
 use Rattle.amo_book.specs.Pass.{PassState}
 use Rattle.amo_book.specs.declared.drive.Done.{Done}
+use Rattle.amo_host.specs.declared.agenda.Task.{Task}
 use Rattle.amo_host.specs.declared.agenda.Task.TheVariants as task
 use Rattle.amo_host.specs.declared.fault.PumpFault.{PumpFault}
-use Rattle.amo_host.specs.declared.fault.PumpFault.TheVariants.{NoWord}
+use Rattle.amo_host.specs.declared.fault.PumpFault.TheVariants.{Busy, NoWord}
 use Rattle.amo_host.specs.declared.host_act.HostAct.{HostAct}
 use Rattle.amo_host.specs.declared.turned.Kind.{Kind}
 use Rattle.amo_host.specs.declared.turned.Kind.TheVariants as kind
 use Rattle.amo_host.specs.declared.turned.Turned.{Turned}
 use Rattle.amo_host.specs.declared.turned.Turned.TheVariants.{Idle, Unread, Stranger, Did}
 use Rattle.amo_host.specs.Charges.{stream_mode_of}
-use Rattle.amo_host.specs.Host.{IsNext, IsFor, Noted, streams_of}
+use Rattle.amo_host.specs.Host.{Host, IsNext, IsFor, Noted, streams_of}
 use Rattle.amo_host.specs.HostAct.{act_of, kind_of, is_resend}
 use Rattle.amo_host.specs.Station.{Station, moved_past}
 
@@ -56,10 +57,21 @@ GoesDownOrUp a k stream now s t v w (Did side named j done) =
     × ((old new : List ℕ) × Happened s t v w old new place now a false side named done)
 GoesDownOrUp a k stream now s t v w _ = ⊥
 
--- all of the bytes spell a packet whose message has a byte
-abbrev pub BringsBytes : ℕ → Option (Bor (List ℕ)) → Type 0
-BringsBytes newest None = ⊥
-BringsBytes newest (Some bytes) = (p : OwnedPacket) × Spells newest bytes.now p × ¬ (CarriesNoBytes p.body)
+-- all of the bytes spell a packet for one of the charges, whose message has a byte
+abbrev pub BringsBytes : ℕ → Host → Option (Bor (List ℕ)) → Type 0
+BringsBytes newest h None = ⊥
+BringsBytes newest h (Some bytes) = (p : OwnedPacket) × (place : ℕ) × Spells newest bytes.now p × IsFor h place p × ¬ (CarriesNoBytes p.body)
+
+-- nothing changed but the words
+abbrev pub WordsChanged : {W : Type 0} → Station W → Station W → Type 0
+WordsChanged s t = t ≡ record s { words = t.words }
+
+-- no event: pass, buffer and charges are as they were
+pub record NoEvent {W : Type 0} (s t : Station W) (v w : PassState) (old new : List ℕ) : Type 0 where
+  pub pass : w ≡ v
+  pub buffer : new ≡ old
+  pub charges : t.charges ≡ s.charges
+  pub batches : t.batches ≡ s.batches
 
 module _ {W : Type 0} (to_come : W → ℕ → Option ℕ) where
   -- the word at the next place was drawn, and each later place moved up by one
@@ -106,12 +118,34 @@ module _ {W : Type 0} (to_come : W → ℕ → Option ℕ) where
   Turns newest None now s t v w old new turned = TurnsAlone now s t v w old new turned
   Turns newest (Some bytes) now s t v w old new turned = TurnsWith newest bytes.now now s t v w old new turned
 
-  -- a turn that failed made no event: a word that was drawn is gone, and the rotation may have moved on; NoWord says that there was no word
-  pub record Fails (s t : Station W) (v w : PassState) (old new : List ℕ) (fault : PumpFault) : Type 0 where
-    pub pass : w ≡ v
-    pub buffer : new ≡ old
-    pub charges : t.charges ≡ s.charges
-    pub batches : t.batches ≡ s.batches
-    pub host : t.host ≡ record s.host { rotation = t.host.rotation }
-    pub words : (t.words ≡ s.words) ⊎ ((k : ℕ) → to_come t.words k ≡ to_come s.words (k + 1))
-    pub lacks : fault ≡ NoWord → to_come s.words 0 ≡ None
+  -- the words had none left; nothing else changed
+  pub record Lacks (s t : Station W) : Type 0 where
+    pub none : to_come s.words 0 ≡ None
+    pub later : (k : ℕ) → to_come t.words k ≡ to_come s.words (k + 1)
+    pub rest : WordsChanged s t
+
+  -- What a task that failed leaves: a resend changes nothing; the word of a start is gone, and the rotation past its place. Without a
+  -- word the rotation stays.
+  abbrev pub TaskFails : Task → Station W → Station W → PumpFault → Type 0
+  TaskFails (task.Resend place) s t Busy = t ≡ s
+  TaskFails (task.Start place) s t Busy = ((word : ℕ) × Drew s.words t.words word) × WordsChanged (moved_past s place) t
+  TaskFails (task.Start place) s t NoWord = Lacks s t
+  TaskFails _ s t _ = ⊥
+
+  -- What a delivery that failed leaves: its word is gone, if it has one. There may be none for a needuid alone.
+  abbrev pub DeliveryFails : OwnedBody → Station W → Station W → PumpFault → Type 0
+  DeliveryFails body s t NoWord = ((jd : ℕ) × (body ≡ packet.NeedUid jd)) × Lacks s t
+  DeliveryFails body s t _ = ((word : ℕ) × DrewFor body s.words t.words word) × WordsChanged s t
+
+  -- a turn without input failed at what was next
+  abbrev pub FailsAlone : ℕ → Station W → Station W → PumpFault → Type 0
+  FailsAlone now s t fault = (next : Task) × IsNext s.host now next × TaskFails next s t fault
+
+  -- a turn with these bytes failed at the packet that they spell, which is for one of the charges
+  abbrev pub FailsWith : ℕ → List ℕ → Station W → Station W → PumpFault → Type 0
+  FailsWith newest bytes s t fault = (p : OwnedPacket) × (place : ℕ) × Spells newest bytes p × IsFor s.host place p × DeliveryFails p.body s t fault
+
+  -- a turn failed
+  abbrev pub Fails : ℕ → Option (Bor (List ℕ)) → ℕ → Station W → Station W → PumpFault → Type 0
+  Fails newest None now s t fault = FailsAlone now s t fault
+  Fails newest (Some bytes) now s t fault = FailsWith newest bytes.now s t fault

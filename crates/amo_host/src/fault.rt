@@ -6,7 +6,7 @@ use amo_book::{Charge, DriveFault};
 use thiserror::Error;
 
 /// Why a turn made no event. Permits, timers and the pass are as before; the datagram is gone, and so is a word that was
-/// drawn.
+/// drawn. After a start that was Busy its charge comes last in the rotation.
 #[derive(Clone, Copy, Debug, PartialEq, Eq, Error)]
 pub enum PumpFault {
     /// Another call was at work at the side. The caller may try again.

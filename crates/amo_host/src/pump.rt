@@ -161,6 +161,7 @@ impl<W: Words + Drop> Pump<W> {
         }
     }
 
+    // It reaches one field and tells that the pump is still one, so that its callers speak of whole pumps alone.
     /// The place of the charge of this stream.
     fn place_of(&self, stream: u32) -> Option<usize>
         ensures found { IfSome result (λ place. slice_get (streams_of self.now.host.modes) place ≡ Some stream) }

@@ -1,10 +1,10 @@
 //! A pump's turns.
-ghost use Rattle.std.specs.Prelude.{◌≡◌, ◌≢◌, ◌<◌, ◌+◌, ℕ, IfOk, IfErr, IfSome, IfNone, Some, None, length};
+ghost use Rattle.std.specs.Prelude.{◌≡◌, ◌≢◌, ◌<◌, ◌+◌, ℕ, IfOk, IfErr, OnErr, IfSome, IfNone, Some, None, length};
 ghost use Rattle.std.specs.Borrow.{Bor};
 ghost use Rattle.amo_packet.specs.Packet.{packet_of, body_of};
 ghost use Rattle.amo_host.specs.Host.{IsNext, IsFor};
 ghost use Rattle.amo_host.specs.Station.{IsStation, BelongTogether, moved_past};
-ghost use Rattle.amo_host.specs.Turn.{Turns, TurnsAlone, TurnsWith, Fails, Drew, DrewFor, BringsBytes};
+ghost use Rattle.amo_host.specs.Turn.{Turns, TurnsAlone, TurnsWith, Fails, FailsAlone, FailsWith, DeliveryFails, NoEvent, Drew, DrewFor, Lacks, BringsBytes};
 
 use crate::agenda::Task;
 use crate::host_act::HostAct;
@@ -18,7 +18,13 @@ impl<W: Words + Drop> Pump<W> {
     /// a needuid with the next word, any other packet with the word 0. Without one, the first stream that is due is resent, or
     /// else the next quiet charge is started with the next word, if a permit is free. What is emitted stands at the front of the buffer.
     ///
-    /// Where the turn fails no event was made. Only a message with a byte needs memory.
+    /// A turn with a datagram resends nothing, and one without resends for the first stream that is due, and no other. So a caller turns without
+    /// input at one `now` until nothing is due before its clock moves on, and lets due resends go between datagrams too; else later streams
+    /// wait for ever, and all of them in a flood.
+    ///
+    /// Where the turn fails no event was made, and there was something to do. A start that failed is not the next one any more, and its word
+    /// is gone, as is a needuid's; without a word, and at any other failure, all is as before. Only the message of a packet for one of the
+    /// charges needs memory, if it has a byte.
     pub fn turn(
         &mut self,
         book: &Book,
@@ -29,8 +35,9 @@ impl<W: Words + Drop> Pump<W> {
     ) -> Result<Turned, PumpFault>
         requires { BelongTogether book.now pass.old self.old }
         ensures turned { IfOk result (Turns W.to_come NEWEST_VERSION input.entry now self.old self.new pass.old pass.new out.old out.new) }
-        ensures failed { IfErr result (Fails W.to_come self.old self.new pass.old pass.new out.old out.new) }
-        ensures memory { IfErr result (λ fault. fault ≡ PumpFault.NoMemory → BringsBytes NEWEST_VERSION input.entry) }
+        ensures no_event { OnErr result (NoEvent self.old self.new pass.old pass.new out.old out.new) }
+        ensures failed { IfErr result (Fails W.to_come NEWEST_VERSION input.entry now self.old self.new) }
+        ensures memory { IfErr result (λ fault. fault ≡ PumpFault.NoMemory → BringsBytes NEWEST_VERSION self.old.host input.entry) }
         ensures station { IsStation self.new × BelongTogether book.now pass.new self.new }
     {
         match input {
@@ -49,7 +56,8 @@ impl<W: Words + Drop> Pump<W> {
     ) -> Result<Turned, PumpFault>
         requires { BelongTogether book.now pass.old self.old }
         ensures turned { IfOk result (TurnsAlone W.to_come now self.old self.new pass.old pass.new out.old out.new) }
-        ensures failed { IfErr result (Fails W.to_come self.old self.new pass.old pass.new out.old out.new) }
+        ensures no_event { OnErr result (NoEvent self.old self.new pass.old pass.new out.old out.new) }
+        ensures failed { IfErr result (FailsAlone W.to_come now self.old self.new) }
         ensures memory { IfErr result (λ fault. fault ≢ PumpFault.NoMemory) }
         ensures station { IsStation self.new × BelongTogether book.now pass.new self.new }
     {
@@ -80,10 +88,12 @@ impl<W: Words + Drop> Pump<W> {
     ) -> Result<Turned, PumpFault>
         requires { BelongTogether book.now pass.old self.old }
         ensures turned { IfOk result (TurnsWith W.to_come NEWEST_VERSION bytes.now now self.old self.new pass.old pass.new out.old out.new) }
-        ensures failed { IfErr result (Fails W.to_come self.old self.new pass.old pass.new out.old out.new) }
-        ensures memory { IfErr result (λ fault. fault ≡ PumpFault.NoMemory → BringsBytes NEWEST_VERSION (Some bytes.entry)) }
+        ensures no_event { OnErr result (NoEvent self.old self.new pass.old pass.new out.old out.new) }
+        ensures failed { IfErr result (FailsWith W.to_come NEWEST_VERSION bytes.now self.old self.new) }
+        ensures memory { IfErr result (λ fault. fault ≡ PumpFault.NoMemory → BringsBytes NEWEST_VERSION self.old.host (Some bytes.entry)) }
         ensures station { IsStation self.new × BelongTogether book.now pass.new self.new }
     {
+        // What holds of every pump is known once a field of it is read.
         let _agenda = &self.agenda;
         let packet = match read(bytes) {
             Err(fault) => return Ok(Turned::Unread(fault)),
@@ -95,6 +105,8 @@ impl<W: Words + Drop> Pump<W> {
         let word = self.word_for(&packet)?;
         self.perform(book, pass, now, place, HostAct::Deliver(packet, word), out)
     }
+
+    // Each of these reaches one field and tells that the pump is still one, so that a turn speaks of whole pumps alone.
 
     /// What to do next without input.
     fn next(&self, now: u64) -> Task
@@ -125,7 +137,7 @@ impl<W: Words + Drop> Pump<W> {
     /// The next word.
     fn draw(&mut self) -> Result<u64, PumpFault>
         ensures drawn { IfOk result (Drew W.to_come self.old.words self.new.words) }
-        ensures lacks { IfErr result (λ fault. (fault ≡ PumpFault.NoWord) × (W.to_come self.old.words 0 ≡ None) × ((k : ℕ) → W.to_come self.new.words k ≡ W.to_come self.old.words (k + 1))) }
+        ensures lacks { IfErr result (λ fault. (fault ≡ PumpFault.NoWord) × Lacks W.to_come self.old self.new) }
         ensures rest { self.new ≡ record self.old { words = self.new.words } }
         ensures station { IsStation self.new }
     {
@@ -135,10 +147,11 @@ impl<W: Words + Drop> Pump<W> {
     /// The word that a packet is delivered with.
     fn word_for(&mut self, packet: &Packet<'_>) -> Result<u64, PumpFault>
         ensures drawn { IfOk result (DrewFor W.to_come (body_of packet.now.body) self.old.words self.new.words) }
-        ensures lacks { IfErr result (λ fault. (fault ≡ PumpFault.NoWord) × (W.to_come self.old.words 0 ≡ None) × ((k : ℕ) → W.to_come self.new.words k ≡ W.to_come self.old.words (k + 1))) }
+        ensures lacks { IfErr result (λ fault. (fault ≡ PumpFault.NoWord) × DeliveryFails W.to_come (body_of packet.now.body) self.old self.new fault) }
         ensures rest { self.new ≡ record self.old { words = self.new.words } }
         ensures station { IsStation self.new }
     {
+        // As above: what holds of every pump.
         let _words = &self.words;
         match packet.body {
             Body::NeedUid(_) => self.draw(),

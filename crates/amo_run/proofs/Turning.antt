@@ -13,8 +13,7 @@ use Rattle.amo_book.specs.Charge.{ChargeState}
 use Rattle.amo_book.specs.Pass.{PassState, event}
 use Rattle.amo_book.specs.declared.drive.Done.{Done}
 use Rattle.amo_host.specs.Station.{Station, IsStation, moved_past}
-use Rattle.amo_host.specs.Turn.{Happened, Nothing, Starts, TurnsAlone, TurnsWith, GoesDownOrUp, Fails}
-use Rattle.amo_host.specs.declared.fault.PumpFault.{PumpFault}
+use Rattle.amo_host.specs.Turn.{Happened, Nothing, Starts, TurnsAlone, TurnsWith, GoesDownOrUp, NoEvent}
 use Rattle.amo_host.specs.declared.turned.Kind.{Kind}
 use Rattle.amo_host.specs.declared.turned.Kind.TheVariants as kind
 use Rattle.amo_host.specs.declared.turned.Turned.{Turned}
@@ -130,8 +129,8 @@ module _ {W : Type 0} (book : BookState) (s t : Station W) (v w : PassState) whe
       → Advances book v w s t (told_of v.number None turned)
   recover_advances stream now turned was b h small = fate act.Recover kind.Recover stream now turned refl (recovers (version_of s)) tt was b h small
 
-  pub failed_advances : (to_come : W → ℕ → Option ℕ) (old new : List ℕ) (fault : PumpFault) → Works book w t → Fails to_come s t v w old new fault → Advances book v w s t []
-  failed_advances to_come old new fault b h = same_advances b h.batches h.charges h.pass
+  pub failed_advances : (old new : List ℕ) → Works book w t → NoEvent s t v w old new → Advances book v w s t []
+  failed_advances old new b h = same_advances b h.batches h.charges h.pass
 
   -- a start, of one message or of a batch
   started_advances : (to_come : W → ℕ → Option ℕ) (now : ℕ) (old new : List ℕ) (word : ℕ) (a : Act) (side : End) (stream : ℕ) (done : Done) → Works book v s → Works book w t → IsRight w.seen
