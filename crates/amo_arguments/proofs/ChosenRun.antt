@@ -1,16 +1,16 @@
--- What the matches of `run` choose is what the arguments choose.
-use Rattle.std.proofs.Common.{List, codes}
-use Rattle.clap.specs.Words.{Row, Text}
-use Rattle.amo_arguments.specs.Chosen.{Chooses, ChoosesRun, HasCommand}
+-- What the matches of `run` choose is what the command chooses.
+use Rattle.std.proofs.Common.{◌≡◌, List, Some, codes}
+use Rattle.clap.specs.Words.{Row}
+use Rattle.amo_arguments.specs.Chosen.{ChoosesBy, ChoosesRun, Met}
 use Rattle.amo_settings.specs.declared.settings.Settings.{Settings}
 use Rattle.amo_settings.specs.declared.settings.Settings.TheVariants.{Replay, Run, Send, Receive, Audit, Explain, Manual, Completions}
 
-pub chooses_run : (arguments : List Text) (rows : List Row) (chosen : Settings) → HasCommand arguments (codes "run") rows → ChoosesRun rows chosen → Chooses arguments chosen
-chooses_run arguments rows (Replay file) command h = absurd h
-chooses_run arguments rows (Run settings file) command h = (rows, command, h)
-chooses_run arguments rows (Send send) command h = absurd h
-chooses_run arguments rows (Receive receive) command h = absurd h
-chooses_run arguments rows (Audit file second) command h = absurd h
-chooses_run arguments rows (Explain file) command h = absurd h
-chooses_run arguments rows Manual command h = absurd h
-chooses_run arguments rows (Completions shell) command h = absurd h
+pub chooses_run : (met : Met) (rows : List Row) (chosen : Settings) → met ≡ Some (codes "run", rows) → ChoosesRun rows chosen → ChoosesBy met chosen
+chooses_run met rows (Replay file) command h = absurd h
+chooses_run met rows (Run settings file) command h = (rows, command, h)
+chooses_run met rows (Send send) command h = absurd h
+chooses_run met rows (Receive receive) command h = absurd h
+chooses_run met rows (Audit file second) command h = absurd h
+chooses_run met rows (Explain file) command h = absurd h
+chooses_run met rows Manual command h = absurd h
+chooses_run met rows (Completions shell) command h = absurd h

@@ -1,4 +1,5 @@
 pub mod ChosenRun
 pub mod Described
 pub mod Matched
+pub mod Refused
 pub mod Within

@@ -1,11 +1,13 @@
 -- What the matches of a command tell of its arguments.
-use Rattle.std.proofs.Common.{◌≡◌, ◌∙◌, Bool, true, false, codes, Option, Some, None, Result, Ok, refl, rules, subst, sym}
+use Rattle.std.proofs.Common.{◌≡◌, ◌∙◌, Bool, true, false, List, codes, Option, Some, None, Result, Ok, refl, rules, subst, sym}
 use Rattle.std.specs.Option.{option_map}
 use Rattle.std.specs.Prelude.{IfNone, IfSome, MatchBool, if◌then◌else◌}
 use Rattle.std.specs.Borrow.{Bor}
-use Rattle.clap.specs.Words.{ReadsOne, Text, first_of, first_value, rows_of}
+use Rattle.clap.specs.Words.{ReadsOne, Text, first_of, first_value, rows_of, subcommand_rows_of}
+use Rattle.clap.specs.declared.parser.matches.ArgMatches.{ArgMatches}
 use Rattle.clap.specs.declared.parser.matches.Found.{Found}
 use Rattle.clap.proofs.WalkLemmas.{first_value-rows}
+use Rattle.amo_arguments.specs.Chosen.{Matches, Met, OfArguments}
 
 -- the first value, by the rows
 pub first_text : (found : Found) (name : Text) (o : Option (Bor Text)) (text : Option Text) → option_map (λ s. s.now) o ≡ first_value found name → option_map (λ s. s.now) o ≡ text → first_of name (rows_of found) ≡ text
@@ -34,3 +36,7 @@ if_none (Some x) f h = h
 pub if_some : {A : Type 0} {P Q : A → Type 0} (o : Option A) → ((x : A) → P x → Q x) → IfSome o P → IfSome o Q
 if_some None f h = h
 if_some (Some x) f h = f x h
+
+-- what holds of the command of the matches holds of the arguments
+pub of_match : (P : Met → Type 0) (arguments : List Text) (matches : ArgMatches) → Matches arguments matches → P (subcommand_rows_of matches) → OfArguments arguments P
+of_match P arguments matches is h = (is.0, is.1, (is.2.0, is.2.1, subst P is.2.2 h))

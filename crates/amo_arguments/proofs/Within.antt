@@ -2,17 +2,20 @@
 use Rattle.std.proofs.Common.{List}
 use Rattle.clap.specs.Words.{Text}
 use Rattle.amo_settings.specs.Limits.{IsWithin}
-use Rattle.amo_arguments.specs.Chosen.{Chooses}
+use Rattle.amo_arguments.specs.Chosen.{Chooses, ChoosesBy, Met}
 use Rattle.amo_settings.specs.declared.settings.Settings.{Settings}
 use Rattle.amo_settings.specs.declared.settings.Settings.TheVariants.{Replay, Run, Send, Receive, Audit, Explain, Manual, Completions}
 
--- of each match
+-- by each command
+within_by : (met : Met) (chosen : Settings) → ChoosesBy met chosen → IsWithin chosen
+within_by met (Replay file) h = tt
+within_by met (Run settings file) h = h.2.0.within
+within_by met (Send send) h = h.2.host.within
+within_by met (Receive receive) h = h.2.host.within
+within_by met (Audit file second) h = tt
+within_by met (Explain file) h = tt
+within_by met Manual h = tt
+within_by met (Completions shell) h = tt
+
 pub within : (arguments : List Text) (chosen : Settings) → Chooses arguments chosen → IsWithin chosen
-within arguments (Replay file) h = tt
-within arguments (Run settings file) h = h.2.0.within
-within arguments (Send send) h = h.2.host.within
-within arguments (Receive receive) h = h.2.host.within
-within arguments (Audit file second) h = tt
-within arguments (Explain file) h = tt
-within arguments Manual h = tt
-within arguments (Completions shell) h = tt
+within arguments chosen h = within_by _ chosen h.2.2

@@ -1,10 +1,56 @@
 -- What becomes of arguments that choose nothing to do.
-use Rattle.std.specs.Prelude.{◌==◌, ◌||◌, IsTrue}
+use Rattle.std.specs.Prelude.{◌≡◌, ◌≢◌, ◌⊎◌, ℕ, List, []}
+use Rattle.clap.specs.Words.{IsAmong, Kinds, Text, fault_of, kind_of}
+use Rattle.clap.specs.declared.error.kind.ErrorKind.{ErrorKind}
+use Rattle.clap.specs.declared.error.kind.ErrorKind.TheVariants.{DisplayHelp, DisplayVersion, OutOfMemory}
+use Rattle.amo_arguments.specs.Commands.{Names, AreLinks, AreShells, amo}
 use Rattle.amo_arguments.specs.declared.fault.ArgumentsFault.{ArgumentsFault}
-use Rattle.amo_arguments.specs.declared.fault.ArgumentsFault.TheVariants.{Text, Seed, NoMemory}
+use Rattle.amo_arguments.specs.declared.fault.ArgumentsFault.TheVariants as fault
+use Rattle.amo_arguments.specs.declared.refusal.Refusal.{Refusal}
+use Rattle.amo_arguments.specs.declared.refusal.Refusal.TheVariants as refusal
+use Rattle.amo_arguments.specs.declared.refusal.Unfit.TheVariants as unfit
 
--- a text goes with the status 2 of refused arguments, or with 0 where it was asked for
-abbrev pub HasStatus : ArgumentsFault → Type 0
-HasStatus (Text text status) = IsTrue (status == 0 || status == 2)
-HasStatus Seed = Unit {0}
-HasStatus NoMemory = Unit {0}
+-- what `clap` finds wrong with the arguments, or shows where they ask for it: kinds of which one is told, and none where it takes them
+abbrev pub AreFaults : List Text → Kinds → Type 0
+AreFaults arguments kinds = (links : Names) × AreLinks links × ((shells : Names) × AreShells shells × (fault_of (amo links shells) arguments ≡ kinds))
+
+abbrev pub AreTaken : List Text → Type 0
+AreTaken arguments = AreFaults arguments []
+
+abbrev pub IsFaultOf : List Text → ErrorKind → Type 0
+IsFaultOf arguments kind = (kinds : Kinds) × AreFaults arguments kinds × IsAmong kind kinds
+
+-- the status that goes with an error: 0 where its text was asked for
+abbrev pub status_of : ErrorKind → ℕ
+status_of DisplayHelp = 0
+status_of DisplayVersion = 0
+status_of _ = 2
+
+-- what is told of the arguments has the status of their fault; where they have none, two flags contradict each other, or there is no seed
+abbrev pub IsToldOf : List Text → ArgumentsFault → Type 0
+IsToldOf arguments (fault.Text text status) = ((kind : ErrorKind) × IsFaultOf arguments kind × (status ≡ status_of kind)) ⊎ (AreTaken arguments × (status ≡ 2))
+IsToldOf arguments fault.Seed = AreTaken arguments
+IsToldOf arguments fault.NoMemory = Unit {0}
+
+-- a text, with this status, unless there was no memory for it
+abbrev pub IsTextWith : ℕ → ArgumentsFault → Type 0
+IsTextWith wanted (fault.Text text status) = status ≡ wanted
+IsTextWith wanted fault.Seed = ⊥
+IsTextWith wanted fault.NoMemory = Unit {0}
+
+abbrev pub IsMistake : ArgumentsFault → Type 0
+IsMistake = IsTextWith 2
+
+-- why these arguments are refused
+abbrev pub IsRefusalOf : List Text → Refusal → Type 0
+IsRefusalOf arguments (refusal.ByParser error) = (kind_of error ≡ OutOfMemory) ⊎ IsFaultOf arguments (kind_of error)
+IsRefusalOf arguments (refusal.Unfit unfit.NoMemory) = Unit {0}
+IsRefusalOf arguments (refusal.Unfit _) = AreTaken arguments
+
+-- what is told of a refusal
+abbrev pub IsToldAs : Refusal → ArgumentsFault → Type 0
+IsToldAs (refusal.ByParser error) (fault.Text text status) = (kind_of error ≢ OutOfMemory) × (status ≡ status_of (kind_of error))
+IsToldAs (refusal.Unfit unfit.NoMemory) (fault.Text text status) = ⊥
+IsToldAs (refusal.Unfit _) (fault.Text text status) = status ≡ 2
+IsToldAs _ fault.Seed = ⊥
+IsToldAs _ fault.NoMemory = Unit {0}

@@ -18,15 +18,17 @@ use Rattle.amo_settings.specs.declared.settings.Settings.TheVariants.{Replay, Ru
 use Rattle.amo_settings.specs.declared.settings.Shell.{Shell}
 use Rattle.amo_settings.specs.declared.settings.Shell.TheVariants.{Bash, Zsh, Fish}
 
--- the match of the arguments has this command, with these matches of its own
-abbrev pub HasCommand : List Text → Text → List Row → Type 0
-HasCommand arguments name rows = (links : Names) × AreLinks links × ((shells : Names) × AreShells shells
-    × (subcommand_of (amo links shells) arguments ≡ Some (name, rows)))
+-- the command that is met, with the matches of its own
+abbrev pub Met : Type 0
+Met = Option (Text × List Row)
 
--- the command that was met and its matches are those of the arguments
+-- it holds of the command that the arguments have
+abbrev pub OfArguments : List Text → (Met → Type 0) → Type 0
+OfArguments arguments holds = (links : Names) × AreLinks links × ((shells : Names) × AreShells shells × holds (subcommand_of (amo links shells) arguments))
+
+-- the matches are those of the arguments
 abbrev pub Matches : List Text → ArgMatches → Type 0
-Matches arguments matches = (links : Names) × AreLinks links × ((shells : Names) × AreShells shells
-    × (subcommand_rows_of matches ≡ subcommand_of (amo links shells) arguments))
+Matches arguments matches = OfArguments arguments (λ met. subcommand_rows_of matches ≡ met)
 
 -- the first value of an argument of this name
 abbrev pub HasText : List Row → Text → Text → Type 0
@@ -105,18 +107,24 @@ pub record HasReceive (rows : List Row) (receive : ReceiveSettings) : Type 0 whe
   pub count : HasNumberOrNone rows (codes "count") receive.count
   pub some : IfSome receive.count (λ count. 1 ≤ count)
 
--- the match of the arguments is one of `run`, without a seed
-abbrev pub LacksSeed : List Text → Type 0
-LacksSeed arguments = (rows : List Row) × HasCommand arguments (codes "run") rows × HasNoSeed rows
+-- a command is met that chooses these settings
+abbrev pub ChoosesBy : Met → Settings → Type 0
+ChoosesBy met (Replay file) = (rows : List Row) × (met ≡ Some (codes "replay", rows)) × HasText rows (codes "FILE") (string_bytes file)
+ChoosesBy met (Run settings file) = (rows : List Row) × (met ≡ Some (codes "run", rows)) × ChoosesRun rows (Run settings file)
+ChoosesBy met (Send send) = (rows : List Row) × (met ≡ Some (codes "send", rows)) × HasSend rows send
+ChoosesBy met (Receive receive) = (rows : List Row) × (met ≡ Some (codes "receive", rows)) × HasReceive rows receive
+ChoosesBy met (Audit file second) = (rows : List Row) × (met ≡ Some (codes "audit", rows))
+    × HasText rows (codes "FILE") (string_bytes file) × HasTextOrNone rows (codes "SECOND") (option_map string_bytes second)
+ChoosesBy met (Explain file) = (rows : List Row) × (met ≡ Some (codes "explain", rows)) × HasText rows (codes "FILE") (string_bytes file)
+ChoosesBy met Manual = (rows : List Row) × (met ≡ Some (codes "man", rows))
+ChoosesBy met (Completions shell) = (rows : List Row) × (met ≡ Some (codes "completions", rows)) × HasText rows (codes "SHELL") (shell_name shell)
 
 abbrev pub Chooses : List Text → Settings → Type 0
-Chooses arguments (Replay file) = (rows : List Row) × HasCommand arguments (codes "replay") rows × HasText rows (codes "FILE") (string_bytes file)
-Chooses arguments (Run settings file) = (rows : List Row) × HasCommand arguments (codes "run") rows × ChoosesRun rows (Run settings file)
-Chooses arguments (Send send) = (rows : List Row) × HasCommand arguments (codes "send") rows × HasSend rows send
-Chooses arguments (Receive receive) = (rows : List Row) × HasCommand arguments (codes "receive") rows × HasReceive rows receive
-Chooses arguments (Audit file second) = (rows : List Row) × HasCommand arguments (codes "audit") rows
-    × HasText rows (codes "FILE") (string_bytes file) × HasTextOrNone rows (codes "SECOND") (option_map string_bytes second)
-Chooses arguments (Explain file) = (rows : List Row) × HasCommand arguments (codes "explain") rows × HasText rows (codes "FILE") (string_bytes file)
-Chooses arguments Manual = (rows : List Row) × HasCommand arguments (codes "man") rows
-Chooses arguments (Completions shell) = (rows : List Row) × HasCommand arguments (codes "completions") rows
-    × HasText rows (codes "SHELL") (shell_name shell)
+Chooses arguments settings = OfArguments arguments (λ met. ChoosesBy met settings)
+
+-- a run is met, without a seed
+abbrev pub MeetsSeedless : Met → Type 0
+MeetsSeedless met = (rows : List Row) × (met ≡ Some (codes "run", rows)) × HasNoSeed rows
+
+abbrev pub LacksSeed : List Text → Type 0
+LacksSeed arguments = OfArguments arguments MeetsSeedless

@@ -31,10 +31,6 @@ pumps = record (new_rule (codes "pumps")) { long = Some (codes "pumps"); value_n
 abbrev pub flag : Text → Rule
 flag name = record (new_rule name) { long = Some name; action = Some SetTrue }
 
--- --batch of `send`: a flag that another argument contradicts
-abbrev pub batch : Rule
-batch = record (flag (codes "batch")) { is_free = false }
-
 -- an option that may be absent, with a number from `low` to `high`
 abbrev pub optional_number : Text → ℕ → ℕ → Rule
 optional_number name low high = record (new_rule name) { long = Some name; value_names = 1; action = Some Set; parser = Some (parser.Unsigned low high) }
@@ -87,7 +83,7 @@ abbrev pub host : Text → App
 host name = with_rule (with_rule (with_rule (with_rule (placed name) tick) (flag (codes "json"))) (flag (codes "sync"))) (optional_number (codes "wait") 0 1000000)
 
 abbrev pub send : App
-send = with_rule (with_rule (with_rule (host (codes "send")) (flag (codes "each"))) batch) (flag (codes "hex"))
+send = with_rule (with_rule (with_rule (host (codes "send")) (flag (codes "each"))) (flag (codes "batch"))) (flag (codes "hex"))
 
 abbrev pub receive : App
 receive = with_rule (host (codes "receive")) (optional_number (codes "count") 1 18446744073709551615)

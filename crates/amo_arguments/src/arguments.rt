@@ -1,20 +1,20 @@
 //! Reads the program's arguments.
-ghost use Rattle.std.specs.Prelude.{◌≢◌, ◌≤◌, codes, IfErr, IfNone, IfOk, IfSome, IsErrOf, map, option_map, string_bytes};
-ghost use Rattle.clap.specs.Words.{found_of, rows_of};
+ghost use Rattle.std.specs.Prelude.{◌≤◌, codes, IfErr, IfNone, IfOk, IfSome, IsErrOf, MatchResult, map, option_map, string_bytes};
+ghost use Rattle.clap.specs.Words.{found_of, rows_of, subcommand_rows_of};
 ghost use Rattle.amo_text.specs.Hexadecimal.{hex};
 ghost use Rattle.amo_settings.specs.Limits.{IsWithin};
-ghost use Rattle.amo_arguments.specs.Arguments.{HasStatus};
-ghost use Rattle.amo_arguments.specs.Chosen.{Chooses, ChoosesRun, HasFlag, HasHost, HasNoSeed, HasNumber, HasNumberOrNone, HasReceive, HasSend, HasText, HasTextOrNone, LacksSeed, Matches, link_name, shell_name};
+ghost use Rattle.amo_arguments.specs.Arguments.{AreTaken, IsRefusalOf, IsToldOf};
+ghost use Rattle.amo_arguments.specs.Chosen.{Chooses, ChoosesBy, ChoosesRun, HasFlag, HasHost, HasNoSeed, HasNumber, HasNumberOrNone, HasReceive, HasSend, HasText, HasTextOrNone, LacksSeed, Matches, MeetsSeedless, link_name, shell_name};
 
 use crate::ArgumentsFault;
 use crate::commands::{CLIENTS, CRASHES, PUMPS, STREAMS, TICK, WAIT, command};
+use crate::refusal::{Refusal, Unfit, told};
 use amo_settings::{
     HostSettings, LinkKind, ReceiveSettings, RunSettings, SendSettings, Settings, Shell,
 };
 use amo_text::laws::hex_is_injective;
 use amo_text::read_hex;
-use clap::error::ErrorKind;
-use clap::{ArgMatches, Error};
+use clap::ArgMatches;
 use std::alloc::{AllocError, Global};
 
 /// Reads the arguments, the program's name first.
@@ -23,39 +23,37 @@ pub fn settings(alloc: Global, arguments: Vec<String>) -> Result<Settings, Argum
     // The command and its values are those of the match that `clap` defines for these arguments, each within its limits.
     ensures chosen { IfOk result (λ chosen. Chooses (map string_bytes arguments.items) chosen) }
     ensures within { IfOk result IsWithin }
-    ensures status { IfErr result HasStatus }
+    // Arguments are refused where `clap` refuses them, with the status of what is told; else they contradict each other, have no seed
+    // for a run, or there was no memory.
+    ensures refused { MatchResult result (λ _. AreTaken (map string_bytes arguments.items)) (IsToldOf (map string_bytes arguments.items)) }
     // A seed is blamed only where all else is right, and it is no seed.
     ensures seed { IsErrOf result ArgumentsFault.Seed → LacksSeed (map string_bytes arguments.items) }
 {
-    match parse(alloc, arguments.as_slice()) {
+    match choose(alloc, arguments.as_slice()) {
         Ok(Some(settings)) => Ok(settings),
         Ok(None) => Err(ArgumentsFault::Seed),
-        Err(error) => Err(refused(alloc, &error)),
+        Err(refusal) => Err(told(alloc, &refusal)),
     }
-}
-
-/// The fault of arguments that are not text, in `clap`'s words.
-pub fn not_text(alloc: Global) -> ArgumentsFault
-    ensures status { HasStatus result }
-{
-    match error_about(alloc, "invalid UTF-8 was detected in one or more arguments") {
-        Ok(error) => refused(alloc, &error),
-        Err(AllocError) => ArgumentsFault::NoMemory,
-    }
-}
-
-/// An error with this message, in `clap`'s words.
-fn error_about(alloc: Global, message: &str) -> Result<Error, AllocError> {
-    let mut command = command(alloc)?;
-    command.error(ErrorKind::ValueValidation, message)
 }
 
 /// The settings that the arguments choose; none where they have no seed for a run.
-fn parse(alloc: Global, arguments: &[String]) -> Result<Option<Settings>, Error>
+fn choose(alloc: Global, arguments: &[String]) -> Result<Option<Settings>, Refusal>
     ensures chosen { IfOk result (λ chosen. IfSome chosen (Chooses (map string_bytes arguments.now))) }
     ensures seed { IfOk result (λ chosen. IfNone chosen (LacksSeed (map string_bytes arguments.now))) }
+    ensures refused { MatchResult result (λ _. AreTaken (map string_bytes arguments.now)) (IsRefusalOf (map string_bytes arguments.now)) }
 {
     let matches = matches_of(alloc, arguments)?;
+    match parse(alloc, &matches) {
+        Ok(chosen) => Ok(chosen),
+        Err(unfit) => Err(Refusal::Unfit(unfit)),
+    }
+}
+
+/// The settings that a match chooses; none where it has no seed for a run.
+fn parse(alloc: Global, matches: &ArgMatches<'_>) -> Result<Option<Settings>, Unfit>
+    ensures chosen { IfOk result (λ chosen. IfSome chosen (ChoosesBy (subcommand_rows_of matches.now))) }
+    ensures seed { IfOk result (λ chosen. IfNone chosen (MeetsSeedless (subcommand_rows_of matches.now))) }
+{
     if let Some(replay) = matches.subcommand_matches("replay") {
         return Ok(Some(Settings::Replay(text_of(alloc, replay, "FILE")?)));
     }
@@ -80,19 +78,27 @@ fn parse(alloc: Global, arguments: &[String]) -> Result<Option<Settings>, Error>
     }
     match matches.subcommand_matches("completions") {
         Some(completions) => Ok(Some(Settings::Completions(shell_of(alloc, completions)?))),
-        None => Err(beyond(alloc)?),
+        None => Err(Unfit::Absent),
     }
 }
 
 /// The match of the arguments.
-fn matches_of<'a>(alloc: Global, arguments: &'a [String]) -> Result<ArgMatches<'a>, Error>
-    ensures { IfOk result (Matches (map string_bytes arguments.entry.now)) }
+fn matches_of<'a>(alloc: Global, arguments: &'a [String]) -> Result<ArgMatches<'a>, Refusal>
+    ensures matches { IfOk result (Matches (map string_bytes arguments.entry.now)) }
+    ensures refused { MatchResult result (λ _. AreTaken (map string_bytes arguments.entry.now)) (IsRefusalOf (map string_bytes arguments.entry.now)) }
 {
-    command(alloc)?.try_get_matches_from(arguments)
+    let command = match command(alloc) {
+        Ok(command) => command,
+        Err(AllocError) => return Err(Refusal::Unfit(Unfit::NoMemory)),
+    };
+    match command.try_get_matches_from(arguments) {
+        Ok(matches) => Ok(matches),
+        Err(error) => Err(Refusal::ByParser(error)),
+    }
 }
 
 /// The settings that the arguments of `run` choose; none where they have no seed.
-fn parse_run(alloc: Global, matches: &ArgMatches<'_>) -> Result<Option<Settings>, Error>
+fn parse_run(alloc: Global, matches: &ArgMatches<'_>) -> Result<Option<Settings>, Unfit>
     ensures chosen { IfOk result (λ chosen. IfSome chosen (ChoosesRun (rows_of (found_of matches.now)))) }
     ensures seed { IfOk result (λ chosen. IfNone chosen (HasNoSeed (rows_of (found_of matches.now)))) }
 {
@@ -121,7 +127,7 @@ fn parse_run(alloc: Global, matches: &ArgMatches<'_>) -> Result<Option<Settings>
 }
 
 /// The settings that the arguments of `send` choose.
-fn parse_send(alloc: Global, matches: &ArgMatches<'_>) -> Result<SendSettings, Error>
+fn parse_send(alloc: Global, matches: &ArgMatches<'_>) -> Result<SendSettings, Unfit>
     ensures { IfOk result (HasSend (rows_of (found_of matches.now))) }
 {
     let host = parse_host(alloc, matches)?;
@@ -129,7 +135,7 @@ fn parse_send(alloc: Global, matches: &ArgMatches<'_>) -> Result<SendSettings, E
     let batch = flag_of(alloc, matches, "batch")?;
     let hex = flag_of(alloc, matches, "hex")?;
     if each && batch {
-        return Err(beyond(alloc)?);
+        return Err(Unfit::EachAndBatch);
     }
     Ok(SendSettings {
         host,
@@ -140,7 +146,7 @@ fn parse_send(alloc: Global, matches: &ArgMatches<'_>) -> Result<SendSettings, E
 }
 
 /// The settings that the arguments of `receive` choose.
-fn parse_receive(alloc: Global, matches: &ArgMatches<'_>) -> Result<ReceiveSettings, Error>
+fn parse_receive(alloc: Global, matches: &ArgMatches<'_>) -> Result<ReceiveSettings, Unfit>
     ensures { IfOk result (HasReceive (rows_of (found_of matches.now))) }
 {
     let host = parse_host(alloc, matches)?;
@@ -149,11 +155,11 @@ fn parse_receive(alloc: Global, matches: &ArgMatches<'_>) -> Result<ReceiveSetti
 }
 
 /// The settings that the options choose which a host has on either side.
-fn parse_host(alloc: Global, matches: &ArgMatches<'_>) -> Result<HostSettings, Error>
+fn parse_host(alloc: Global, matches: &ArgMatches<'_>) -> Result<HostSettings, Unfit>
     ensures { IfOk result (HasHost (rows_of (found_of matches.now))) }
 {
-    let listen = text_of(alloc, matches, "listen")?;
-    let peer = text_of(alloc, matches, "peer")?;
+    let listen = address_of(alloc, matches, "listen", "0.0.0.0")?;
+    let peer = address_of(alloc, matches, "peer", "127.0.0.1")?;
     let streams = number_of(alloc, matches, "streams", 1, STREAMS)?;
     let journal = text_of(alloc, matches, "journal")?;
     let tick = number_of(alloc, matches, "tick", 1, TICK)?;
@@ -173,17 +179,40 @@ fn parse_host(alloc: Global, matches: &ArgMatches<'_>) -> Result<HostSettings, E
 }
 
 /// The text of an argument of a command.
-fn text_of(alloc: Global, matches: &ArgMatches<'_>, name: &str) -> Result<String, Error>
+fn text_of(alloc: Global, matches: &ArgMatches<'_>, name: &str) -> Result<String, Unfit>
     ensures { IfOk result (λ text. HasText (rows_of (found_of matches.now)) name.now (string_bytes text)) }
 {
     match matches.get_str(name) {
         Some(text) => Ok(String::from_str(alloc, text)?),
-        None => Err(beyond(alloc)?),
+        None => Err(Unfit::Absent),
     }
 }
 
+/// The text of an argument that is an address, HOST:PORT. Where it lacks its host or its port it is refused with what to give: such a host
+/// may be this one.
+fn address_of(
+    alloc: Global,
+    matches: &ArgMatches<'_>,
+    name: &str,
+    host: &str,
+) -> Result<String, Unfit>
+    ensures { IfOk result (λ text. HasText (rows_of (found_of matches.now)) name.now (string_bytes text)) }
+{
+    let text = text_of(alloc, matches, name)?;
+    let advice = match text.as_bytes() {
+        [b':', port @ ..] if !port.contains(&b':') => {
+            format!(in alloc; "--{name} {text}: give a host, as {host}{text}")?
+        }
+        address if !address.contains(&b':') => {
+            format!(in alloc; "--{name} {text}: give a port, as {text}:4800")?
+        }
+        _ => return Ok(text),
+    };
+    Err(Unfit::Address(advice))
+}
+
 /// The second file, where there is one.
-fn second_file_of(alloc: Global, matches: &ArgMatches<'_>) -> Result<Option<String>, AllocError>
+fn second_file_of(alloc: Global, matches: &ArgMatches<'_>) -> Result<Option<String>, Unfit>
     ensures { IfOk result (λ file. HasTextOrNone (rows_of (found_of matches.now)) (codes "SECOND") (option_map string_bytes file)) }
 {
     match matches.get_str("SECOND") {
@@ -199,12 +228,12 @@ fn number_of(
     name: &str,
     low: u32,
     high: u32,
-) -> Result<u32, Error>
+) -> Result<u32, Unfit>
     ensures { IfOk result (λ number. HasNumber (rows_of (found_of matches.now)) name.now number × (low ≤ number) × (number ≤ high)) }
 {
     match matches.get_one::<u32>(name) {
         Some(number) if low <= number && number <= high => Ok(number),
-        _ => Err(beyond(alloc)?),
+        _ => Err(Unfit::Absent),
     }
 }
 
@@ -215,7 +244,7 @@ fn number_or_none_of(
     name: &str,
     low: u64,
     high: u64,
-) -> Result<Option<u64>, Error>
+) -> Result<Option<u64>, Unfit>
     ensures number { IfOk result (HasNumberOrNone (rows_of (found_of matches.now)) name.now) }
     ensures within { IfOk result (λ number. IfSome number (λ n. (low ≤ n) × (n ≤ high))) }
 {
@@ -224,17 +253,17 @@ fn number_or_none_of(
     };
     match matches.get_one::<u64>(name) {
         Some(number) if low <= number && number <= high => Ok(Some(number)),
-        _ => Err(beyond(alloc)?),
+        _ => Err(Unfit::Absent),
     }
 }
 
 /// The seed of a run; none where its text spells no 32 bytes.
-fn seed_of(alloc: Global, matches: &ArgMatches<'_>) -> Result<Option<[u8; 32]>, Error>
+fn seed_of(alloc: Global, matches: &ArgMatches<'_>) -> Result<Option<[u8; 32]>, Unfit>
     ensures seed { IfOk result (λ seed. IfSome seed (λ bytes. HasText (rows_of (found_of matches.now)) (codes "seed") (hex bytes))) }
     ensures none { IfOk result (λ seed. IfNone seed (HasNoSeed (rows_of (found_of matches.now)))) }
 {
     let Some(text) = matches.get_str("seed") else {
-        return Err(beyond(alloc)?);
+        return Err(Unfit::Absent);
     };
     let mut seed = [0; 32];
     match read_hex(text.as_bytes(), seed.as_mut_slice()) {
@@ -248,58 +277,34 @@ fn seed_of(alloc: Global, matches: &ArgMatches<'_>) -> Result<Option<[u8; 32]>, 
 }
 
 /// What carries the packets of a run.
-fn link_of(alloc: Global, matches: &ArgMatches<'_>) -> Result<LinkKind, Error>
+fn link_of(alloc: Global, matches: &ArgMatches<'_>) -> Result<LinkKind, Unfit>
     ensures { IfOk result (λ link. HasText (rows_of (found_of matches.now)) (codes "link") (link_name link)) }
 {
     match matches.get_str("link") {
         Some("memory") => Ok(LinkKind::Memory),
         Some("udp") => Ok(LinkKind::Udp),
-        _ => Err(beyond(alloc)?),
+        _ => Err(Unfit::Absent),
     }
 }
 
 /// The shell that completions are for.
-fn shell_of(alloc: Global, matches: &ArgMatches<'_>) -> Result<Shell, Error>
+fn shell_of(alloc: Global, matches: &ArgMatches<'_>) -> Result<Shell, Unfit>
     ensures { IfOk result (λ shell. HasText (rows_of (found_of matches.now)) (codes "SHELL") (shell_name shell)) }
 {
     match matches.get_str("SHELL") {
         Some("bash") => Ok(Shell::Bash),
         Some("zsh") => Ok(Shell::Zsh),
         Some("fish") => Ok(Shell::Fish),
-        _ => Err(beyond(alloc)?),
+        _ => Err(Unfit::Absent),
     }
 }
 
 /// Whether a flag is there.
-fn flag_of(alloc: Global, matches: &ArgMatches<'_>, name: &str) -> Result<bool, Error>
+fn flag_of(alloc: Global, matches: &ArgMatches<'_>, name: &str) -> Result<bool, Unfit>
     ensures { IfOk result (HasFlag (rows_of (found_of matches.now)) name.now) }
 {
     match matches.get_one::<bool>(name) {
         Some(flag) => Ok(flag),
-        None => Err(beyond(alloc)?),
-    }
-}
-
-/// The error of a match that `clap` does not give: it has a command, each argument's value is what it has to be, and no two of them
-/// contradict each other.
-fn beyond(alloc: Global) -> Result<Error, AllocError> {
-    error_about(
-        alloc,
-        "a command or one of its arguments is missing, or two contradict each other",
-    )
-}
-
-/// The text of arguments that did not parse, or of help that was asked for.
-fn refused(alloc: Global, error: &Error) -> ArgumentsFault
-    ensures status { HasStatus result }
-    ensures text { result ≢ ArgumentsFault.Seed }
-{
-    if error.kind() == ErrorKind::OutOfMemory {
-        return ArgumentsFault::NoMemory;
-    }
-    let status = if error.use_stderr() { 2 } else { 0 };
-    match error.to_string(alloc) {
-        Ok(text) => ArgumentsFault::Text(text, status),
-        Err(AllocError) => ArgumentsFault::NoMemory,
+        None => Err(Unfit::Absent),
     }
 }

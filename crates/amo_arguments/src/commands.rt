@@ -1,5 +1,5 @@
 //! The program's commands, as they are described to `clap`.
-ghost use Rattle.std.specs.Prelude.{◌≡◌, ◌∷◌, [], IfOk, codes, false, map};
+ghost use Rattle.std.specs.Prelude.{◌≡◌, IfOk, false};
 ghost use Rattle.clap.specs.Words.{app_of, new_app, rule_of};
 ghost use Rattle.amo_arguments.specs.Commands as described;
 
@@ -126,7 +126,7 @@ fn run<'a>(alloc: Global) -> Result<Command<'a>, AllocError>
         ))
 }
 
-fn send<'a>(alloc: Global) -> Result<Command<'a>, AllocError>
+pub(crate) fn send<'a>(alloc: Global) -> Result<Command<'a>, AllocError>
     ensures { IfOk result (described.IsCommand described.send) }
 {
     host(alloc, "send", texts::SEND_ABOUT, texts::SEND_AFTER_HELP)?
@@ -135,7 +135,11 @@ fn send<'a>(alloc: Global) -> Result<Command<'a>, AllocError>
             "each",
             "Puts a stream's next message once the last one's answer came",
         ))?
-        .arg(batch(alloc)?)?
+        .arg(flag(
+            alloc,
+            "batch",
+            "Sends the messages that wait on a stream together, up to four",
+        ))?
         .arg(flag(
             alloc,
             "hex",
@@ -158,7 +162,7 @@ fn receive<'a>(alloc: Global) -> Result<Command<'a>, AllocError>
         "N",
         1,
         u64::MAX,
-        "Ends once it got N messages",
+        "Ends once it got N messages, and the rest of their batch",
     ))
 }
 
@@ -390,24 +394,9 @@ fn optional_number<'a>(
 fn flag<'a>(alloc: Global, name: &'static str, help: &'static str) -> Arg<'a>
     ensures rule { rule_of result ≡ described.flag name.entry.now }
     ensures local { result.global ≡ false }
-    ensures apart { result.conflicts.items ≡ [] }
 {
     Arg::new(alloc, name)
         .long(name)
         .help(help)
         .action(ArgAction::SetTrue)
-}
-
-/// The flag by which a host sends batches. It contradicts the one by which a message waits for the answer to the last.
-fn batch<'a>(alloc: Global) -> Result<Arg<'a>, AllocError>
-    ensures rule { IfOk result (λ arg. rule_of arg ≡ described.batch) }
-    ensures local { IfOk result (λ arg. arg.global ≡ false) }
-    ensures apart { IfOk result (λ arg. map (λ id. id.now) arg.conflicts.items ≡ codes "each" ∷ []) }
-{
-    flag(
-        alloc,
-        "batch",
-        "Sends the messages that wait on a stream together, up to four",
-    )
-    .conflicts_with("each")
 }

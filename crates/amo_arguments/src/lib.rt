@@ -8,9 +8,11 @@
 mod arguments;
 mod commands;
 mod fault;
+mod refusal;
 mod texts;
 mod version;
 
-pub use arguments::{not_text, settings};
+pub use arguments::settings;
 pub use commands::{NAME, command};
 pub use fault::ArgumentsFault;
+pub use refusal::not_text;

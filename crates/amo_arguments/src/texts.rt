@@ -107,9 +107,11 @@ pub(crate) const SEND_ABOUT: &str =
 pub(crate) const SEND_AFTER_HELP: &str = "A line of standard input is a message for a stream:
   STREAM TEXT    TEXT is the rest of the line, 1,024 bytes at most; with --hex it is HEX
 
-A line that is none is told on standard error, as `amo: line L does not read`, L counted from 1, and
-nothing is put. While a stream is full, with 16 messages waiting, its next line waits, and so do all
-lines behind it. With --each a line waits also for the answer to the stream's last message.
+A line that is none is told on standard error with its reason, as `amo: line L: stream 5 of 4`, L
+counted from 1, and nothing is put. Nor is a last line put that lacks its line feed: who wrote it may
+have died in the middle, and `amo: line L has no end` is told. While a stream is full, with 16
+messages waiting, its next line waits, and so do all lines behind it. With --each a line waits also
+for the answer to the stream's last message.
 
 With --batch the messages that wait on a stream when a handshake begins travel together, up to four.
 Both hosts have to be of this version, and their journals of version 2, as new ones then are. A host
@@ -122,6 +124,7 @@ Output, a line of which each is of the message that was put last to the stream:
 With --json: {\"stream\":1,\"event\":\"ok\"}, and so on.
 
 At the end of standard input the host goes on until all is answered, or as long as --wait says.
+SIGTERM and SIGINT end it at once, which is a crash like any other.
 
 ADDR is HOST:PORT. The other host is `amo receive`, with as many streams and with both addresses the
 other way round. What does not come from there is dropped, but nothing is authenticated: use a
@@ -135,16 +138,17 @@ loses lines that the disk has not: --sync waits for it.
 
 Status:
   0  all is answered
-  2  arguments that do not parse
+  2  arguments that do not parse; or all is answered, and the last line had no end
   4  `amo: out of memory`
      `amo: no address: ADDR`
-     `amo: a socket failed`: it cannot be opened; later faults of it lose packets and no more
-     `amo: the journal is in use`: another process has it
-     `amo: the journal's line L is malformed`, `.. has another number`, `.. is of the other side`: it
-     is no journal of a host that sends, and was not changed
-     `amo: the journal is of version 1, ..`: it has no lines for batches, and was not changed
-     `amo: the journal failed`, `amo: the journal is full`: the file, or the disk
-     `amo: a client's device failed`: standard input, standard output, or the clock
+     `amo: cannot listen on ADDR: CAUSE`, `amo: no way to ADDR: CAUSE`: the socket cannot be opened;
+     later faults of it lose packets and no more
+     `amo: FILE: another process has it in use`
+     `amo: FILE: it has no whole line, ..`, `amo: FILE: line L ..`: it is no journal of a host that
+     sends, and was not changed
+     `amo: FILE: it is of version 1, ..`: it has no lines for batches, and was not changed
+     `amo: FILE: CAUSE`, `amo: the journal is full`: the file, or the disk
+     `amo: standard input failed: ..`, `amo: standard output failed: ..`, or `.. is closed`
   5  --wait is over, and something is still on its way
 
 Example:
@@ -155,11 +159,13 @@ pub(crate) const RECEIVE_ABOUT: &str =
 
 pub(crate) const RECEIVE_AFTER_HELP: &str =
     "Output, a line for each message that it got, in the order put of each stream:
-  STREAM TEXT    or STREAM 0xHEX where the message is no UTF-8 or has a control character
+  STREAM TEXT    or STREAM 0xHEX where it is no UTF-8 or has a control character other than a tab
 With --json: {\"stream\":1,\"event\":\"got\",\"text\":\"TEXT\"}, or \"hex\":\"HEX\" in place of the text.
 
-The host ends at the end of standard input, or once it got as many messages as --count says. It then
-waits for what is still on its way: as long as --wait says, or else for a second at most.
+The host reads no standard input. It ends once it got as many messages as --count says, and those
+that came in one batch with the last of them, and then waits for what is still on its way: as long as
+--wait says, or else for a second at most. SIGTERM and SIGINT end it at once, which is a crash like
+any other. Where nobody reads its output any more it fails.
 
 Messages may come together, from a host with --batch. A new journal is of version 2, which has lines
 for that. One of version 1 is gone on with as it is: what comes together is dropped, and told once.
@@ -178,6 +184,7 @@ Status:
   0  done
   2  arguments that do not parse
   4  as of `amo send`; the journal is one of a host that receives
+     `amo: nobody reads standard output any more`
   5  --wait is over, and something is still on its way
 
 Example:

@@ -8,7 +8,8 @@ use Rattle.amo_arguments.proofs.commands.send.Goals as goal
 pub returns : goal.returns
 returns c =
     let each : rule_of c.flag.result ≡ flag (codes "each") = search rules in
-    let hex : rule_of c.flag-2.result ≡ flag (codes "hex") = search rules in
+    let batch : rule_of c.flag-2.result ≡ flag (codes "batch") = search rules in
+    let hex : rule_of c.flag-3.result ≡ flag (codes "hex") = search rules in
     let one = with_argument c.in_ok-arg.ensures each c.flag.ensures.local c.in_ok-host.ensures in
-    let two = with_argument c.in_ok-arg-2.ensures c.in_ok-batch.ensures.rule c.in_ok-batch.ensures.local one in
-    IfOk-weaker c.arg-3.result _ _ (λ m h. with_argument h hex c.flag-2.ensures.local two) c.arg-3.ensures
+    let two = with_argument c.in_ok-arg-2.ensures batch c.flag-2.ensures.local one in
+    IfOk-weaker c.arg-3.result _ _ (λ m h. with_argument h hex c.flag-3.ensures.local two) c.arg-3.ensures
