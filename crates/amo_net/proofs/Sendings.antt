@@ -1,5 +1,5 @@
 -- What the words of a channel do to the datagrams of one direction.
-use Rattle.std.proofs.Common.{◌≡◌, ℕ, zero, suc, ◌+◌, ◌<◌, ◌≤◌, ◌%◌, List, [], ◌∷◌, ◌++◌, length, take, drop, replicate, refl, ap, ◌∙◌, sym, subst, arith, length-append}
+use Rattle.std.proofs.Common.{◌≡◌, ℕ, zero, suc, ◌+◌, ◌<◌, ◌≤◌, ◌%◌, List, [], ◌∷◌, ◌++◌, length, take, drop, replicate, refl, ap, ◌∙◌, sym, subst, arith, append_assoc, length-append}
 use Rattle.std.proofs.lemmas.List.{append-nil, take_all, length-replicate}
 use Rattle.std.proofs.Math.Nat.{zero-mod}
 use Rattle.std.specs.Prelude.{remove, slice_get, Some}
@@ -25,6 +25,21 @@ one_copy (suc (suc r)) low = refl
 
 pub queued_for : (w n : ℕ) (q : List (List ℕ)) → copies_of (w % 8) ≡ n → length q + n ≤ MAX_QUEUED → queued_copies w q ≡ n
 queued_for w n q is room = omega arith
+
+copies_most : (r : ℕ) → copies_of r ≤ 2
+copies_most zero = omega arith
+copies_most (suc zero) = omega arith
+copies_most (suc (suc r)) = omega arith
+
+-- one copy was queued, or two
+pub queued_one : (w n : ℕ) (b : List ℕ) (q r : List (List ℕ)) → n ≡ queued_copies w q → n ≡ 1 → length b ≤ MAX_DATAGRAM → r ≡ q ++ b ∷ [] → r ≡ sent w b q
+queued_one w n b q r is one short new = new ∙ sym (sent_whole w 1 b q (sym is ∙ one) short)
+
+pub queued_two : (w n : ℕ) (b : List ℕ) (q r s : List (List ℕ)) → n ≡ queued_copies w q → 2 ≤ n → length b ≤ MAX_DATAGRAM → r ≡ q ++ b ∷ [] → s ≡ r ++ b ∷ [] → s ≡ sent w b q
+queued_two w n b q r s is more short new newer =
+    let most = copies_most (w % 8) in
+    let two : queued_copies w q ≡ 2 = omega arith in
+    newer ∙ (ap (λ (l : List (List ℕ)). l ++ b ∷ []) new ∙ (append_assoc q (b ∷ []) (b ∷ []) ∙ sym (sent_whole w 2 b q two short)))
 
 pub sent_lost : (w : ℕ) (b : List ℕ) (q : List (List ℕ)) → w % 8 ≡ 0 → sent w b q ≡ q
 sent_lost w b q lost = let none : copies_of (w % 8) ≡ 0 = ap copies_of lost in let no : queued_copies w q ≡ 0 = omega arith in sent_nothing w b q no

@@ -1,7 +1,8 @@
 -- A channel that loses, repeats and reorders: what a send and a receive do to the datagrams of one direction.
-use Rattle.std.specs.Prelude.{◌≡◌, ℕ, zero, suc, ◌+◌, ◌-◌, ◌%◌, min, List, ◌++◌, length, take, drop, replicate, remove, slice_get, Option, Some, unwrap_or}
+use Rattle.std.specs.Prelude.{◌≡◌, Bool, ℕ, zero, suc, ◌+◌, ◌-◌, ◌%◌, min, List, [], ◌∷◌, ◌++◌, length, take, drop, replicate, remove, slice_get, Option, Some, unwrap_or}
 use Rattle.amo_object.specs.declared.step.End.{End}
 use Rattle.amo_object.specs.declared.step.End.TheVariants.{Sender, Receiver}
+use Rattle.amo_object.specs.End.{other}
 use Rattle.amo_net.specs.declared.direction.TheConstants.{MAX_QUEUED}
 use Rattle.amo_net.specs.declared.link.TheConstants.{MAX_DATAGRAM}
 
@@ -49,3 +50,20 @@ pub record Takes (word : ℕ) (old new : List (List ℕ)) (before after : List �
   pub long : count ≡ length datagram
   pub front : after ≡ datagram ++ drop count before
   pub rest : new ≡ remove old (word % length old)
+
+-- a datagram of these bytes is sent from an end: a word is drawn, and that direction has as many copies more as it says and as have room
+pub record Sends {W : Type 0} (to_come : W → ℕ → Option ℕ) (from : End) (bytes : List ℕ) (c d : Channel W) : Type 0 where
+  pub word : Draws to_come c.words d.words
+  pub here : queued from d ≡ sent (next_word to_come c.words 2) bytes (queued from c)
+  pub there : queued (other from) d ≡ queued (other from) c
+
+-- these datagrams are sent from an end, one after another
+abbrev pub SendsAll : {W : Type 0} → (W → ℕ → Option ℕ) → End → List (List ℕ) → Channel W → Channel W → Type 0
+SendsAll to_come from [] c e = e ≡ c
+SendsAll {W} to_come from (bytes ∷ rest) c e = (d : Channel W) × Sends to_come from bytes c d × SendsAll to_come from rest d e
+
+-- an end of a channel: which one it is, whether it has datagrams to hand out that it took out, and those that it keeps back, the first to go at the front
+pub record EndState : Type 0 where
+  pub end : End
+  pub has_more : Bool
+  pub kept_back : List (List ℕ)

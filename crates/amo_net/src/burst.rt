@@ -1,7 +1,7 @@
-//! Datagrams that cross a channel at once.
-ghost use Rattle.std.specs.Prelude.{◌≡◌, ◌≤◌, IfErr, IfSome};
+//! Datagrams that are taken out of a channel at once.
+ghost use Rattle.std.specs.Prelude.{◌≡◌, ◌≤◌, nat_lt, false, IfSome};
 
-use crate::{LinkFault, Lossy, MAX_DATAGRAM};
+use crate::{Lossy, MAX_DATAGRAM};
 use amo_object::End;
 use amo_word::Words;
 
@@ -11,7 +11,7 @@ const AT_ONCE: usize = 16;
 /// How many bytes they have at most: those of four of the longest.
 const ROOM: usize = 4 * MAX_DATAGRAM;
 
-/// At most sixteen datagrams, in the order in which they are to go on. A datagram takes as much room as it has bytes.
+/// At most sixteen datagrams, in the order in which they are to be handed out. A datagram takes as much room as it has bytes.
 #[derive(Drop)]
 pub(crate) struct Burst {
     /// The bytes of all of them, one datagram behind the other.
@@ -22,14 +22,16 @@ pub(crate) struct Burst {
     lengths: [usize; AT_ONCE],
     /// How many datagrams there are.
     count: usize,
-    /// How many datagrams went on.
+    /// How many datagrams were handed out.
     gone: usize,
     /// How many bytes those have.
     passed: usize,
 }
 
 impl Burst {
-    pub(crate) fn new() -> Burst {
+    pub(crate) fn new() -> Burst
+        ensures { nat_lt result.gone result.count ≡ false }
+    {
         Burst {
             bytes: [0; ROOM],
             taken: 0,
@@ -40,31 +42,11 @@ impl Burst {
         }
     }
 
-    /// Whether all of them went on.
-    pub(crate) fn is_over(&self) -> bool {
-        self.gone >= self.count
-    }
-
-    /// Adds a datagram of these bytes, or of as many at their front as a buffer holds. Whether there was room.
-    pub(crate) fn push(&mut self, bytes: &[u8]) -> bool {
-        if self.is_over() {
-            self.clear();
-        }
-        let length = MAX_DATAGRAM.min(bytes.len());
-        let Some(place) = self.lengths.get_mut(self.count) else {
-            return false;
-        };
-        let Some(free) = self.bytes.get_mut(self.taken..) else {
-            return false;
-        };
-        let Some(room) = free.get_mut(..length) else {
-            return false;
-        };
-        room.copy_from_slice(&bytes[..length]);
-        *place = length;
-        self.taken = self.taken.saturating_add(length);
-        self.count = self.count.saturating_add(1);
-        true
+    /// Whether there are more to hand out.
+    pub(crate) fn has_more(&self) -> bool
+        ensures { result ≡ nat_lt self.now.gone self.now.count }
+    {
+        self.gone < self.count
     }
 
     /// Takes out of the channel what has come at this end, in place of what was there.
@@ -100,35 +82,16 @@ impl Burst {
         Some(length)
     }
 
-    /// Sends them on the channel from this end. Where memory is refused, those that are left stay.
-    pub(crate) fn send_all<W: Words>(
-        &mut self,
-        channel: &mut Lossy<W>,
-        from: End,
-    ) -> Result<(), LinkFault>
-        ensures memory { IfErr result (λ f. f ≡ LinkFault.NoMemory) }
-    {
-        'datagrams: for _place in self.gone..self.count {
-            let Some(bytes) = self.next() else {
-                break;
-            };
-            let length = bytes.len();
-            channel.send(from, bytes)?;
-            self.pass(length);
-        }
-        Ok(())
-    }
-
     /// The bytes of the next one.
     fn next(&self) -> Option<&[u8]> {
-        if self.is_over() {
+        if !self.has_more() {
             return None;
         }
         let length = self.lengths.get(self.gone)?;
         self.bytes.get(self.passed..)?.get(..*length)
     }
 
-    /// The next one, of this length, went on.
+    /// The next one, of this length, was handed out.
     fn pass(&mut self, length: usize) {
         self.gone = self.gone.saturating_add(1);
         self.passed = self.passed.saturating_add(length);

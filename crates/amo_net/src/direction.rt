@@ -1,10 +1,12 @@
 //! The datagrams on their way from one end to the other.
 ghost use Rattle.std.specs.Prelude.{◌≡◌, ◌↔◌, IsTrue, ◌≢◌, ◌≤◌, ◌++◌, ◌%◌, ◌-◌, [], min, take, drop, length, Some, IfOk, OnOk, OnErr, slice_get, remove};
+ghost use Rattle.arrayvec.specs.ArrayVec.{array_vec_len};
 ghost use Rattle.amo_net.specs.Lossy.{copies, queued_copies, sent};
 
 use crate::MAX_DATAGRAM;
+use arrayvec::ArrayVec;
 use std::alloc::{AllocError, Global};
-use std::collections::VecDeque;
+use std::default::MadeWith;
 use std::marker::Model;
 
 /// The most datagrams that a direction of a channel holds.
@@ -27,9 +29,15 @@ impl Model for Datagram {
     ghost invariant = { λ d. length d.bytes.items ≤ MAX_DATAGRAM };
 }
 
+impl MadeWith<Global> for Datagram {
+    fn made_with(alloc: Global) -> Datagram {
+        Datagram::empty(alloc)
+    }
+}
+
 impl Datagram {
     /// A datagram without bytes, which takes no memory yet.
-    fn empty(alloc: Global) -> Datagram {
+    pub(crate) fn empty(alloc: Global) -> Datagram {
         Datagram {
             bytes: Vec::new(alloc),
         }
@@ -37,7 +45,7 @@ impl Datagram {
 
     /// A datagram of these bytes, or of as many at their front as a buffer holds, in the room of this one.
     #[tactic(auto, using(std::proofs::lemmas::List::take_min))]
-    fn copy(self, bytes: &[u8]) -> Result<Datagram, AllocError>
+    pub(crate) fn copy(self, bytes: &[u8]) -> Result<Datagram, AllocError>
         ensures { IfOk result (λ d. d ≡ take MAX_DATAGRAM bytes.now) }
     {
         let length = MAX_DATAGRAM.min(bytes.len());
@@ -58,13 +66,44 @@ impl Datagram {
     }
 }
 
+/// A datagram before its word is drawn, which may ask for two copies: here both are made. Contracts see its bytes.
+#[derive(Drop)]
+pub(crate) struct Twins {
+    first: Datagram,
+    second: Datagram,
+}
+
+impl Model for Twins {
+    ghost use Rattle.std.specs.Prelude.{List, ℕ, ◌≡◌, ◌≤◌, length};
+    ghost use Rattle.amo_net.specs.declared.link.TheConstants.{MAX_DATAGRAM};
+
+    ghost Value = { List ℕ };
+
+    ghost view = { λ t. t.first };
+
+    ghost invariant = { λ t. (t.second ≡ t.first) × (length t.first ≤ MAX_DATAGRAM) };
+}
+
+impl Twins {
+    /// Both copies of these bytes, or of as many at their front as a buffer holds, in these rooms.
+    pub(crate) fn of(rooms: (Datagram, Datagram), bytes: &[u8]) -> Result<Twins, AllocError>
+        ensures { IfOk result (λ t. t ≡ take MAX_DATAGRAM bytes.now) }
+    {
+        let (one, other) = rooms;
+        Ok(Twins {
+            first: one.copy(bytes)?,
+            second: other.copy(bytes)?,
+        })
+    }
+}
+
 /// At most [`MAX_QUEUED`] datagrams. Contracts see their list, the one that was sent first at the front.
 #[derive(Drop)]
 pub(crate) struct Direction {
     alloc: Global,
-    datagrams: VecDeque<Datagram>,
+    datagrams: ArrayVec<Datagram, MAX_QUEUED, Global>,
     /// What was received. Its room is used again, so that not each datagram takes memory.
-    spare: Vec<Datagram>,
+    spare: ArrayVec<Datagram, MAX_QUEUED, Global>,
 }
 
 impl Model for Direction {
@@ -84,8 +123,8 @@ impl Direction {
     {
         Direction {
             alloc,
-            datagrams: VecDeque::new(alloc),
-            spare: Vec::new(alloc),
+            datagrams: ArrayVec::new_in(alloc),
+            spare: ArrayVec::new_in(alloc),
         }
     }
 
@@ -112,17 +151,36 @@ impl Direction {
             0 => Ok(()),
             1 => {
                 let only = self.copy(bytes)?;
-                self.datagrams.reserve(1)?;
-                self.datagrams.push_back_reserved(only);
+                self.datagrams.push(only);
                 Ok(())
             }
             _ => {
                 let first = self.copy(bytes)?;
                 let second = self.copy(bytes)?;
-                self.datagrams.reserve(2)?;
-                self.datagrams.push_back_reserved(first);
-                self.datagrams.push_back_reserved(second);
+                self.datagrams.push(first);
+                self.datagrams.push(second);
                 Ok(())
+            }
+        }
+    }
+
+    /// Does with a datagram what the word says. Its copies are made, so that this takes no memory.
+    pub(crate) fn queue(&mut self, word: u64, twins: Twins)
+        ensures { self.new ≡ sent word twins self.old }
+    {
+        let Twins { first, second } = twins;
+        match copies(word).min(self.room()) {
+            0 => {
+                self.keep_room(first);
+                self.keep_room(second);
+            }
+            1 => {
+                self.datagrams.push(first);
+                self.keep_room(second);
+            }
+            _ => {
+                self.datagrams.push(first);
+                self.datagrams.push(second);
             }
         }
     }
@@ -132,22 +190,24 @@ impl Direction {
         ensures copy { IfOk result (λ d. d ≡ take MAX_DATAGRAM bytes.now) }
         ensures same { self.new ≡ self.old }
     {
-        match self.spare.pop() {
-            Some(spare) => spare.copy(bytes),
-            None => {
-                self.spare.reserve(MAX_QUEUED)?;
-                Datagram::empty(self.alloc).copy(bytes)
-            }
-        }
+        let room = self.spare.pop();
+        room.unwrap_or(Datagram::empty(self.alloc)).copy(bytes)
     }
 
-    /// Keeps the room of a datagram that was received, where that takes no memory.
+    /// Keeps the room of a datagram that is not used any more, if there are not enough of them.
     pub(crate) fn keep_room(&mut self, datagram: Datagram)
         ensures { self.new ≡ self.old }
     {
-        if self.spare.len() < self.spare.capacity() {
-            self.spare.push_reserved(datagram);
+        if !self.spare.is_full() {
+            self.spare.push(datagram);
         }
+    }
+
+    /// Room that is kept, if there is some.
+    pub(crate) fn room_kept(&mut self) -> Option<Datagram>
+        ensures { self.new ≡ self.old }
+    {
+        self.spare.pop()
     }
 
     /// Takes out the datagram that the word names.
@@ -157,7 +217,7 @@ impl Direction {
         ensures rest { self.new ≡ remove self.old (word % length self.old) }
     {
         let place = (word % self.datagrams.len() as u64) as usize;
-        match self.datagrams.remove(place) {
+        match self.datagrams.pop_at(place) {
             Some(datagram) => datagram,
             None => unreachable!(),
         }

@@ -19,6 +19,7 @@ mod burst;
 mod direction;
 mod fail_once;
 mod fault;
+mod kept_back;
 pub mod laws;
 mod link;
 mod lossy;

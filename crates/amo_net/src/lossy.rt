@@ -1,9 +1,9 @@
 //! A channel in memory that loses, repeats and reorders.
 ghost use Rattle.std.specs.Prelude.{◌≡◌, ◌≢◌, ◌%◌, [], length, Some, IfErr, IfNone, IfSome, OnOk, OnSome, slice_get, remove};
 ghost use Rattle.amo_object.specs.End.{other};
-ghost use Rattle.amo_net.specs.Lossy.{Draws, Takes, next_word, queued, queued_copies, sent};
+ghost use Rattle.amo_net.specs.Lossy.{Draws, Sends, Takes, next_word, queued, queued_copies, sent};
 
-use crate::direction::{Datagram, Direction};
+use crate::direction::{Datagram, Direction, Twins};
 use crate::{LinkFault, MAX_DATAGRAM};
 use amo_object::End;
 use amo_word::Words;
@@ -47,6 +47,16 @@ impl<W> Lossy<W> {
             from_receiver: Direction::new(alloc),
         }
     }
+
+    /// Room of a datagram that was sent from this end and received, if there is some.
+    pub(crate) fn room_kept(&mut self, from: End) -> Option<Datagram>
+        ensures { self.new ≡ self.old }
+    {
+        match from {
+            End::Sender => self.from_sender.room_kept(),
+            End::Receiver => self.from_receiver.room_kept(),
+        }
+    }
 }
 
 impl<W: Words> Lossy<W> {
@@ -67,6 +77,17 @@ impl<W: Words> Lossy<W> {
             End::Receiver => self.from_receiver.send(word, bytes)?,
         }
         Ok(())
+    }
+
+    /// The same for a datagram whose copies are made. It takes no memory.
+    pub(crate) fn queue(&mut self, from: End, twins: Twins)
+        ensures { Sends W.to_come from twins self.old self.new }
+    {
+        let word = self.words.next().unwrap_or(WORD_OF_A_SEND);
+        match from {
+            End::Sender => self.from_sender.queue(word, twins),
+            End::Receiver => self.from_receiver.queue(word, twins),
+        }
     }
 
     /// Draws a word, and takes out the datagram that it names of those that the other end sent.

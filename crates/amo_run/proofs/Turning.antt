@@ -1,9 +1,9 @@
 -- What a pump's calls do to its pass and its charges.
-use Rattle.std.proofs.Common.{◌≡◌, ℕ, Bool, true, false, zero, suc, ◌<◌, ◌≤◌, ◌^◌, List, [], ◌∷◌, ◌++◌, Option, Some, None, slice_get, slice_set, refl, sym, ap, ap₂, ◌∙◌, subst, append_assoc, append-nil}
+use Rattle.std.proofs.Common.{◌≡◌, ℕ, Bool, true, false, zero, suc, ◌<◌, ◌≤◌, ◌^◌, List, [], ◌∷◌, ◌++◌, Contains, Option, Some, None, slice_get, slice_set, refl, sym, ap, ap₂, ◌∙◌, subst, append_assoc, append-nil}
 use Rattle.amo_object.specs.declared.step.End.{End}
 use Rattle.amo_object.specs.declared.step.End.TheVariants as end
 use Rattle.amo_packet.specs.declared.packet.OwnedPacket.{OwnedPacket}
-use Rattle.amo_packet.specs.Grammar.{Spells, version_of as spelt_under}
+use Rattle.amo_packet.specs.Grammar.{CarriesNoBytes, Spells, version_of as spelt_under}
 use Rattle.amo_core.specs.declared.act.Act.{Act}
 use Rattle.amo_core.specs.declared.act.Act.TheVariants as act
 use Rattle.amo_core.specs.declared.reply.Reply.TheVariants as reply
@@ -13,7 +13,9 @@ use Rattle.amo_book.specs.Charge.{ChargeState}
 use Rattle.amo_book.specs.Pass.{PassState, event}
 use Rattle.amo_book.specs.declared.drive.Done.{Done}
 use Rattle.amo_host.specs.Station.{Station, IsStation, moved_past}
-use Rattle.amo_host.specs.Turn.{Happened, Nothing, Starts, TurnsAlone, TurnsWith, GoesDownOrUp, NoEvent}
+use Rattle.amo_host.specs.Turn.{Happened, Nothing, Starts, TurnsAlone, TurnsWith, GoesDownOrUp, FailsAlone, NoEvent}
+use Rattle.amo_host.specs.declared.fault.PumpFault.{PumpFault}
+use Rattle.amo_host.specs.declared.fault.PumpFault.TheVariants.{Busy, NoMemory, NoWord}
 use Rattle.amo_host.specs.declared.turned.Kind.{Kind}
 use Rattle.amo_host.specs.declared.turned.Kind.TheVariants as kind
 use Rattle.amo_host.specs.declared.turned.Turned.{Turned}
@@ -21,8 +23,9 @@ use Rattle.amo_host.specs.declared.turned.Turned.TheVariants.{Idle, Unread, Stra
 use Rattle.std.specs.Option.{option_map}
 use Rattle.std.proofs.lemmas.Option.{slice_get-map}
 use Rattle.amo_host.specs.Charges.{stream_mode_of}
-use Rattle.amo_host.specs.Host.{IsFor, streams_of}
+use Rattle.amo_host.specs.Host.{IsFor, side_of, streams_of}
 use Rattle.amo_host.specs.declared.agenda.StreamMode.{StreamMode}
+use Rattle.amo_host.specs.declared.agenda.Task.TheVariants as task
 use Rattle.std.proofs.lemmas.List.Elements.{All-nil, All-cons, All-append}
 use Rattle.hex.specs.Hex.{IsBytes}
 use Rattle.amo_world.specs.History.{IsRight, stream_before}
@@ -34,7 +37,7 @@ use Rattle.amo_journal.specs.Version.{newest, HasBatches}
 use Rattle.amo_journal.proofs.Packets.{packet_spelt}
 use Rattle.amo_run.specs.Fits.{Fits, AllFit}
 use Rattle.amo_run.specs.Told.{Tells}
-use Rattle.amo_run.specs.Engine.{tie, ties, Works, Advances, Recorded, IsSmall, act_told, done_at, told_of}
+use Rattle.amo_run.specs.Engine.{tie, ties, Works, Advances, BringsBytesTo, NoneIsDue, Recorded, IsSmall, act_told, done_at, told_of, has_resent}
 use Rattle.amo_run.specs.Versions.{version_for, version_of}
 use Rattle.amo_run.proofs.Hosts.{each_at}
 use Rattle.amo_run.proofs.Tellings.{tells_none, tells_one, tells_more}
@@ -157,6 +160,26 @@ module _ {W : Type 0} (book : BookState) (s t : Station W) (v w : PassState) whe
   alone_advances to_come now old new (Did side stream kind.Crash done) was b right h small = absurd h
   alone_advances to_come now old new (Did side stream kind.Recover done) was b right h small = absurd h
 
+  -- after a turn that was no resend nothing is due
+  pub alone_ends : (to_come : W → ℕ → Option ℕ) (now : ℕ) (old new : List ℕ) (turned : Turned) → TurnsAlone to_come now s t v w old new turned → has_resent turned ≡ false → NoneIsDue s now
+  alone_ends to_come now old new Idle h is = h.0.0
+  alone_ends to_come now old new (Unread f) h is = absurd h
+  alone_ends to_come now old new Stranger h is = absurd h
+  alone_ends to_come now old new (Did side stream kind.Resend done) h is = cc
+  alone_ends to_come now old new (Did side stream (kind.Start word) done) (plain, started) is = started.1.0
+  alone_ends to_come now old new (Did side stream (kind.Batch word) done) (together, started) is = started.1.0
+  alone_ends to_come now old new (Did side stream (kind.Deliver word) done) h is = absurd h
+  alone_ends to_come now old new (Did side stream kind.Crash done) h is = absurd h
+  alone_ends to_come now old new (Did side stream kind.Recover done) h is = absurd h
+
+  -- nor after one that lacked a word: it was a start
+  pub lacking_ends : (to_come : W → ℕ → Option ℕ) (now : ℕ) (fault : PumpFault) → FailsAlone to_come now s t fault → fault ≡ NoWord → NoneIsDue s now
+  lacking_ends to_come now Busy h is = cc
+  lacking_ends to_come now NoMemory h is = cc
+  lacking_ends to_come now NoWord (task.Idle, next, fails) is = absurd fails
+  lacking_ends to_come now NoWord (task.Resend place, next, fails) is = absurd fails
+  lacking_ends to_come now NoWord (task.Start place, next, fails) is = next.0
+
   pub with_advances : (to_come : W → ℕ → Option ℕ) (known now : ℕ) (bytes old new : List ℕ) (p : OwnedPacket) (turned : Turned) → Works book v s → Works book w t → IsBytes bytes
       → Spells (newest (version_of s)) bytes p → ((q : OwnedPacket) → Spells known bytes q → p ≡ q) → TurnsWith to_come known bytes now s t v w old new turned → IsSmall turned
       → Advances book v w s t (told_of v.number (Some p) turned)
@@ -200,3 +223,8 @@ recorded_more book r s t u v w a b c x y =
         fit = All-append (λ (one : ℕ × Event). Fits (version_of r) book.sides one.1) x.more y.more x.advances.fit later;
       };
     }
+
+-- a packet with bytes for these streams of a host, which another reader found
+pub brings_to : (version : ℕ) (side : End) (streams bytes : List ℕ) (p q : OwnedPacket) → Spells version bytes p → p ≡ q → ¬ (CarriesNoBytes q.body) → side_of p.body ≡ side → Contains streams p.stream
+    → BringsBytesTo version side streams bytes
+brings_to version side streams bytes p q spelt is some host ours = (p, spelt, host, ours, subst (λ (x : OwnedPacket). ¬ (CarriesNoBytes x.body)) (sym is) some)

@@ -1,8 +1,10 @@
 -- What turns do to a pump, its pass and the record of its events.
-use Rattle.std.specs.Prelude.{◌≡◌, ℕ, ◌<◌, ◌^◌, List, [], ◌∷◌, ◌++◌, map, Option, Some, None, Result, Ok, Err}
+use Rattle.std.specs.Prelude.{◌≡◌, ℕ, ◌<◌, ◌^◌, Bool, true, false, List, [], ◌∷◌, ◌++◌, map, Contains, Option, Some, None, Result, Ok, Err}
 use Rattle.atomic_table.specs.Seated.{TableId}
 use Rattle.amo_object.specs.declared.step.End.{End}
 use Rattle.amo_packet.specs.declared.packet.OwnedPacket.{OwnedPacket}
+use Rattle.amo_packet.specs.Grammar.{Spells, CarriesNoBytes}
+use Rattle.amo_window.specs.Timers.{due}
 use Rattle.amo_core.specs.declared.act.Act.{Act}
 use Rattle.amo_core.specs.declared.act.Act.TheVariants as act
 use Rattle.amo_core.specs.declared.reply.Reply.TheVariants.{Done}
@@ -10,8 +12,10 @@ use Rattle.amo_world.specs.declared.event.Event.{Event}
 use Rattle.amo_book.specs.Book.{BookState}
 use Rattle.amo_book.specs.Charge.{ChargeState}
 use Rattle.amo_book.specs.Pass.{PassState, event}
+use Rattle.amo_host.specs.Host.{side_of}
 use Rattle.amo_host.specs.Station.{Station, IsStation, BelongTogether}
 use Rattle.amo_host.specs.declared.fault.PumpFault.{PumpFault}
+use Rattle.amo_host.specs.declared.fault.PumpFault.TheVariants.{NoWord}
 use Rattle.amo_host.specs.declared.turned.Kind.{Kind}
 use Rattle.amo_host.specs.declared.turned.Kind.TheVariants as kind
 use Rattle.amo_host.specs.declared.turned.Turned.{Turned}
@@ -83,3 +87,21 @@ IsSmall _ = Unit {0}
 abbrev pub made_in : Result Turn PumpFault → List (ℕ × Event)
 made_in (Ok turn) = listed turn.event
 made_in (Err fault) = []
+
+-- a stream was sent again
+abbrev pub has_resent : Turned → Bool
+has_resent (Did side stream kind.Resend done) = true
+has_resent _ = false
+
+-- a turn without a datagram after which the clock moves on: it was no resend, or it lacked a word
+abbrev pub EndsMoment : Result Turn PumpFault → Type 0
+EndsMoment (Ok turn) = turn.resent ≡ false
+EndsMoment (Err fault) = fault ≡ NoWord
+
+-- no stream is due at this moment
+abbrev pub NoneIsDue : {W : Type 0} → Station W → ℕ → Type 0
+NoneIsDue s now = due now s.host.timers ≡ []
+
+-- all of the bytes spell a packet for one of these streams of a host, and its message has a byte
+abbrev pub BringsBytesTo : ℕ → End → List ℕ → List ℕ → Type 0
+BringsBytesTo newest side streams bytes = (p : OwnedPacket) × Spells newest bytes p × (side_of p.body ≡ side) × Contains streams p.stream × ¬ (CarriesNoBytes p.body)

@@ -1,23 +1,26 @@
 //! What a pump's thread does: one turn after another over a link, with the crashes and recoveries of its host.
-ghost use Rattle.std.specs.Prelude.{◌≡◌, ◌≤◌, ◌<◌, ◌++◌, ◌↔◌, IfOk, IfSome, IsErrOf, OnOk, Some, length, vec_len, vec_capacity};
+ghost use Rattle.std.specs.Prelude.{◌≡◌, ◌≤◌, ◌<◌, ◌++◌, ◌↔◌, ◌⊎◌, [], Contains, IfErr, IfOk, IfSome, IsErrOf, IsTrue, OnOk, Some, false, length, vec_len, vec_capacity};
 ghost use Rattle.amo_packet.specs.declared.fault.ReadFault.{ReadFault};
 ghost use Rattle.amo_packet.specs.Fault.{first_fault};
 ghost use Rattle.amo_packet.specs.Grammar.{CanBeWritten, Spells};
 ghost use Rattle.amo_packet.specs.Packet.{packet_of, body_of};
+ghost use Rattle.amo_host.specs.Host.{side_of};
 ghost use Rattle.amo_host.specs.Station.{IsStation};
 ghost use Rattle.amo_journal.specs.Version.{newest};
 ghost use Rattle.amo_run.specs.Told.{listed};
-ghost use Rattle.amo_run.specs.Engine.{Advances, HasWord, Recorded, IsSmall, Works, act_told, told_of, made_in};
+ghost use Rattle.amo_run.specs.Engine.{Advances, BringsBytesTo, EndsMoment, HasWord, NoneIsDue, Recorded, IsSmall, Works, act_told, told_of, has_resent, made_in};
 ghost use Rattle.amo_run.specs.Versions.{version_of};
 
 use crate::Progress;
+use crate::clock::Clock;
 use crate::plan::{Fate, Plan};
 use crate::source::Source;
 use amo_book::{Book, Pass};
 use amo_host::{Kind, Pump, PumpFault, Turned};
 use amo_journal::Version;
 use amo_net::{Link, MAX_DATAGRAM};
-use amo_packet::{MAX_PACKET, OwnedPacket, Packet, ReadFault, read, read_1};
+use amo_object::End;
+use amo_packet::{Body, MAX_PACKET, OwnedPacket, Packet, ReadFault, read, read_1};
 use amo_word::{ChaChaWords, Words};
 use amo_world::{Act, Event, NoMemory, Reply};
 use std::alloc::Global;
@@ -49,6 +52,7 @@ pub struct Engine<L, W> {
     pub source: Source,
     /// How many turns it made.
     pub turns: u64,
+    pub clock: Clock,
     /// The number of its host's life, from 0.
     pub incarnation: u32,
 }
@@ -74,6 +78,49 @@ impl Default for Room {
 pub struct Turn {
     pub event: Option<(u64, Event)>,
     pub length: Option<usize>,
+    /// Whether a stream was due, and was sent again.
+    pub resent: bool,
+}
+
+impl Turn {
+    /// A turn that made no event.
+    fn without_event() -> Turn
+        ensures { (listed result.event ≡ []) × (result.resent ≡ false) }
+    {
+        Turn {
+            event: None,
+            length: None,
+            resent: false,
+        }
+    }
+}
+
+/// Whom a datagram is for: the host of this side, and the streams that its pump drives.
+#[derive(Clone, Copy, Debug)]
+pub struct Address<'a> {
+    pub side: End,
+    pub streams: &'a [u32],
+}
+
+impl Address<'_> {
+    /// Whether it is a packet's.
+    fn is_of(&self, packet: &Packet<'_>) -> bool
+        ensures { IsTrue result ↔ ((side_of (body_of packet.now.body) ≡ self.now.side) × Contains self.now.streams.now packet.now.stream) }
+    {
+        side_of(&packet.body) == self.side && self.streams.contains(&packet.stream)
+    }
+}
+
+/// The side that a packet belongs to.
+fn side_of(body: &Body<'_>) -> End
+    ensures { result ≡ side_of (body_of body.now) }
+{
+    match body {
+        Body::Accept(_, _) | Body::Ack(_, _) => End::Sender,
+        Body::NeedUid(_) | Body::Send(_, _) | Body::Batch(_, _) | Body::Cleanup(_) => {
+            End::Receiver
+        }
+    }
 }
 
 /// The act of an event of this kind, with the packet that was handed in.
@@ -98,18 +145,14 @@ fn act_of(kind: Kind, packet: Option<OwnedPacket>) -> Option<Act>
 fn turn_of(pass: usize, packet: Option<OwnedPacket>, turned: Turned) -> Turn
     ensures told { listed result.event ≡ told_of pass packet turned }
     ensures small { IsSmall turned }
+    ensures resent { result.resent ≡ has_resent turned }
 {
     let Turned::Did(side, stream, kind, done) = turned else {
-        return Turn {
-            event: None,
-            length: None,
-        };
+        return Turn::without_event();
     };
+    let resent = matches!(kind, Kind::Resend);
     let Some(act) = act_of(kind, packet) else {
-        return Turn {
-            event: None,
-            length: None,
-        };
+        return Turn::without_event();
     };
     let event = Event {
         pass,
@@ -121,11 +164,12 @@ fn turn_of(pass: usize, packet: Option<OwnedPacket>, turned: Turned) -> Turn
     Turn {
         event: Some((done.position, event)),
         length: done.length,
+        resent,
     }
 }
 
-/// A turn without input.
-#[tactic(auto, using(crate::proofs::Turning::failed_advances))]
+/// A turn without input. Where it is no resend, no stream is due.
+#[tactic(auto, using(crate::proofs::Turning::failed_advances, crate::proofs::Turning::lacking_ends))]
 fn turn_alone<W: Words + Drop>(
     pump: &mut Pump<W>,
     book: &Book,
@@ -134,7 +178,8 @@ fn turn_alone<W: Words + Drop>(
     out: &mut [u8; MAX_PACKET],
 ) -> Result<Turn, PumpFault>
     requires { Works book.now pass.old pump.old }
-    ensures { Advances book.now pass.old pass.new pump.old pump.new (made_in result) }
+    ensures advances { Advances book.now pass.old pass.new pump.old pump.new (made_in result) }
+    ensures due { EndsMoment result → NoneIsDue pump.old now }
 {
     match pump.turn(book, pass, now, None, out) {
         Ok(turned) => {
@@ -158,12 +203,13 @@ fn read_for(version: Version, bytes: &[u8]) -> Result<Packet<'_>, ReadFault>
     }
 }
 
-/// A turn with a datagram. Its packet is copied for the event before the pump has it; one that has no line in a journal of this version,
-/// which is the pump's, is none.
+/// A turn with a datagram. A packet that is for another host, or for a stream of another pump, is not looked at further. Any other is copied for
+/// the event before the pump has it; one that has no line in a journal of this version, which is the pump's, is none.
 #[tactic(auto, using(crate::proofs::Turning::failed_advances, crate::proofs::Turning::same_advances))]
 fn turn_with<W: Words + Drop>(
     alloc: Global,
     version: Version,
+    address: Address<'_>,
     pump: &mut Pump<W>,
     book: &Book,
     pass: &mut Pass,
@@ -173,12 +219,16 @@ fn turn_with<W: Words + Drop>(
 ) -> Result<Turn, PumpFault>
     requires works { Works book.now pass.old pump.old }
     requires version { version ≡ version_of pump.old }
-    ensures { Advances book.now pass.old pass.new pump.old pump.new (made_in result) }
+    ensures advances { Advances book.now pass.old pass.new pump.old pump.new (made_in result) }
+    ensures memory { IfErr result (λ f. f ≡ PumpFault.NoMemory → BringsBytesTo (newest version) address.entry.side address.entry.streams.now bytes.now) }
 {
     let number = pass.number();
     let Ok(packet) = read_for(version, bytes) else {
         return Ok(turn_of(number, None, Turned::Idle));
     };
+    if !address.is_of(&packet) {
+        return Ok(turn_of(number, None, Turned::Stranger));
+    }
     let Ok(packet) = packet.copied(alloc) else {
         return Err(PumpFault::NoMemory);
     };
@@ -232,7 +282,7 @@ impl Tally {
         ensures { self.new.made.items ≡ self.old.made.items ++ made_in turned }
     {
         match turned {
-            Ok(Turn { event, length }) => {
+            Ok(Turn { event, length, .. }) => {
                 if let Some(event) = event {
                     self.count_event(&event.1);
                     self.made.push_reserved(event);
@@ -278,11 +328,15 @@ impl Tally {
 }
 
 impl<L: Link, W: Words + Drop> Engine<L, W> {
-    /// The length of the datagram that has come, if one has. A failed link brings none, and is counted.
+    /// The length of the datagram that has come, if one has and the clock lets it be taken. A failed link brings none, and is counted.
     fn hear(&mut self, buffer: &mut [u8; MAX_DATAGRAM], tally: &mut Tally) -> Option<usize>
         ensures same { (self.new.pump ≡ self.old.pump) × (tally.new.made ≡ tally.old.made) }
+        ensures clock { self.new.clock ≡ self.old.clock }
         ensures within { IfSome result (λ n. n ≤ MAX_DATAGRAM) }
     {
+        if !self.clock.may_take() {
+            return None;
+        }
         match self.link.receive(buffer) {
             Ok(length) => length,
             Err(_) => {
@@ -295,6 +349,7 @@ impl<L: Link, W: Words + Drop> Engine<L, W> {
     /// Sends what stands at the front of the buffer. Where the link fails it is lost, and counted.
     fn send(&mut self, out: &[u8; MAX_PACKET], length: Option<usize>, tally: &mut Tally)
         ensures same { (self.new.pump ≡ self.old.pump) × (tally.new.made ≡ tally.old.made) }
+        ensures clock { self.new.clock ≡ self.old.clock }
     {
         let Some(length) = length else {
             return;
@@ -306,13 +361,54 @@ impl<L: Link, W: Words + Drop> Engine<L, W> {
         tally.count(has_failed);
     }
 
-    /// One turn, with the datagram that has come, if one has; what it emits is sent. Its event has a line in a journal of this version,
-    /// which is the pump's.
+    /// A turn of the pump at this moment, with a datagram of these bytes, if there are any.
+    fn turn_at_moment(
+        &mut self,
+        alloc: Global,
+        version: Version,
+        streams: &[u32],
+        book: &Book,
+        pass: &mut Pass,
+        datagram: Option<&[u8]>,
+        out: &mut [u8; MAX_PACKET],
+    ) -> Result<Turn, PumpFault>
+        requires works { Works book.now pass.old self.old.pump }
+        requires version { version ≡ version_of self.old.pump }
+        ensures advances { Advances book.now pass.old pass.new self.old.pump self.new.pump (made_in result) }
+        ensures clock { (self.new.clock.moment ≡ self.old.clock.moment) ⊎ NoneIsDue self.old.pump self.old.clock.moment }
+    {
+        let now = self.clock.moment();
+        let Some(bytes) = datagram else {
+            let turned = turn_alone(&mut self.pump, book, pass, now, out);
+            self.clock.note(&turned);
+            return turned;
+        };
+        self.clock.take();
+        let address = Address {
+            side: self.source.side,
+            streams,
+        };
+        turn_with(
+            alloc,
+            version,
+            address,
+            &mut self.pump,
+            book,
+            pass,
+            now,
+            bytes,
+            out,
+        )
+    }
+
+    /// One turn, with the datagram that has come, if one has and the clock lets it be taken; what it emits is sent. Its event has a line in a
+    /// journal of this version, which is the pump's. The clock moves on only where no stream is due.
     #[tactic(auto, using(crate::proofs::Turning::recorded_turn, crate::proofs::Turning::recorded_none))]
     pub fn turn(
         &mut self,
         alloc: Global,
         version: Version,
+        streams: &[u32],
         book: &Book,
         pass: &mut Pass,
         room: &mut Room,
@@ -320,24 +416,17 @@ impl<L: Link, W: Words + Drop> Engine<L, W> {
     ) -> Result<(), NoMemory>
         requires works { Works book.now pass.old self.old.pump }
         requires version { version ≡ version_of self.old.pump }
-        ensures { Recorded book.now pass.old pass.new self.old.pump self.new.pump tally.old.made.items tally.new.made.items }
+        ensures recorded { Recorded book.now pass.old pass.new self.old.pump self.new.pump tally.old.made.items tally.new.made.items }
+        ensures clock { (self.new.clock.moment ≡ self.old.clock.moment) ⊎ NoneIsDue self.old.pump self.old.clock.moment }
     {
         tally.reserve()?;
         let Room { heard, said } = room;
-        let length = self.hear(heard, tally);
-        let now = self.turns;
-        let turned = match length {
-            None => turn_alone(&mut self.pump, book, pass, now, said),
-            Some(length) => turn_with(
-                alloc,
-                version,
-                &mut self.pump,
-                book,
-                pass,
-                now,
-                &heard[..length],
-                said,
-            ),
+        let turned = match self.hear(heard, tally) {
+            None => self.turn_at_moment(alloc, version, streams, book, pass, None, said),
+            Some(length) => {
+                let bytes = &heard[..length];
+                self.turn_at_moment(alloc, version, streams, book, pass, Some(bytes), said)
+            }
         };
         match tally.note(turned) {
             Ok(length) => {
@@ -364,7 +453,8 @@ impl<L: Link, W: Words + Drop> Engine<L, W> {
         ensures { Recorded book.now pass.old pass.new self.old.pump self.new.pump tally.old.made.items tally.new.made.items }
     {
         tally.reserve()?;
-        let turned = meet(&mut self.pump, book, pass, self.turns, stream, fate);
+        let now = self.clock.moment();
+        let turned = meet(&mut self.pump, book, pass, now, stream, fate);
         Ok(tally.note(turned).is_ok())
     }
 
@@ -472,7 +562,7 @@ impl<L: Link> Engine<L, ChaChaWords> {
             if self.plan.is_over() && progress.has_no_clients() {
                 break;
             }
-            self.turn(alloc, version, book, pass, &mut room, tally)?;
+            self.turn(alloc, version, streams, book, pass, &mut room, tally)?;
             self.turns = self.turns.saturating_add(1);
             self.follow_plan(rt, book, pass, streams, tally)?;
             tally.tell(progress, TOLD_AT_ONCE);

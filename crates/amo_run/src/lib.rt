@@ -7,6 +7,7 @@
 #![tactic(auto)]
 
 mod calls;
+mod clock;
 mod crew;
 mod engine;
 mod fault;

@@ -131,10 +131,10 @@ fn ends<'a, R: Wait>(
         receivers: Vec::with_capacity(alloc, channels.len())?,
     };
     'channels: for channel in channels {
-        wires.senders.push(LossyEnd::new(rt, channel, End::Sender))?;
-        wires
-            .receivers
-            .push(LossyEnd::new(rt, channel, End::Receiver))?;
+        let sender = LossyEnd::new(rt, alloc, channel, End::Sender);
+        let receiver = LossyEnd::new(rt, alloc, channel, End::Receiver);
+        wires.senders.push(sender)?;
+        wires.receivers.push(receiver)?;
     }
     Ok(wires)
 }

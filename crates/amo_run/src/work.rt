@@ -1,9 +1,10 @@
 //! What the threads of a run do, and what comes back from them.
-ghost use Rattle.std.specs.Prelude.{◌≡◌, [], IfOk};
+ghost use Rattle.std.specs.Prelude.{◌≡◌, ◌↔◌, [], IfOk, IsOk, IsTrue};
 ghost use Rattle.amo_run.specs.Crew.{Did, Returned};
 ghost use Rattle.amo_run.specs.Engine.{Works};
 ghost use Rattle.amo_run.specs.Versions.{version_of};
 
+use crate::clock::Clock;
 use crate::engine::{Engine, Tally};
 use crate::plan::Plan;
 use crate::progress::Counted;
@@ -159,6 +160,7 @@ pub fn drive<L: Link + Drop, R: Wait>(
         plan,
         source,
         turns: 0,
+        clock: Clock::at(0),
         incarnation: 0,
     };
     let mut pass = pass;
@@ -199,7 +201,9 @@ pub fn drive<L: Link + Drop, R: Wait>(
 /// What comes back where there is no link, for want of a socket or of memory.
 #[tactic(auto, using(crate::proofs::Crews::made_kept, crate::proofs::Tellings::tells_none, crate::proofs::Turning::fit_none))]
 pub fn cut_off(alloc: Global, book: &Book, pass: Pass, task: Task, fault: LinkFault) -> Pumped
-    ensures { Returned book.now pass task.pump result }
+    ensures returned { Returned book.now pass task.pump result }
+    ensures told { (IsTrue result.is_cut_off ↔ (fault ≡ LinkFault.Device)) × (IsOk result.made ↔ (fault ≡ LinkFault.Device)) }
+    ensures nothing { (result.pass ≡ pass) × (result.link_faults ≡ 0) × (result.busy ≡ 0) }
 {
     let _ = book;
     let Task { pump, .. } = task;
@@ -215,7 +219,8 @@ pub fn cut_off(alloc: Global, book: &Book, pass: Pass, task: Task, fault: LinkFa
 
 /// No events, unless memory was refused.
 fn nothing(alloc: Global, fault: LinkFault) -> Result<Vec<(u64, Event)>, NoMemory>
-    ensures { IfOk result (λ m. m.items ≡ []) }
+    ensures none { IfOk result (λ m. m.items ≡ []) }
+    ensures device { IsOk result ↔ (fault ≡ LinkFault.Device) }
 {
     match fault {
         LinkFault::Device => Ok(Vec::new(alloc)),
