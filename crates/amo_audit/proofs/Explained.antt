@@ -15,9 +15,9 @@ use Rattle.amo_world.specs.History.{IsRight, IsHonest, IsFresh}
 use Rattle.amo_world.proofs.Serving.{serves}
 use Rattle.amo_journal.specs.declared.lines.Lines.{Lines}
 use Rattle.amo_journal.specs.Lines.{Tell}
-use Rattle.amo_audit.specs.Audit.{AreGood, AreOf, IsFaultAt, JudgesLines, TellFaultAt, further}
+use Rattle.amo_audit.specs.Audit.{AreGood, IsFaultAt, JudgesLines, TellFaultAt, further}
 use Rattle.amo_audit.specs.Judgement.{TellNone}
-use Rattle.amo_audit.specs.Explanation.{step_fields, step_line, ExplainsIf, ExplainsLinesIf}
+use Rattle.amo_audit.specs.Explanation.{step_fields, step_line, ExplainsIf}
 
 -- a step's line is its stream, a space, its fields and a line feed
 text_of_step : (stream : ℕ) (step : Step) → text_of (decimal stream ∷ step_fields step) ≡ decimal stream ++ 32 ∷ text_of (step_fields step)
@@ -36,7 +36,7 @@ pushed_step t t1 t2 t3 t4 stream step e1 e2 e3 e4 =
     rw (e4, e3, e2, e1) (simp append_assoc)
     ∙ ap (λ (line : List ℕ). t ++ (line ++ 10 ∷ [])) (sym (text_of_step stream step))
 
--- lines that tell of no events are judged so, and nothing explains them
+-- lines that tell of no events are judged so
 pub none_judged : (lines : Lines) (v : Verdict) → TellNone lines v → JudgesLines lines v
 none_judged lines (verdict.Malformed at) found = found
 none_judged lines (verdict.Gap at) found = found
@@ -45,15 +45,6 @@ none_judged lines verdict.Yes found = absurd found
 none_judged lines (verdict.WrongReply at) found = absurd found
 none_judged lines (verdict.Unsent at) found = absurd found
 none_judged lines (verdict.Repeat at) found = absurd found
-
-pub none_explained : (lines : Lines) (v : Verdict) → TellNone lines v → ExplainsLinesIf v lines []
-none_explained lines (verdict.Malformed at) found = refl
-none_explained lines (verdict.Gap at) found = refl
-none_explained lines verdict.NoMemory found = refl
-none_explained lines verdict.Yes found = absurd found
-none_explained lines (verdict.WrongReply at) found = refl
-none_explained lines (verdict.Unsent at) found = refl
-none_explained lines (verdict.Repeat at) found = refl
 
 -- the place of the first event that is refused, counted from 0, and its line, counted from 1
 pub refused_within : (events : List Event) (place : ℕ) (why : WorldFault) → IsFirstRefused events place why → place < length events
@@ -80,15 +71,15 @@ tell_fault_at lines events place why told refused = (events, told, fault_at even
 pub good_lines : (lines : Lines) (events : List Event) → Tell events lines → IsRight (reverse events) × IsHonest (reverse events) × IsFresh (reverse events) → AreGood lines
 good_lines lines events told sound = (events, told, sound, λ number. serves number (reverse events) sound.0 sound.1 sound.2)
 
--- what explains the lines of a file explains the file
-pub explains_file : (bytes : List ℕ) (lines : Lines) (more : ℕ) (v : Verdict) (text : List ℕ) → AreOf bytes lines → ExplainsLinesIf v lines text → ExplainsIf (further more v) bytes text
-explains_file bytes lines more verdict.Yes text opens explains = (lines, opens, explains)
-explains_file bytes lines more verdict.NoMemory text opens explains = explains
-explains_file bytes lines more (verdict.Malformed at) text opens explains = explains
-explains_file bytes lines more (verdict.Gap at) text opens explains = explains
-explains_file bytes lines more (verdict.WrongReply at) text opens explains = explains
-explains_file bytes lines more (verdict.Unsent at) text opens explains = explains
-explains_file bytes lines more (verdict.Repeat at) text opens explains = explains
+-- nothing explains a file that is judged otherwise
+pub not_explained : (bytes : List ℕ) (more : ℕ) (v : Verdict) → (v ≡ verdict.Yes → ⊥) → ExplainsIf (further more v) bytes []
+not_explained bytes more verdict.Yes not = absurd (not refl)
+not_explained bytes more verdict.NoMemory not = refl
+not_explained bytes more (verdict.Malformed at) not = refl
+not_explained bytes more (verdict.Gap at) not = refl
+not_explained bytes more (verdict.WrongReply at) not = refl
+not_explained bytes more (verdict.Unsent at) not = refl
+not_explained bytes more (verdict.Repeat at) not = refl
 
 pub still_no_memory : (more : ℕ) (v : Verdict) → further more v ≡ verdict.NoMemory → v ≡ verdict.NoMemory
 still_no_memory more verdict.NoMemory e = refl
@@ -98,3 +89,13 @@ still_no_memory more (verdict.Gap at) e = cc
 still_no_memory more (verdict.WrongReply at) e = cc
 still_no_memory more (verdict.Unsent at) e = cc
 still_no_memory more (verdict.Repeat at) e = cc
+
+-- why lines tell of none is no yes
+pub none_is_no_yes : (lines : Lines) (v : Verdict) → TellNone lines v → v ≡ verdict.Yes → ⊥
+none_is_no_yes lines verdict.Yes found e = found
+none_is_no_yes lines verdict.NoMemory found e = cc
+none_is_no_yes lines (verdict.Malformed at) found e = cc
+none_is_no_yes lines (verdict.Gap at) found e = cc
+none_is_no_yes lines (verdict.WrongReply at) found e = cc
+none_is_no_yes lines (verdict.Unsent at) found e = cc
+none_is_no_yes lines (verdict.Repeat at) found e = cc

@@ -1,5 +1,5 @@
 -- Sides that have events in two lists.
-use Rattle.std.proofs.Common.{◌≡◌, ℕ, zero, suc, ◌+◌, ◌<◌, ◌≤◌, Bool, eqb, true, false, List, [], ◌∷◌, ◌++◌, length, take, set, get_or, get_or-set_same, get_or-set_other, refl, sym, ◌∙◌, ap, subst, inl, inr, ◌⊎◌, arith}
+use Rattle.std.proofs.Common.{◌≡◌, ℕ, zero, suc, ◌+◌, ◌<◌, Bool, eqb, true, false, List, [], ◌∷◌, ◌++◌, length, take, set, get_or, get_or-set_same, get_or-set_other, refl, sym, ◌∙◌, ap, subst, inl, inr, ◌⊎◌, arith}
 use Rattle.std.specs.Prelude.{IsTrue}
 use Rattle.std.specs.List.{Contains}
 use Rattle.std.proofs.lemmas.Bool.Decides.{eqb_tells}
@@ -68,16 +68,6 @@ marks_more has events e p small at marks q = ((λ now. from (marked_was has p q 
         only (zero, short, same) = same
         only (suc k, short, same) = absurd (omega arith)
 
-pub marks_next : (has : List Bool) (events : List Event) (i : ℕ) (e : Event) (p : ℕ) → i < length events → e ≡ get_or events i e → p < length has → p ≡ place_of e → Marks has (take i events) → Marks (set has p true) (take (i + 1) events)
-marks_next has events i e p inside is small at marks =
-    let more : take (i + 1) events ≡ take i events ++ e ∷ [] = take_more events i e inside ∙ ap (λ (y : Event). take i events ++ y ∷ []) (sym is) in
-    subst (Marks (set has p true)) (sym more) (marks_more has (take i events) e p small at marks)
-
-take_all : (events : List Event) (i : ℕ) → length events ≤ i → take i events ≡ events
-take_all [] zero end = refl
-take_all [] (suc i) end = refl
-take_all (e ∷ events) zero end = absurd (omega arith)
-take_all (e ∷ events) (suc i) end = ap (λ (t : List Event). e ∷ t) (take_all events i (omega arith))
-
-pub marks_all : (has : List Bool) (events : List Event) (i : ℕ) → length events ≤ i → Marks has (take i events) → Marks has events
-marks_all has events i end marks = subst (Marks has) (take_all events i end) marks
+-- all events before one, and that one
+pub one_more : (events : List Event) (i : ℕ) (e : Event) → i < length events → e ≡ get_or events i e → take i events ++ e ∷ [] ≡ take (i + 1) events
+one_more events i e inside is = ap (λ (y : Event). take i events ++ y ∷ []) is ∙ sym (take_more events i e inside)

@@ -1,4 +1,4 @@
--- The events of two journals, merged and judged while they are read.
+-- The events of two sources, merged while they are read.
 use Rattle.std.proofs.Common.{◌≡◌, ◌≢◌, ℕ, ◌+◌, ◌<◌, ◌≤◌, zero, suc, Bool, true, false, Option, None, Some, List, [], ◌∷◌, ◌++◌, length, drop, get_or, reverse, refl, sym, ◌∙◌, ap, subst, arith}
 use Rattle.std.specs.Prelude.{◌↔◌, is_some}
 use Rattle.std.proofs.lemmas.List.{append-nil}
@@ -6,25 +6,22 @@ use Rattle.amo_text.proofs.Lines.{no_line, one_line}
 use Rattle.amo_world.specs.declared.event.Event.{Event}
 use Rattle.amo_world.specs.History.{DeliversEmitted}
 use Rattle.amo_journal.specs.declared.numbered.Numbered.{Numbered}
-use Rattle.amo_audit.specs.declared.both.Both.{Both}
-use Rattle.amo_audit.specs.declared.verdict.Verdict.{Verdict}
-use Rattle.amo_audit.specs.declared.judgement.Judgement.TheVariants.{Whole, Stuck}
+use Rattle.amo_audit.specs.declared.coming.Source.{Source}
+use Rattle.amo_audit.specs.declared.coming.Source.TheVariants.{Journal, Events}
 use Rattle.amo_journal.specs.declared.lines.Lines.{Lines}
 use Rattle.amo_journal.specs.Journal.{InRange, fields_of, line_text, numbered}
-use Rattle.amo_journal.specs.Lines.{AreLines, Tell}
-use Rattle.amo_audit.specs.Audit.{JudgesEvents}
-use Rattle.amo_audit.specs.Both.{Follows, NextMayGo}
-use Rattle.amo_audit.specs.Coming.{AreComing, left_of}
-use Rattle.amo_audit.specs.Judgement.{AreApart, JudgesTwo}
-use Rattle.amo_audit.specs.Merge.{MayGo, Prefers}
+use Rattle.amo_journal.specs.Lines.{AreLines}
+use Rattle.amo_audit.specs.Coming.{AreComing, Has, IsWhole, NextMayGo, left_of, size_of}
+use Rattle.amo_audit.specs.Judgement.{AreApart, CannotMerge}
+use Rattle.amo_audit.specs.Merge.{IsPreferred, MayGo, Prefers}
+use Rattle.amo_audit.specs.Merging.{OfSources}
 use Rattle.amo_journal.proofs.Fields.{IsLine-fields_of}
-use Rattle.amo_audit.proofs.Judged.{merge_judged}
 use Rattle.amo_audit.proofs.Steps.{Reached, nothing_taken, first_taken, second_taken, none_honest}
 use Rattle.amo_journal.proofs.Unambiguous.{fields_of-injective}
 
 -- the event of the line in front comes first
 pub comes : (lines more : Lines) (n : ℕ) (events : List Event) (line : Numbered) → AreLines (numbered n events) lines → InRange lines.version line → lines.text.now ≡ line_text line ++ more.text.now → more.version ≡ lines.version
-    → AreComing events (Some line.event) more
+    → AreComing events (Some line.event) (Journal more)
 comes lines more n [] line spelt known here same_version = absurd (no_line [] (fields_of line) more.text.now tt (sym spelt.1 ∙ here))
 comes lines more n (e ∷ events) line spelt known here same_version =
     let next : Numbered = record { number = n; event = e } in
@@ -33,16 +30,21 @@ comes lines more n (e ∷ events) line spelt known here same_version =
     (ap (λ (l : Numbered). Some l.event) same, (n + 1, rw same_version (spelt.0.1, cut.1)))
 
 -- where there is no line in front, none comes
-pub none_comes : (lines rest : Lines) (n : ℕ) (events : List Event) → AreLines (numbered n events) lines → ((line : Numbered) (more : List ℕ) → InRange lines.version line → lines.text.now ≢ line_text line ++ more) → AreComing events None rest
+pub none_comes : (lines rest : Lines) (n : ℕ) (events : List Event) → AreLines (numbered n events) lines → ((line : Numbered) (more : List ℕ) → InRange lines.version line → lines.text.now ≢ line_text line ++ more) → AreComing events None (Journal rest)
 none_comes lines rest n [] spelt none = refl
 none_comes lines rest n (e ∷ events) spelt none = absurd (none (record { number = n; event = e }) _ spelt.0.0 spelt.1)
 
+-- what is whole has its events
+pub whole_has : (source : Source) (events : List Event) → IsWhole source events → Has source events
+whole_has (Journal lines) events whole = (0, whole)
+whole_has (Events list) events whole = whole
+
 -- whether the next one may go
-pub next_may_go : (past events : List Event) (next : Option Event) (rest : Lines) → AreComing events next rest → NextMayGo past next ↔ MayGo past events
+pub next_may_go : (past events : List Event) (next : Option Event) (rest : Source) → AreComing events next rest → NextMayGo past next ↔ MayGo past events
 next_may_go past [] next rest coming = ((λ may. subst (NextMayGo past) coming may), λ may. absurd may)
 next_may_go past (e ∷ events) next rest coming = ((λ may. subst (NextMayGo past) coming.0 may), λ may. subst (NextMayGo past) (sym coming.0) may)
 
-pub one_is_left : (past : List Event) (next : Option Event) (rest : Lines) → NextMayGo past next → left_of next rest ≡ length rest.text.now + 1
+pub one_is_left : (past : List Event) (next : Option Event) (rest : Source) → NextMayGo past next → left_of next rest ≡ size_of rest + 1
 one_is_left past None rest may = absurd may
 one_is_left past (Some e) rest may = refl
 
@@ -58,7 +60,7 @@ first_of_these : (past events : List Event) → MayGo past events → (e : Event
 first_of_these past [] may = absurd may
 first_of_these past (e ∷ events) may = (e, events, refl)
 
-none_left : (events : List Event) (rest : Lines) → AreComing events None rest → events ≡ []
+none_left : (events : List Event) (rest : Source) → AreComing events None rest → events ≡ []
 none_left [] rest coming = refl
 none_left (e ∷ events) rest coming = let no : None ≡ Some e = coming.0 in cc
 
@@ -75,19 +77,19 @@ here (x ∷ es) (suc i) e more is =
     (omega (arith, rest.0), rest.1, rest.2 ∙ ap (λ n. drop n (x ∷ es)) (sym after))
 
 -- how far both have come, after this history
-pub record Going (first second : Lines) (past : List Event) (left : Option Event) (left_rest : Lines) (right : Option Event) (right_rest : Lines) : Type 0 where
+pub record Going (first second : Source) (past : List Event) (left : Option Event) (left_rest : Source) (right : Option Event) (right_rest : Source) : Type 0 where
   pub x : List Event
   pub y : List Event
   pub i : ℕ
   pub j : ℕ
-  pub x_is : Tell x first
-  pub y_is : Tell y second
+  pub x_is : IsWhole first x
+  pub y_is : IsWhole second y
   pub reached : Reached x y i j past
   pub left_is : AreComing (drop i x) left left_rest
   pub right_is : AreComing (drop j y) right right_rest
 
 -- both begin
-pub begin : (first second : Lines) (left : Option Event) (left_rest : Lines) (right : Option Event) (right_rest : Lines) (x y : List Event) → Tell x first → Tell y second → AreApart x y
+pub begin : (first second : Source) (left : Option Event) (left_rest : Source) (right : Option Event) (right_rest : Source) (x y : List Event) → IsWhole first x → IsWhole second y → AreApart x y
     → AreComing x left left_rest → AreComing y right right_rest → Going first second [] left left_rest right right_rest
 begin first second left left_rest right right_rest x y p q apart coming coming' = record {
   x = x;
@@ -102,15 +104,15 @@ begin first second left left_rest right right_rest x y p q apart coming coming' 
 }
 
 -- the events behind the next one
-tail_of : (events : List Event) (e : Event) (next : Option Event) (rest : Lines) → AreComing events next rest → next ≡ Some e → (more : List Event) × (events ≡ e ∷ more)
+tail_of : (events : List Event) (e : Event) (next : Option Event) (rest : Source) → AreComing events next rest → next ≡ Some e → (more : List Event) × (events ≡ e ∷ more)
 tail_of [] e next rest coming is = let no : None ≡ Some e = sym coming ∙ is in cc
 tail_of (d ∷ events) e next rest coming is =
     let same : d ≡ e = cc in
     (events, ap (λ (f : Event). f ∷ events) same)
 
 -- one event more was taken
-module _ (first second : Lines) (past : List Event) (left : Option Event) (left_rest : Lines) (right : Option Event) (right_rest : Lines) (going : Going first second past left left_rest right right_rest) (e : Event) where
-  pub left_goes : (left' : Option Event) (left_rest' : Lines) → left ≡ Some e → DeliversEmitted past e
+module _ (first second : Source) (past : List Event) (left : Option Event) (left_rest : Source) (right : Option Event) (right_rest : Source) (going : Going first second past left left_rest right right_rest) (e : Event) where
+  pub left_goes : (left' : Option Event) (left_rest' : Source) → left ≡ Some e → DeliversEmitted past e
       → ((more : List Event) → AreComing (e ∷ more) left left_rest → AreComing more left' left_rest')
       → Going first second (e ∷ past) left' left_rest' right right_rest
   left_goes left' left_rest' next may comes_next =
@@ -128,7 +130,7 @@ module _ (first second : Lines) (past : List Event) (left : Option Event) (left_
         right_is = going.right_is;
       }
 
-  pub right_goes : (right' : Option Event) (right_rest' : Lines) → (NextMayGo past left → ⊥) → right ≡ Some e → DeliversEmitted past e
+  pub right_goes : (right' : Option Event) (right_rest' : Source) → (NextMayGo past left → ⊥) → right ≡ Some e → DeliversEmitted past e
       → ((more : List Event) → AreComing (e ∷ more) right right_rest → AreComing more right' right_rest')
       → Going first second (e ∷ past) left left_rest right' right_rest'
   right_goes right' right_rest' not next may comes_next =
@@ -147,48 +149,6 @@ module _ (first second : Lines) (past : List Event) (left : Option Event) (left_
         right_is = subst (λ (es : List Event). AreComing es right' right_rest') at.2 (comes_next more (subst (λ (es : List Event). AreComing es right right_rest) is going.right_is));
       }
 
--- an event that may go is there
-pub there_is : (past : List Event) (next : Option Event) → NextMayGo past next → (e : Event) × (next ≡ Some e) × DeliversEmitted past e
-there_is past None may = absurd may
-there_is past (Some e) may = (e, refl, may)
-
--- how far both have come, followed by what judges them on the way
-pub record Followed (first second : Lines) (both : Both) (left : Option Event) (left_rest : Lines) (right : Option Event) (right_rest : Lines) : Type 0 where
-  pub past : List Event
-  pub follows : Follows both past
-  pub going : Going first second past left left_rest right right_rest
-
--- one event more was judged
-abbrev Takes : Both → Both → Option Event → Lines → Option Event → Lines → Type 0
-Takes both now next rest next' rest' = (past more : List Event) (e : Event) → Follows both past → AreComing (e ∷ more) next rest → Follows now (e ∷ past) × AreComing more next' rest'
-
--- what comes where the next event is known
-coming_now : (e : Event) (events more : List Event) (next : Option Event) (rest : Lines) → AreComing events next rest → events ≡ e ∷ more → AreComing (e ∷ more) next rest
-coming_now e events more next rest coming is = subst (λ (es : List Event). AreComing es next rest) is coming
-
-module _ (first second : Lines) (both now : Both) (left : Option Event) (left_rest : Lines) (right : Option Event) (right_rest : Lines) (followed : Followed first second both left left_rest right right_rest) where
-  pub left_taken : (left' : Option Event) (left_rest' : Lines) → NextMayGo followed.past left → Takes both now left left_rest left' left_rest' → Followed first second now left' left_rest' right right_rest
-  left_taken left' left_rest' may takes =
-      let going = followed.going in
-      let (e, next, may_go) = there_is followed.past left may in
-      let (more, is) = tail_of (drop going.i going.x) e left left_rest going.left_is next in
-      record {
-        past = e ∷ followed.past;
-        follows = (takes followed.past more e followed.follows (coming_now e (drop going.i going.x) more left left_rest going.left_is is)).0;
-        going = left_goes first second followed.past left left_rest right right_rest going e left' left_rest' next may_go (λ more coming. (takes followed.past more e followed.follows coming).1);
-      }
-
-  pub right_taken : (right' : Option Event) (right_rest' : Lines) → (NextMayGo followed.past left → ⊥) → NextMayGo followed.past right → Takes both now right right_rest right' right_rest' → Followed first second now left left_rest right' right_rest'
-  right_taken right' right_rest' not may takes =
-      let going = followed.going in
-      let (e, next, may_go) = there_is followed.past right may in
-      let (more, is) = tail_of (drop going.j going.y) e right right_rest going.right_is next in
-      record {
-        past = e ∷ followed.past;
-        follows = (takes followed.past more e followed.follows (coming_now e (drop going.j going.y) more right right_rest going.right_is is)).0;
-        going = right_goes first second followed.past left left_rest right right_rest going e right' right_rest' not next may_go (λ more coming. (takes followed.past more e followed.follows coming).1);
-      }
-
 apart_of : (x y : List Event) (i j : ℕ) (past : List Event) → Reached x y i j past → AreApart x y
 apart_of x y i j past reached = λ (a, b, p, q, stream, side). reached.apart a b p q stream side
 
@@ -198,13 +158,13 @@ past_end [] (suc i) end = refl
 past_end (e ∷ es) zero end = absurd (omega arith)
 past_end (e ∷ es) (suc i) end = past_end es i (omega arith)
 
-none_next : (events : List Event) (next : Option Event) (rest : Lines) → AreComing events next rest → events ≡ [] → next ≡ None
+none_next : (events : List Event) (next : Option Event) (rest : Source) → AreComing events next rest → events ≡ [] → next ≡ None
 none_next [] next rest coming is = coming
 none_next (e ∷ events) next rest coming is = cc
 
-module _ (first second : Lines) (past : List Event) (left : Option Event) (left_rest : Lines) (right : Option Event) (right_rest : Lines) (going : Going first second past left left_rest right right_rest) where
+module _ (first second : Source) (past : List Event) (left : Option Event) (left_rest : Source) (right : Option Event) (right_rest : Source) (going : Going first second past left left_rest right right_rest) where
   -- neither may go
-  pub stuck : (left ≡ None → right ≡ None → ⊥) → (NextMayGo past left → ⊥) → (NextMayGo past right → ⊥) → JudgesTwo first second Stuck
+  pub stuck : (left ≡ None → right ≡ None → ⊥) → (NextMayGo past left → ⊥) → (NextMayGo past right → ⊥) → OfSources first second CannotMerge
   stuck some not not' = (
     going.x,
     going.y,
@@ -221,11 +181,13 @@ module _ (first second : Lines) (past : List Event) (left : Option Event) (left_
   )
 
   -- all was taken
-  pub all_judged : (v : Verdict) → left ≡ None → right ≡ None → JudgesEvents (reverse past) v → JudgesTwo first second (Whole v)
-  all_judged v none none' judged =
+  pub all_merged : left ≡ None → right ≡ None → OfSources first second (λ x y. AreApart x y × IsPreferred x y (reverse past))
+  all_merged none none' =
       let p = none_left (drop going.i going.x) left_rest (subst (λ (n : Option Event). AreComing (drop going.i going.x) n left_rest) none going.left_is) in
-      let q = none_left (drop going.j going.y) right_rest (subst (λ (n : Option Event). AreComing (drop going.j going.y) n right_rest) none' going.right_is) in
-      merge_judged first second going.x going.y (reverse past) v going.x_is going.y_is
-      (apart_of going.x going.y going.i going.j past going.reached)
-      (subst (Prefers [] going.x going.y) (append-nil (reverse past)) (going.reached.on [] (p, q)))
-      judged
+      let q = none_left (drop going.j going.y) right_rest (subst (λ (n : Option Event). AreComing (drop going.j going.y) n right_rest) none' going.right_is) in (
+        going.x,
+        going.y,
+        going.x_is,
+        going.y_is,
+        (apart_of going.x going.y going.i going.j past going.reached, subst (Prefers [] going.x going.y) (append-nil (reverse past)) (going.reached.on [] (p, q))),
+      )

@@ -6,14 +6,13 @@ use Rattle.amo_world.specs.declared.fault.WorldFault.TheVariants as fault
 use Rattle.amo_world.specs.History.{IsRight, IsHonest, IsFresh}
 use Rattle.amo_world.specs.Served.{IsServed}
 use Rattle.amo_world.specs.World.{Refuses}
-use Rattle.amo_journal.specs.declared.numbered.Numbered.{Numbered}
 use Rattle.amo_audit.specs.declared.auditor.Finding.{Finding}
-use Rattle.amo_audit.specs.declared.auditor.Finding.TheVariants.{Nothing, AtFault, Gap}
+use Rattle.amo_audit.specs.declared.auditor.Finding.TheVariants.{Nothing, AtFault}
 use Rattle.amo_audit.specs.declared.verdict.Verdict.{Verdict}
 use Rattle.amo_audit.specs.declared.verdict.Verdict.TheVariants as verdict
 use Rattle.amo_journal.specs.declared.lines.Lines.{Lines}
 use Rattle.amo_journal.specs.Version.{lines_before, Opens}
-use Rattle.amo_journal.specs.Journal.{numbered, HasMalformed, HasGap, IsGapAt}
+use Rattle.amo_journal.specs.Journal.{HasMalformed, HasGap}
 use Rattle.amo_journal.specs.Lines.{Tell}
 
 -- right, honest and fresh
@@ -97,12 +96,7 @@ status_of (verdict.Unsent at) = 3
 status_of (verdict.Repeat at) = 3
 status_of verdict.NoMemory = 4
 
--- what was found in the lines so far, with this history kept
-abbrev pub Finds : List Event → Finding → List Numbered → Type 0
-Finds world Nothing lines = (events : List Event) × (lines ≡ numbered 0 events) × (world ≡ reverse events) × IsSound world
-Finds world (AtFault at why) lines = (events : List Event) × (lines ≡ numbered 0 events) × IsFaultAt events at why
-Finds world (Gap at) lines = IsGapAt lines at
-
--- that, and how many lines there were
-abbrev pub Audits : List Event → ℕ → Finding → List Numbered → Type 0
-Audits world count finding lines = (count ≡ length lines) × Finds world finding lines
+-- what was found in the events so far, in the order of time, with this history kept
+abbrev pub Finds : List Event → Finding → List Event → Type 0
+Finds world Nothing events = (world ≡ reverse events) × IsSound world
+Finds world (AtFault at why) events = IsFaultAt events at why

@@ -44,11 +44,6 @@ runs_text runs = flat_map run_text runs
 abbrev pub ExplainsLines : Lines → List ℕ → Type 0
 ExplainsLines lines text = (events : List Event) × (runs : List Run) × Tell events lines × IsResolved runs events × (text ≡ runs_text runs)
 
--- what is written of lines that are judged so: an explanation with a yes, and nothing else
-abbrev pub ExplainsLinesIf : Verdict → Lines → List ℕ → Type 0
-ExplainsLinesIf verdict.Yes lines text = ExplainsLines lines text
-ExplainsLinesIf _ lines text = text ≡ []
-
 -- the text explains the journal that the bytes are
 abbrev pub IsExplanation : List ℕ → List ℕ → Type 0
 IsExplanation bytes text = (lines : Lines) × AreOf bytes lines × ExplainsLines lines text

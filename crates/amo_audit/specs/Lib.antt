@@ -3,11 +3,11 @@ pub mod Side
 pub mod Sides
 pub mod Hosts
 pub mod Coming
-pub mod Both
-pub mod Entering
+pub mod Site
 pub mod Marks
 pub mod Merge
 pub mod MergeFault
 pub mod Judgement
+pub mod Merging
 pub mod Report
 pub mod Explanation

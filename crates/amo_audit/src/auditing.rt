@@ -6,7 +6,8 @@ ghost use Rattle.amo_audit.specs.Audit.{IsSound, Judges, JudgesLines};
 
 use crate::Verdict;
 use crate::auditor::Auditor;
-use amo_journal::{Lines, line_in_front, open};
+use crate::reading::take_told;
+use amo_journal::{Lines, open};
 use std::alloc::Global;
 
 /// Judges bytes as a journal of either version, in one pass over their lines. A malformed line comes before a gap, and a gap before an event
@@ -24,21 +25,11 @@ pub fn audit(alloc: Global, bytes: &[u8]) -> Verdict
 fn audit_lines(alloc: Global, lines: Lines<'_>) -> Verdict
     ensures { JudgesLines lines.entry result }
 {
-    let Ok(mut auditor) = Auditor::new(alloc) else {
+    let Ok(auditor) = Auditor::new(alloc) else {
         return Verdict::NoMemory;
     };
-    let mut rest = lines;
-    while !rest.text.is_empty() {
-        let Ok(front) = line_in_front(alloc, rest) else {
-            return Verdict::NoMemory;
-        };
-        let Some((line, more)) = front else {
-            return Verdict::Malformed(auditor.lines() + 1);
-        };
-        let Ok(()) = auditor.take(line) else {
-            return Verdict::NoMemory;
-        };
-        rest = more;
+    match take_told(alloc, lines, auditor) {
+        Ok(auditor) => auditor.verdict(),
+        Err(verdict) => verdict,
     }
-    auditor.verdict()
 }

@@ -1,39 +1,86 @@
-//! The events of a journal, one after another.
-ghost use Rattle.std.specs.Prelude.{◌≤◌, ℕ, List, length, IfOk, IfSome};
+//! Events, one after another, from a journal or from a list.
+ghost use Rattle.std.specs.Prelude.{◌≤◌, List, length, IfOk, IfSome};
+ghost use Rattle.std.specs.List.{All};
 ghost use Rattle.amo_world.specs.declared.event.Event.{Event};
 ghost use Rattle.amo_world.specs.Stream.{IsStream};
 ghost use Rattle.amo_journal.specs.Journal.{numbered};
 ghost use Rattle.amo_journal.specs.Lines.{AreLines};
-ghost use Rattle.amo_audit.specs.Coming.{AreComing, left_of};
+ghost use Rattle.amo_audit.specs.Coming.{AreComing, AreOnStreams, Has, left_of, size_of};
 
 use amo_journal::{Lines, line_in_front};
 use amo_world::Event;
 use std::alloc::{AllocError, Global};
 
-/// The events of a journal that are still to come. Each line is read when its turn comes, so only the next event is kept.
+/// Where events come from.
+#[derive(Clone, Copy)]
+pub(crate) enum Source<'a> {
+    /// The lines of a journal, which tell of them.
+    Journal(Lines<'a>),
+    /// A list of them.
+    Events(&'a [Event]),
+}
+
+/// The events that are still to come. Each is read when its turn comes, so only the next one is kept.
 #[derive(Drop)]
 pub(crate) struct Coming<'a> {
     pub(crate) next: Option<Event>,
-    pub(crate) rest: Lines<'a>,
+    pub(crate) rest: Source<'a>,
 }
 
 impl<'a> Coming<'a> {
-    /// Of these lines the event of the first one, and those behind it.
-    pub(crate) fn read(alloc: Global, lines: Lines<'a>) -> Result<Coming<'a>, AllocError>
-        ensures coming { IfOk result (λ coming. (number : ℕ) (events : List Event) → AreLines (numbered number events) lines.entry
-            → AreComing events coming.next coming.rest) }
+    /// The first of these events, and those behind it.
+    pub(crate) fn read(alloc: Global, source: Source<'a>) -> Result<Coming<'a>, AllocError>
+        requires { AreOnStreams source }
+        ensures coming { IfOk result (λ coming. (events : List Event) → Has source.entry events → AreComing events coming.next coming.rest) }
         ensures stream { IfOk result (λ coming. IfSome coming.next (λ e. IsStream e.stream)) }
+        ensures streams { IfOk result (λ coming. AreOnStreams coming.rest) }
+        ensures fewer { IfOk result (λ coming. left_of coming.next coming.rest ≤ size_of source.entry) }
+    {
+        match source {
+            Source::Journal(lines) => Coming::read_line(alloc, lines),
+            Source::Events(events) => Coming::copy_first(events),
+        }
+    }
+
+    /// The event of the first line, and the lines behind it.
+    fn read_line(alloc: Global, lines: Lines<'a>) -> Result<Coming<'a>, AllocError>
+        ensures coming { IfOk result (λ coming. (events : List Event) → Has (Source.Journal lines.entry) events → AreComing events coming.next coming.rest) }
+        ensures stream { IfOk result (λ coming. IfSome coming.next (λ e. IsStream e.stream)) }
+        ensures streams { IfOk result (λ coming. AreOnStreams coming.rest) }
         ensures fewer { IfOk result (λ coming. left_of coming.next coming.rest ≤ length lines.entry.text.now) }
     {
         match line_in_front(alloc, lines)? {
             Some((line, rest)) => Ok(Coming {
                 next: Some(line.event),
-                rest,
+                rest: Source::Journal(rest),
             }),
             None => Ok(Coming {
                 next: None,
-                rest: lines,
+                rest: Source::Journal(lines),
             }),
         }
+    }
+
+    /// A copy of the first event of a list, and the events behind it.
+    fn copy_first(events: &'a [Event]) -> Result<Coming<'a>, AllocError>
+        requires { All (λ e. IsStream e.stream) events.now }
+        ensures coming { IfOk result (λ coming. AreComing events.now coming.next coming.rest) }
+        ensures stream { IfOk result (λ coming. IfSome coming.next (λ e. IsStream e.stream)) }
+        ensures streams { IfOk result (λ coming. AreOnStreams coming.rest) }
+        ensures fewer { IfOk result (λ coming. left_of coming.next coming.rest ≤ length events.now) }
+    {
+        if events.is_empty() {
+            return Ok(Coming {
+                next: None,
+                rest: Source::Events(events),
+            });
+        }
+        let Ok(first) = events[0].copy() else {
+            return Err(AllocError);
+        };
+        Ok(Coming {
+            next: Some(first),
+            rest: Source::Events(&events[1..]),
+        })
     }
 }

@@ -6,11 +6,11 @@ ghost use Rattle.amo_text.specs.Hexadecimal.{hex};
 ghost use Rattle.amo_text.specs.Line.{text_of};
 ghost use Rattle.amo_text.specs.Side.{letter_of};
 ghost use Rattle.amo_text.specs.Sink.{AppendsFront};
-ghost use Rattle.amo_audit.specs.Audit.{Judges, JudgesLines};
-ghost use Rattle.amo_audit.specs.Explanation.{ExplainsIf, ExplainsLines, ExplainsLinesIf, IsExplanation, run_text, runs_text, step_fields, step_line};
+ghost use Rattle.amo_audit.specs.Audit.{AreGood, Judges, JudgesLines};
+ghost use Rattle.amo_audit.specs.Explanation.{ExplainsIf, ExplainsLines, IsExplanation, run_text, runs_text, step_fields, step_line};
 
 use crate::Verdict;
-use crate::judging::events_of;
+use crate::reading::events_of;
 use amo_journal::{JournalFault, Lines, open};
 use amo_object::{Bytes, End};
 use amo_resolve::{ResolveFault, Run, Step, resolve};
@@ -22,98 +22,82 @@ use std::alloc::{AllocError, Global};
 ///
 /// Of other bytes nothing is written. The answer is the verdict on the bytes, which [`crate::tell`] tells.
 ///
-/// A line is made whole and then written. Where memory or the sink fails, a beginning of the explanation was appended, or nothing.
+/// The explanation is made whole and then written. Where the sink fails, a beginning of it was appended; where memory is refused,
+/// nothing was.
 pub fn explain<W: Sink>(alloc: Global, bytes: &[u8], sink: &mut W) -> Result<Verdict, JournalFault>
     ensures judged { IfOk result (λ verdict. Judges bytes.now verdict × (verdict ≢ Verdict.NoMemory)) }
     ensures explained { IfOk result (λ verdict. (text : List ℕ) × ExplainsIf verdict bytes.now text
         × Appends (W.written sink.old) (W.written sink.new) text) }
     ensures begun { OnErr result (Keeps (W.written sink.old) (W.written sink.new)
         ⊎ ((text : List ℕ) × IsExplanation bytes.now text × AppendsFront (W.written sink.old) (W.written sink.new) text)) }
+    ensures refused { IsErrOf result JournalFault.NoMemory → Keeps (W.written sink.old) (W.written sink.new) }
     ensures faults { IfErr result (λ fault. (fault ≡ JournalFault.NoMemory) ⊎ (fault ≡ JournalFault.Device)) }
     ensures device { IsErrOf result JournalFault.Device ↔ (W.failures sink.old < W.failures sink.new) }
 {
     let lines = open(bytes);
-    let verdict = explain_lines(alloc, lines, sink)?;
-    Ok(verdict.further(lines.version.lines_before()))
-}
-
-/// Writes the run that explains each stream of the events that lines tell of, and answers the verdict on the lines, which it counts from 1.
-fn explain_lines<W: Sink>(
-    alloc: Global,
-    lines: Lines<'_>,
-    sink: &mut W,
-) -> Result<Verdict, JournalFault>
-    ensures judged { IfOk result (λ verdict. JudgesLines lines.entry verdict × (verdict ≢ Verdict.NoMemory)) }
-    ensures explained { IfOk result (λ verdict. (text : List ℕ) × ExplainsLinesIf verdict lines.entry text
-        × Appends (W.written sink.old) (W.written sink.new) text) }
-    ensures begun { OnErr result (Keeps (W.written sink.old) (W.written sink.new)
-        ⊎ ((text : List ℕ) × ExplainsLines lines.entry text × AppendsFront (W.written sink.old) (W.written sink.new) text)) }
-    ensures faults { IfErr result (λ fault. (fault ≡ JournalFault.NoMemory) ⊎ (fault ≡ JournalFault.Device)) }
-    ensures device { IsErrOf result JournalFault.Device ↔ (W.failures sink.old < W.failures sink.new) }
-{
-    let events = match events_of(alloc, lines) {
-        Ok(events) => events,
-        Err(Verdict::NoMemory) => return Err(JournalFault::NoMemory),
-        Err(verdict) => return Ok(verdict),
-    };
-    let fault = match resolve(alloc, &events) {
-        Ok(runs) => {
-            write_runs(alloc, &runs, sink)?;
-            return Ok(Verdict::Yes);
+    match explanation_of(alloc, lines) {
+        Ok(text) => {
+            write_all(sink, text.as_slice())?;
+            Ok(Verdict::Yes)
         }
-        Err(fault) => fault,
-    };
-    match fault {
-        ResolveFault::NoMemory => Err(JournalFault::NoMemory),
-        ResolveFault::WrongReply(place) => Ok(Verdict::WrongReply(place + 1)),
-        ResolveFault::Unsent(place) => Ok(Verdict::Unsent(place + 1)),
-        ResolveFault::Repeat(place) => Ok(Verdict::Repeat(place + 1)),
+        Err(Verdict::NoMemory) => Err(JournalFault::NoMemory),
+        Err(verdict) => Ok(verdict.further(lines.version.lines_before())),
     }
 }
 
-/// Writes the lines of each run.
-fn write_runs<W: Sink>(alloc: Global, runs: &[Run], sink: &mut W) -> Result<(), JournalFault>
-    ensures written { OnOk result (Appends (W.written sink.old) (W.written sink.new) (runs_text runs.now)) }
-    ensures calm { OnOk result (W.failures sink.new ≡ W.failures sink.old) }
-    ensures begun { OnErr result (AppendsFront (W.written sink.old) (W.written sink.new) (runs_text runs.now)) }
-    ensures faults { IfErr result (λ fault. (fault ≡ JournalFault.NoMemory) ⊎ (fault ≡ JournalFault.Device)) }
-    ensures device { IsErrOf result JournalFault.Device ↔ (W.failures sink.old < W.failures sink.new) }
+/// The text that explains the events that lines tell of, or the verdict on the lines, which it counts from 1.
+fn explanation_of(alloc: Global, lines: Lines<'_>) -> Result<Vec<u8>, Verdict>
+    ensures good { IfOk result (λ _. AreGood lines.entry) }
+    ensures explained { IfOk result (λ text. ExplainsLines lines.entry text.items) }
+    ensures judged { IfErr result (λ verdict. JudgesLines lines.entry verdict × (verdict ≢ Verdict.Yes)) }
+{
+    let runs = runs_of(alloc, lines)?;
+    let mut text = Vec::new(alloc);
+    match push_runs(&mut text, &runs) {
+        Ok(()) => Ok(text),
+        Err(_) => Err(Verdict::NoMemory),
+    }
+}
+
+/// The runs that explain each stream of the events that lines tell of, or the verdict on the lines. No event is kept.
+fn runs_of(alloc: Global, lines: Lines<'_>) -> Result<Vec<Run>, Verdict>
+    ensures good { IfOk result (λ _. AreGood lines.entry) }
+    ensures explained { IfOk result (λ runs. ExplainsLines lines.entry (runs_text runs.items)) }
+    ensures judged { IfErr result (λ verdict. JudgesLines lines.entry verdict × (verdict ≢ Verdict.Yes)) }
+{
+    let events = events_of(alloc, lines)?;
+    match resolve(alloc, &events) {
+        Ok(runs) => Ok(runs),
+        Err(ResolveFault::NoMemory) => Err(Verdict::NoMemory),
+        Err(ResolveFault::WrongReply(place)) => Err(Verdict::WrongReply(place + 1)),
+        Err(ResolveFault::Unsent(place)) => Err(Verdict::Unsent(place + 1)),
+        Err(ResolveFault::Repeat(place)) => Err(Verdict::Repeat(place + 1)),
+    }
+}
+
+/// Appends the lines of each run.
+fn push_runs(text: &mut Vec<u8>, runs: &[Run]) -> Result<(), AllocError>
+    ensures { OnOk result (text.new.items ≡ text.old.items ++ runs_text runs.now) }
 {
     for place in 0..runs.len() {
-        write_run(alloc, &runs[place], sink)?;
+        push_run(text, &runs[place])?;
     }
     Ok(())
 }
 
-/// Writes the lines of a run.
-fn write_run<W: Sink>(alloc: Global, run: &Run, sink: &mut W) -> Result<(), JournalFault>
-    ensures written { OnOk result (Appends (W.written sink.old) (W.written sink.new) (run_text run.now)) }
-    ensures calm { OnOk result (W.failures sink.new ≡ W.failures sink.old) }
-    ensures begun { OnErr result (AppendsFront (W.written sink.old) (W.written sink.new) (run_text run.now)) }
-    ensures faults { IfErr result (λ fault. (fault ≡ JournalFault.NoMemory) ⊎ (fault ≡ JournalFault.Device)) }
-    ensures device { IsErrOf result JournalFault.Device ↔ (W.failures sink.old < W.failures sink.new) }
+/// Appends the lines of a run.
+fn push_run(text: &mut Vec<u8>, run: &Run) -> Result<(), AllocError>
+    ensures { OnOk result (text.new.items ≡ text.old.items ++ run_text run.now) }
 {
-    write_steps(alloc, run.stream, run.steps.as_slice(), sink)
+    push_steps(text, run.stream, run.steps.as_slice())
 }
 
-/// Writes the lines of the steps of a stream's run.
-fn write_steps<W: Sink>(
-    alloc: Global,
-    stream: u32,
-    steps: &[Step],
-    sink: &mut W,
-) -> Result<(), JournalFault>
-    ensures written { OnOk result (Appends (W.written sink.old) (W.written sink.new) (flat_map (step_line stream) steps.now)) }
-    ensures calm { OnOk result (W.failures sink.new ≡ W.failures sink.old) }
-    ensures begun { OnErr result (AppendsFront (W.written sink.old) (W.written sink.new) (flat_map (step_line stream) steps.now)) }
-    ensures faults { IfErr result (λ fault. (fault ≡ JournalFault.NoMemory) ⊎ (fault ≡ JournalFault.Device)) }
-    ensures device { IsErrOf result JournalFault.Device ↔ (W.failures sink.old < W.failures sink.new) }
+/// Appends the lines of the steps of a stream's run.
+fn push_steps(text: &mut Vec<u8>, stream: u32, steps: &[Step]) -> Result<(), AllocError>
+    ensures { OnOk result (text.new.items ≡ text.old.items ++ flat_map (step_line stream) steps.now) }
 {
-    let mut text = Vec::new(alloc);
     for place in 0..steps.len() {
-        text.clear();
-        push_step(&mut text, stream, &steps[place])?;
-        write_all(sink, text.as_slice())?;
+        push_step(text, stream, &steps[place])?;
     }
     Ok(())
 }

@@ -1,19 +1,16 @@
 //! The judgement of one journal, or of two that are merged.
-ghost use Rattle.std.specs.Prelude.{IfOk, IfErr};
-ghost use Rattle.std.specs.List.{All};
-ghost use Rattle.amo_world.specs.Stream.{IsStream};
-ghost use Rattle.amo_journal.specs.Lines.{Tell};
-ghost use Rattle.amo_audit.specs.Judgement.{AreApart, JudgesBoth, JudgesFiles, JudgesTwo, OfBoth, TellNone};
+ghost use Rattle.std.specs.Prelude.{IfOk};
+ghost use Rattle.amo_audit.specs.Judgement.{AreApart, JudgesBoth, JudgesFiles, JudgesTwo, OfBoth};
 
-use crate::both::Both;
-use crate::coming::Coming;
-use crate::entering::enter_both;
+use crate::auditor::Auditor;
+use crate::coming::Source;
 use crate::judgement::Judgement;
-use crate::marking::{mark_lines, meet};
-use crate::shares::SIDES;
+use crate::marking::sides_of;
+use crate::merging::{Ending, merge_into};
+use crate::site::Hosted;
 use crate::{Verdict, audit};
-use amo_journal::{JournalFault, Lines, open, read_events};
-use amo_world::{Event, NoMemory};
+use amo_journal::{Lines, open};
+use amo_world::{NoMemory, World};
 use std::alloc::Global;
 
 /// Judges a journal; or two, of which none has events of a side that the other has.
@@ -40,15 +37,15 @@ fn judge_both(alloc: Global, first: &[u8], second: &[u8]) -> Judgement
 fn judge_lines(alloc: Global, first: Lines<'_>, second: Lines<'_>) -> Judgement
     ensures { JudgesTwo first.entry second.entry result }
 {
-    let mut ours = [false; SIDES];
-    let mut theirs = [false; SIDES];
-    if let Err(verdict) = mark_lines(alloc, first, &mut ours) {
-        return Judgement::First(verdict);
-    }
-    if let Err(verdict) = mark_lines(alloc, second, &mut theirs) {
-        return Judgement::Second(verdict);
-    }
-    if meet(&ours, &theirs) {
+    let ours = match sides_of(alloc, first) {
+        Ok(sides) => sides,
+        Err(verdict) => return Judgement::First(verdict),
+    };
+    let theirs = match sides_of(alloc, second) {
+        Ok(sides) => sides,
+        Err(verdict) => return Judgement::Second(verdict),
+    };
+    if ours.meets(&theirs) {
         return Judgement::Shared;
     }
     match judge_merged(alloc, first, second) {
@@ -57,14 +54,21 @@ fn judge_lines(alloc: Global, first: Lines<'_>, second: Lines<'_>) -> Judgement
     }
 }
 
-/// Merges the events of two journals and judges them. Only where an event is at fault is more kept than a world.
+/// Merges the events of two journals and judges them. Only where an event is at fault is more kept than a world: it goes no further.
 fn judge_merged(alloc: Global, first: Lines<'_>, second: Lines<'_>) -> Result<Judgement, NoMemory>
     requires { OfBoth first second AreApart }
     ensures { IfOk result (JudgesTwo first.entry second.entry) }
 {
-    match enter_both(alloc, first, second)? {
-        Some(judgement) => Ok(judgement),
-        None => judge_at_fault(alloc, first, second),
+    let world = World::new(alloc)?;
+    match merge_into(
+        alloc,
+        Source::Journal(first),
+        Source::Journal(second),
+        world,
+    )? {
+        Ending::Whole(_) => Ok(Judgement::Whole(Verdict::Yes)),
+        Ending::Stuck => Ok(Judgement::Stuck),
+        Ending::GivenUp => judge_at_fault(alloc, first, second),
     }
 }
 
@@ -73,32 +77,10 @@ fn judge_at_fault(alloc: Global, first: Lines<'_>, second: Lines<'_>) -> Result<
     requires { OfBoth first second AreApart }
     ensures { IfOk result (JudgesTwo first.entry second.entry) }
 {
-    let mut both = Both::new(alloc)?;
-    let mut left = Coming::read(alloc, first)?;
-    let mut right = Coming::read(alloc, second)?;
-    while left.next.is_some() || right.next.is_some() {
-        if both.may_go(&left.next) {
-            left = both.take(alloc, left)?;
-        } else if both.may_go(&right.next) {
-            right = both.take(alloc, right)?;
-        } else {
-            return Ok(Judgement::Stuck);
-        }
-    }
-    Ok(Judgement::Whole(both.verdict()))
-}
-
-/// The events that lines tell of, or why they tell of none.
-pub(crate) fn events_of(alloc: Global, lines: Lines<'_>) -> Result<Vec<Event>, Verdict>
-    ensures told { IfOk result (λ events. Tell events.items lines.entry) }
-    ensures streams { IfOk result (λ events. All (λ e. IsStream e.stream) events.items) }
-    ensures found { IfErr result (TellNone lines.entry) }
-{
-    match read_events(alloc, lines) {
-        Ok(events) => Ok(events),
-        Err(JournalFault::Malformed(line)) => Err(Verdict::Malformed(line)),
-        Err(JournalFault::Gap(line)) => Err(Verdict::Gap(line)),
-        Err(JournalFault::NoMemory) => Err(Verdict::NoMemory),
-        Err(JournalFault::Device) => unreachable!(),
+    let site = Hosted::new(alloc, Auditor::new(alloc)?)?;
+    match merge_into(alloc, Source::Journal(first), Source::Journal(second), site)? {
+        Ending::Whole(site) => Ok(Judgement::Whole(site.into_taker().verdict())),
+        Ending::Stuck => Ok(Judgement::Stuck),
+        Ending::GivenUp => unreachable!(),
     }
 }

@@ -12,11 +12,12 @@
 //!   in both lists, or no interleaving is honest.
 //! - [`laws`]: there is one preferred interleaving, wherever any is honest.
 //!
-//! An audit keeps a world, which holds no event, and three numbers; it reads each line once and keeps no line. Of two journals it reads
+//! An audit keeps a world, which holds no event, and two numbers; it reads each line once and keeps no line. Of two journals it reads
 //! each line twice, and keeps one event of each and a world, which knows what was emitted. Only where an event is at fault does it begin
-//! anew, with what a merge keeps of the sides: a world does not go on past that.
+//! anew, with what a merge keeps of the sides: a world does not go on past that. An explanation is made whole, once its events are given up.
 //!
-//! A merge reads each list twice, and keeps what it took and, of each side, its automaton and a set of what it emitted.
+//! One loop merges, whatever the events come from, a list or a journal, and whatever takes them. A merge of lists reads each list twice, and
+//! keeps what it took and, of each side, its automaton and a set of what it emitted.
 //!
 //! What a journal is stands in the crate `amo_journal`. Verdicts stand in `specs/Audit.antt`, what is found of two files in
 //! `specs/Judgement.antt`, lines of answers in `specs/Report.antt` and `specs/Explanation.antt`, merges in `specs/Merge.antt`. What is found
@@ -25,9 +26,7 @@
 
 mod auditing;
 mod auditor;
-mod both;
 mod coming;
-mod entering;
 mod explaining;
 mod hosts;
 mod judgement;
@@ -35,12 +34,12 @@ mod judging;
 pub mod laws;
 mod marking;
 mod merge_fault;
-mod merger;
 mod merging;
+mod reading;
 mod reporting;
-mod shares;
 mod side;
 mod sides;
+mod site;
 mod verdict;
 
 pub use amo_journal::JournalFault;

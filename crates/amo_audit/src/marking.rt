@@ -1,70 +1,110 @@
-//! Which sides of which streams have events in a journal.
-ghost use Rattle.std.specs.Prelude.{◌≡◌, ◌≢◌, ◌↔◌, ◌+◌, ◌<◌, ◌^◌, ◌⊎◌, List, None, Some, false, length, IfErr, IfNone, IfSome, IsTrue, OnOk};
+//! Which sides of which streams have events.
+ghost use Rattle.std.specs.Prelude.{◌≡◌, ◌↔◌, ◌<◌, ◌++◌, ◌∷◌, [], List, IfErr, IfOk, IsTrue};
 ghost use Rattle.std.specs.List.{All};
 ghost use Rattle.amo_world.specs.declared.event.Event.{Event};
 ghost use Rattle.amo_world.specs.Stream.{IsStream};
 ghost use Rattle.amo_journal.specs.Lines.{Tell};
 ghost use Rattle.amo_audit.specs.Judgement.{TellNone};
-ghost use Rattle.amo_audit.specs.Marks.{Marks};
+ghost use Rattle.amo_audit.specs.Marks.{Marks, MarksAll, place_of};
 ghost use Rattle.amo_audit.specs.Merge.{SharesSide};
 
 use crate::Verdict;
-use crate::shares::{SIDES, place};
-use amo_journal::{Lines, line_in_front};
-use std::alloc::Global;
+use crate::reading::take_told;
+use amo_journal::{Lines, TakeEvents};
+use amo_object::End;
+use amo_world::Event;
+use std::alloc::{AllocError, Global};
 
-/// Marks the side of each event that lines tell of, or answers why they tell of none. No line is kept.
-pub(crate) fn mark_lines(alloc: Global, lines: Lines<'_>, has: &mut [bool]) -> Result<(), Verdict>
-    requires length { length has.old ≡ 512 }
-    requires none { All (λ b. b ≡ false) has.old }
-    ensures length { length has.new ≡ 512 }
-    ensures marks { OnOk result ((events : List Event) × Tell events lines.entry × Marks has.new events) }
-    ensures found { IfErr result (TellNone lines.entry) }
-{
-    let mut count = 0;
-    let mut gap = None;
-    let mut rest = lines;
-    while !rest.text.is_empty() {
-        let Ok(front) = line_in_front(alloc, rest) else {
-            return Err(Verdict::NoMemory);
-        };
-        let Some((line, more)) = front else {
-            return Err(Verdict::Malformed(count + 1));
-        };
-        has[place(&line.event)] = true;
-        gap = first_gap(gap, count, line.number);
-        count += 1;
-        rest = more;
-    }
-    match gap {
-        None => Ok(()),
-        Some(line) => Err(Verdict::Gap(line)),
-    }
+/// How many sides the streams of a host have.
+const SIDES: usize = 512;
+
+/// A set of sides of streams.
+#[derive(Drop)]
+pub(crate) struct SideSet {
+    has: [bool; SIDES],
 }
 
-/// The first gap, after so many lines and one more, of this number.
-fn first_gap(gap: Option<usize>, lines: usize, number: u64) -> Option<usize>
-    requires { lines + 1 < 2 ^ 64 }
-    ensures none { IfNone result ((gap ≡ None) × (number ≡ lines)) }
-    ensures some { IfSome result (λ at. (gap ≡ Some at) ⊎ ((gap ≡ None) × (number ≢ lines) × (at ≡ lines + 1))) }
-{
-    match gap {
-        None if number != lines as u64 => Some(lines + 1),
-        _ => gap,
-    }
-}
-
-/// Whether a place is marked in both.
-pub(crate) fn meet(first: &[bool], second: &[bool]) -> bool
-    requires first { length first.now ≡ 512 }
-    requires second { length second.now ≡ 512 }
-    ensures { (x y : List Event) → Marks first.now x → Marks second.now y → All (λ e. IsStream e.stream) x → All (λ e. IsStream e.stream) y
-        → IsTrue result ↔ SharesSide x y }
-{
-    for place in 0..SIDES {
-        if first[place] && second[place] {
-            return true;
+impl SideSet {
+    /// No side.
+    fn new() -> SideSet
+        ensures { MarksAll result.has [] }
+    {
+        SideSet {
+            has: [false; SIDES],
         }
     }
-    false
+
+    /// The sides of these events.
+    fn of(events: &[Event]) -> SideSet
+        requires { All (λ e. IsStream e.stream) events.now }
+        ensures { Marks result.has events.now }
+    {
+        let mut sides = SideSet::new();
+        for event in events {
+            sides.add(event);
+        }
+        sides
+    }
+
+    /// Adds the side of an event.
+    fn add(&mut self, event: &Event)
+        requires { IsStream event.now.stream }
+        ensures { (past : List Event) → MarksAll self.old.has past → MarksAll self.new.has (past ++ event.now ∷ []) }
+    {
+        self.has[place(event)] = true;
+    }
+
+    /// Whether a side is in both.
+    pub(crate) fn meets(&self, other: &SideSet) -> bool
+        ensures { (x y : List Event) → Marks self.now.has x → Marks other.now.has y → All (λ e. IsStream e.stream) x → All (λ e. IsStream e.stream) y
+            → IsTrue result ↔ SharesSide x y }
+    {
+        for place in 0..SIDES {
+            if self.has[place] && other.has[place] {
+                return true;
+            }
+        }
+        false
+    }
+}
+
+impl TakeEvents for SideSet {
+    ghost use Rattle.amo_audit.specs.Marks.{MarksAll};
+
+    ghost HasTaken = { λ sides past. MarksAll sides.has past };
+
+    fn take(&mut self, _before: usize, event: Event) -> Result<(), AllocError> {
+        self.add(&event);
+        Ok(())
+    }
+}
+
+/// The sides of the events that lines tell of, or why they tell of none.
+pub(crate) fn sides_of(alloc: Global, lines: Lines<'_>) -> Result<SideSet, Verdict>
+    ensures marks { IfOk result (λ sides. (events : List Event) × Tell events lines.entry × Marks sides.has events) }
+    ensures found { IfErr result (TellNone lines.entry) }
+{
+    take_told(alloc, lines, SideSet::new())
+}
+
+/// Whether some side of a stream has events in both lists.
+pub(crate) fn shares_side(first: &[Event], second: &[Event]) -> bool
+    requires first { All (λ e. IsStream e.stream) first.now }
+    requires second { All (λ e. IsStream e.stream) second.now }
+    ensures { IsTrue result ↔ SharesSide first.now second.now }
+{
+    SideSet::of(first).meets(&SideSet::of(second))
+}
+
+/// The place of an event's side among all sides of all streams.
+fn place(event: &Event) -> usize
+    requires { IsStream event.now.stream }
+    ensures value { result ≡ place_of event.now }
+    ensures small { result < 512 }
+{
+    let side = match event.side {
+        End::Sender => 0,
+        End::Receiver => 1,
+    };
+    2 * (event.stream as usize - 1) + side
 }

@@ -1,15 +1,20 @@
-//! The preferred interleaving of two lists of events.
-ghost use Rattle.std.specs.Prelude.{◌↔◌, reverse, IfOk, IsErrOf, IsTrue};
+//! The preferred interleaving of two lists of events, or of the events of two journals.
+ghost use Rattle.std.specs.Prelude.{◌≡◌, ◌↔◌, ◌+◌, ◌<◌, ◌^◌, [], List, length, reverse, IfOk, IfSome, IsErrOf, IsTrue};
 ghost use Rattle.std.specs.List.{All};
+ghost use Rattle.amo_world.specs.declared.event.Event.{Event};
 ghost use Rattle.amo_world.specs.Stream.{IsStream};
 ghost use Rattle.amo_world.specs.History.{IsHonest};
+ghost use Rattle.amo_audit.specs.Coming.{AreOnStreams, size_of};
+ghost use Rattle.amo_audit.specs.Judgement.{AreApart};
 ghost use Rattle.amo_audit.specs.Merge.{IsPreferred, IsStuck, SharesSide};
+ghost use Rattle.amo_audit.specs.Merging.{Ends, OfSources, Steps};
 
 use crate::MergeFault;
-use crate::merger::Merger;
-use crate::shares::shares_side;
+use crate::coming::{Coming, Source};
+use crate::marking::shares_side;
+use crate::site::{Hosted, Offered, Site};
 use amo_world::Event;
-use std::alloc::Global;
+use std::alloc::{AllocError, Global};
 
 /// Merges two lists of events, each in the order of time: at each place the first list's next event, unless that delivers a
 /// packet which was not emitted in what was taken so far; else the second's, by the same test. What the events reply is not
@@ -25,19 +30,96 @@ pub fn merge(alloc: Global, first: &[Event], second: &[Event]) -> Result<Vec<Eve
     if shares_side(first, second) {
         return Err(MergeFault::Shared);
     }
-    let mut merger = Merger::new(alloc)?;
-    let mut i = 0;
-    let mut j = 0;
-    while i < first.len() || j < second.len() {
-        if merger.may_go(first, i) {
-            merger = merger.take(&first[i])?;
-            i += 1;
-        } else if merger.may_go(second, j) {
-            merger = merger.take(&second[j])?;
-            j += 1;
-        } else {
-            return Err(MergeFault::Stuck);
-        }
+    let site = Hosted::new(alloc, Vec::new(alloc))?;
+    match merge_into(alloc, Source::Events(first), Source::Events(second), site)? {
+        Ending::Whole(site) => Ok(site.into_taker()),
+        Ending::Stuck => Err(MergeFault::Stuck),
+        Ending::GivenUp => unreachable!(),
     }
-    Ok(merger.into_events())
+}
+
+/// How a merge ended.
+#[derive(Drop)]
+pub(crate) enum Ending<S> {
+    /// All events were taken.
+    Whole(S),
+    /// No interleaving is honest.
+    Stuck,
+    /// The site was given up.
+    GivenUp,
+}
+
+/// Hands the events of two sources to a site, in their preferred interleaving. Each is read when its turn comes.
+pub(crate) fn merge_into<S: Site + Drop>(
+    alloc: Global,
+    first: Source<'_>,
+    second: Source<'_>,
+    site: S,
+) -> Result<Ending<S>, AllocError>
+    requires site { S.HasTaken site [] }
+    requires first_streams { AreOnStreams first }
+    requires second_streams { AreOnStreams second }
+    requires apart { OfSources first second AreApart }
+    requires few { size_of first + size_of second < 2 ^ 64 }
+    ensures { IfOk result (Ends S.HasTaken S.MayEnd first.entry second.entry) }
+{
+    let mut site = site;
+    let mut taken = 0;
+    let mut left = Coming::read(alloc, first)?;
+    let mut right = Coming::read(alloc, second)?;
+    while left.next.is_some() || right.next.is_some() {
+        match offer(alloc, &mut site, taken, left)? {
+            Step::Taken(now) => left = now,
+            Step::GivenUp => return Ok(Ending::GivenUp),
+            Step::Waits(same) => {
+                left = same;
+                match offer(alloc, &mut site, taken, right)? {
+                    Step::Taken(now) => right = now,
+                    Step::GivenUp => return Ok(Ending::GivenUp),
+                    Step::Waits(_) => return Ok(Ending::Stuck),
+                }
+            }
+        }
+        taken += 1;
+    }
+    Ok(Ending::Whole(site))
+}
+
+/// What became of the next of the events that are to come.
+#[derive(Drop)]
+pub(crate) enum Step<'a> {
+    /// It was taken. The others are still to come.
+    Taken(Coming<'a>),
+    /// There is none, or it delivers a packet that was not emitted so far. All are still to come.
+    Waits(Coming<'a>),
+    /// The site was given up.
+    GivenUp,
+}
+
+/// Offers the next of the events that are to come to a site, which has taken so many.
+fn offer<'a, S: Site>(
+    alloc: Global,
+    site: &mut S,
+    taken: usize,
+    coming: Coming<'a>,
+) -> Result<Step<'a>, AllocError>
+    requires taken { (past : List Event) × (taken ≡ length past) × S.HasTaken site.old past }
+    requires stream { IfSome coming.next (λ e. IsStream e.stream) }
+    requires streams { AreOnStreams coming.rest }
+    requires few { taken + 1 < 2 ^ 64 }
+    ensures { IfOk result (λ step. (past : List Event) → taken ≡ length past → S.HasTaken site.old past
+        → Steps S.HasTaken S.MayEnd site.new past coming.entry.next coming.entry.rest step) }
+{
+    let Coming { next, rest } = coming;
+    let Some(event) = next else {
+        return Ok(Step::Waits(Coming { next: None, rest }));
+    };
+    match site.offer(taken, event)? {
+        Offered::Taken => Ok(Step::Taken(Coming::read(alloc, rest)?)),
+        Offered::Unsent(event) => Ok(Step::Waits(Coming {
+            next: Some(event),
+            rest,
+        })),
+        Offered::GivenUp => Ok(Step::GivenUp),
+    }
 }

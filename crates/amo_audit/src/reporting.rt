@@ -1,6 +1,6 @@
 //! The line that tells what was found.
 ghost use Rattle.std.specs.Prelude.{◌≡◌, ◌≢◌, ◌<◌, ◌↔◌, ◌⊎◌, ◌++◌, IfOk, OnOk, OnErr, IfErr, IsErrOf};
-ghost use Rattle.std.specs.Io.KnownBytes.{Appends};
+ghost use Rattle.std.specs.Io.KnownBytes.{Appends, Keeps};
 ghost use Rattle.amo_text.specs.Sink.{AppendsFront};
 ghost use Rattle.amo_audit.specs.declared.judgement.Judgement.{Judgement};
 ghost use Rattle.amo_audit.specs.Audit.{status_of};
@@ -34,6 +34,7 @@ pub fn report<W: Sink>(
     ensures told { IfOk result (λ status. (j : Judgement) × JudgesFiles first.now second.entry j × (status ≡ judgement_status j) × (status ≢ 4)
         × Appends (W.written sink.old) (W.written sink.new) (judgement_line j)) }
     ensures begun { OnErr result ((j : Judgement) × JudgesFiles first.now second.entry j × AppendsFront (W.written sink.old) (W.written sink.new) (judgement_line j)) }
+    ensures refused { IsErrOf result JournalFault.NoMemory → Keeps (W.written sink.old) (W.written sink.new) }
     ensures faults { IfErr result (λ fault. (fault ≡ JournalFault.NoMemory) ⊎ (fault ≡ JournalFault.Device)) }
     ensures device { IsErrOf result JournalFault.Device ↔ (W.failures sink.old < W.failures sink.new) }
 {
@@ -45,6 +46,7 @@ pub fn tell<W: Sink>(alloc: Global, verdict: Verdict, sink: &mut W) -> Result<u8
     ensures told { IfOk result (λ status. (status ≡ status_of verdict) × (status ≢ 4)
         × Appends (W.written sink.old) (W.written sink.new) (verdict_line verdict)) }
     ensures begun { OnErr result (AppendsFront (W.written sink.old) (W.written sink.new) (verdict_line verdict)) }
+    ensures refused { IsErrOf result JournalFault.NoMemory → Keeps (W.written sink.old) (W.written sink.new) }
     ensures faults { IfErr result (λ fault. (fault ≡ JournalFault.NoMemory) ⊎ (fault ≡ JournalFault.Device)) }
     ensures device { IsErrOf result JournalFault.Device ↔ (W.failures sink.old < W.failures sink.new) }
 {
@@ -60,6 +62,7 @@ fn write_judgement<W: Sink>(
     ensures told { IfOk result (λ status. (status ≡ judgement_status judgement) × (status ≢ 4)
         × Appends (W.written sink.old) (W.written sink.new) (judgement_line judgement)) }
     ensures begun { OnErr result (AppendsFront (W.written sink.old) (W.written sink.new) (judgement_line judgement)) }
+    ensures refused { IsErrOf result JournalFault.NoMemory → Keeps (W.written sink.old) (W.written sink.new) }
     ensures faults { IfErr result (λ fault. (fault ≡ JournalFault.NoMemory) ⊎ (fault ≡ JournalFault.Device)) }
     ensures device { IsErrOf result JournalFault.Device ↔ (W.failures sink.old < W.failures sink.new) }
 {

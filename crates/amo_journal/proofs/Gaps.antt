@@ -3,7 +3,8 @@ use Rattle.std.proofs.Common.{◌≡◌, ◌≢◌, ℕ, ◌+◌, Option, None, 
 use Rattle.std.proofs.lemmas.List.{length-append}
 use Rattle.amo_world.specs.declared.event.Event.{Event}
 use Rattle.amo_journal.specs.declared.numbered.Numbered.{Numbered}
-use Rattle.amo_journal.specs.Journal.{numbered, IsGapAt}
+use Rattle.amo_journal.specs.declared.version.Version.{Version}
+use Rattle.amo_journal.specs.Journal.{numbered, AreEvents, HasGap, IsGapAt, SpellsLines}
 use Rattle.amo_journal.specs.Gathering.{Keeps, Gathers}
 
 pub length_push : (lines : List Numbered) (l : Numbered) (count : ℕ) → count ≡ length lines → count + 1 ≡ length (lines ++ l ∷ [])
@@ -54,15 +55,43 @@ gap_stays lines l at gap = record {
   count = gap.count;
 }
 
-module _ (events : List Event) (count : ℕ) (gap : Option ℕ) (lines : List Numbered) (l : Numbered) where
-  -- the event of the next line is kept
-  pub event_kept : (items : List Event) → gap ≡ None → l.number ≡ count → items ≡ events ++ l.event ∷ [] → Gathers events count gap lines → Gathers items (count + 1) gap (lines ++ l ∷ [])
-  event_kept items none is more gathers =
-      let keeps = subst (λ (g : Option ℕ). Keeps events g lines) none gathers.1 in (
-        length_push lines l count gathers.0,
-        subst (λ (g : Option ℕ). Keeps items g (lines ++ l ∷ [])) (sym none) (next_number lines events l count gathers.0 keeps is ∙ ap (numbered 0) (sym more)),
-      )
+-- given what takes the events
+module _ {T : Type 0} (HasTaken : T → List Event → Type 0) (taker : T) (count : ℕ) (gap : Option ℕ) (lines : List Numbered) (l : Numbered) (gathers : Gathers HasTaken taker count gap lines) where
+  -- the event of the next line is taken
+  pub event_taken : (now : T) → gap ≡ None → l.number ≡ count → ((past : List Event) → count ≡ length past → HasTaken taker past → HasTaken now (past ++ l.event ∷ [])) → Gathers HasTaken now (count + 1) gap (lines ++ l ∷ [])
+  event_taken now none is takes =
+      let keeps = subst (λ (g : Option ℕ). Keeps gathers.events g lines) none gathers.kept in
+      record {
+        events = gathers.events ++ l.event ∷ [];
+        counted = length_push lines l count gathers.counted;
+        kept = subst (λ (g : Option ℕ). Keeps (gathers.events ++ l.event ∷ []) g (lines ++ l ∷ [])) (sym none) (next_number lines gathers.events l count gathers.counted keeps is);
+        taken = takes gathers.events (gathers.counted ∙ ap length keeps ∙ length-numbered 0 gathers.events) gathers.taken;
+      }
 
-  -- the first gap is kept
-  pub gap_kept : gap ≡ None → l.number ≢ count → Gathers events count gap lines → Gathers events (count + 1) (Some (count + 1)) (lines ++ l ∷ [])
-  gap_kept none other gathers = (length_push lines l count gathers.0, gap_here lines events l count gathers.0 (subst (λ (g : Option ℕ). Keeps events g lines) none gathers.1) other)
+  -- the first gap is here
+  pub gap_found : gap ≡ None → l.number ≢ count → Gathers HasTaken taker (count + 1) (Some (count + 1)) (lines ++ l ∷ [])
+  gap_found none other = record {
+    events = gathers.events;
+    counted = length_push lines l count gathers.counted;
+    kept = gap_here lines gathers.events l count gathers.counted (subst (λ (g : Option ℕ). Keeps gathers.events g lines) none gathers.kept) other;
+    taken = gathers.taken;
+  }
+
+  -- or it was before
+  pub gap_before : (at : ℕ) → gap ≡ Some at → Gathers HasTaken taker (count + 1) gap (lines ++ l ∷ [])
+  gap_before at is = record {
+    events = gathers.events;
+    counted = length_push lines l count gathers.counted;
+    kept = subst (λ (g : Option ℕ). Keeps gathers.events g (lines ++ l ∷ [])) (sym is) (gap_stays lines l at (subst (λ (g : Option ℕ). Keeps gathers.events g lines) is gathers.kept));
+    taken = gathers.taken;
+  }
+
+-- all lines were read
+module _ {T : Type 0} (HasTaken : T → List Event → Type 0) (taker : T) (count : ℕ) (gap : Option ℕ) (version : Version) (lines : List Numbered) (body : List ℕ) (gathers : Gathers HasTaken taker count gap lines) (spells : SpellsLines version body lines) where
+  pub all_taken : gap ≡ None → (events : List Event) × AreEvents version events body × HasTaken taker events
+  all_taken none =
+      let keeps = subst (λ (g : Option ℕ). Keeps gathers.events g lines) none gathers.kept in
+      (gathers.events, subst (SpellsLines version body) keeps spells, gathers.taken)
+
+  pub gap_told : (at : ℕ) → gap ≡ Some at → HasGap version body at
+  gap_told at is = (lines, spells, subst (λ (g : Option ℕ). Keeps gathers.events g lines) is gathers.kept)

@@ -9,6 +9,11 @@ abbrev pub Keeps : List Event → Option ℕ → List Numbered → Type 0
 Keeps events None lines = lines ≡ numbered 0 events
 Keeps events (Some gap) lines = IsGapAt lines gap
 
--- that, and how many lines there were
-abbrev pub Gathers : List Event → ℕ → Option ℕ → List Numbered → Type 0
-Gathers events count gap lines = (count ≡ length lines) × Keeps events gap lines
+-- given what it is to have taken events
+module _ {T : Type 0} (HasTaken : T → List Event → Type 0) where
+  -- so many lines were read; the events before the first gap were taken
+  pub record Gathers (taker : T) (count : ℕ) (gap : Option ℕ) (lines : List Numbered) : Type 0 where
+    pub events : List Event
+    pub counted : count ≡ length lines
+    pub kept : Keeps events gap lines
+    pub taken : HasTaken taker events

@@ -5,7 +5,8 @@
 //! One of version 2 begins with the line `amo 2`, which has no number. Any other file is of version 1, which tells of no batches.
 //!
 //! - [`open`] tells the [`Version`] of a file, and the [`Lines`] of its events.
-//! - [`read_journal`] reads the events that bytes spell; [`read_events`] those of the lines behind a heading.
+//! - [`read_journal`] reads the events that bytes spell; [`read_events`] those of the lines behind a heading;
+//!   [`read_into`] has them taken one by one, by whatever a [`TakeEvents`] is.
 //! - [`write_journal`] and [`write_journal_2`] write the one spelling of events in their version.
 //! - [`write_line`] writes the line of one event, and [`read_line`] reads one, for a journal that goes on while things happen;
 //!   [`line_in_front`] reads the first of several.
@@ -27,6 +28,7 @@ mod numbered;
 mod reading;
 mod reply_reader;
 mod spelling;
+mod taking;
 mod version;
 mod writing;
 
@@ -34,7 +36,8 @@ pub use amo_text::{Out, Sink};
 pub use fault::JournalFault;
 pub use lines::{Lines, line_in_front, open, read_line, write_line};
 pub use numbered::Numbered;
-pub use reading::{read_events, read_journal};
+pub use reading::{read_events, read_into, read_journal};
 pub use spelling::{can_spell, can_spell_2};
+pub use taking::TakeEvents;
 pub use version::Version;
 pub use writing::{write_journal, write_journal_2};

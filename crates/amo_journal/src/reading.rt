@@ -9,7 +9,7 @@ ghost use Rattle.amo_journal.specs.Journal.{AreEvents, IsJournal, SpellsLines};
 ghost use Rattle.amo_journal.specs.Fault.{Faults, LinesFault};
 ghost use Rattle.amo_journal.specs.Gathering.{Gathers};
 
-use crate::{JournalFault, Lines, Numbered, line_in_front, open};
+use crate::{JournalFault, Lines, Numbered, TakeEvents, line_in_front, open};
 use amo_world::Event;
 use std::alloc::{AllocError, Global};
 
@@ -36,49 +36,65 @@ pub fn read_events(alloc: Global, lines: Lines<'_>) -> Result<Vec<Event>, Journa
     ensures streams { IfOk result (λ events. All (λ e. IsStream e.stream) events.items) }
     ensures fault { IfErr result (λ fault. LinesFault lines.entry.version lines.entry.text.now fault) }
 {
-    let mut gathered = Gathered::new(alloc);
+    read_into(alloc, lines, Vec::new(alloc))
+}
+
+/// Reads the lines behind a heading in one pass, and has their events taken on the way. No line is kept. A fault counts them from 1, and comes
+/// as in [`read_journal`]; events behind a gap are not taken.
+pub fn read_into<T: TakeEvents + Drop>(
+    alloc: Global,
+    lines: Lines<'_>,
+    taker: T,
+) -> Result<T, JournalFault>
+    requires { T.HasTaken taker [] }
+    ensures taken { IfOk result (λ taker. (events : List Event) × AreEvents lines.entry.version events lines.entry.text.now × T.HasTaken taker events) }
+    ensures fault { IfErr result (λ fault. LinesFault lines.entry.version lines.entry.text.now fault) }
+{
+    let mut reading = Reading::new(taker);
     let mut rest = lines;
     while !rest.text.is_empty() {
         let Some((line, more)) = line_in_front(alloc, rest)? else {
-            return Err(JournalFault::Malformed(gathered.lines + 1));
+            return Err(JournalFault::Malformed(reading.lines + 1));
         };
-        gathered.take(line)?;
+        reading.take(line)?;
         rest = more;
     }
-    gathered.finish()
+    reading.finish()
 }
 
-/// What was read so far: the events before the first gap, and where that is.
+/// What was read so far: what took the events before the first gap, and where that is.
 #[derive(Drop)]
-struct Gathered {
-    events: Vec<Event>,
+struct Reading<T> {
+    taker: T,
     lines: usize,
     gap: Option<usize>,
 }
 
-impl Gathered {
-    fn new(alloc: Global) -> Gathered
-        ensures { Gathers result.events.items result.lines result.gap [] }
+impl<T: TakeEvents + Drop> Reading<T> {
+    fn new(taker: T) -> Reading<T>
+        requires { T.HasTaken taker [] }
+        ensures { Gathers T.HasTaken result.taker result.lines result.gap [] }
     {
-        Gathered {
-            events: Vec::new(alloc),
+        Reading {
+            taker,
             lines: 0,
             gap: None,
         }
     }
 
-    /// Takes one line more.
+    /// Reads one line more.
     fn take(&mut self, line: Numbered) -> Result<(), AllocError>
-        requires { self.old.lines + 1 < 2 ^ 64 }
-        ensures gathers { OnOk result ((lines : List Numbered) → Gathers self.old.events.items self.old.lines self.old.gap lines
-            → Gathers self.new.events.items self.new.lines self.new.gap (lines ++ line ∷ [])) }
+        requires stream { IsStream line.event.stream }
+        requires few { self.old.lines + 1 < 2 ^ 64 }
+        ensures gathers { OnOk result ((lines : List Numbered) → Gathers T.HasTaken self.old.taker self.old.lines self.old.gap lines
+            → Gathers T.HasTaken self.new.taker self.new.lines self.new.gap (lines ++ line ∷ [])) }
         ensures counted { self.new.lines ≡ self.old.lines + 1 }
     {
         let number = self.lines;
         self.lines += 1;
         match self.gap {
             Some(_) => Ok(()),
-            None if line.number == number as u64 => Ok(self.events.push(line.event)?),
+            None if line.number == number as u64 => self.taker.take(number, line.event),
             None => {
                 self.gap = Some(number + 1);
                 Ok(())
@@ -86,15 +102,15 @@ impl Gathered {
         }
     }
 
-    /// The events, if no line more comes.
-    fn finish(self) -> Result<Vec<Event>, JournalFault>
-        ensures spelt { IfOk result (λ events. (version : Version) (lines : List Numbered) (body : List ℕ) → Gathers self.events.items self.lines self.gap lines
-            → SpellsLines version body lines → AreEvents version events.items body) }
-        ensures fault { IfErr result (λ fault. (version : Version) (lines : List Numbered) (body : List ℕ) → Gathers self.events.items self.lines self.gap lines
+    /// What took the events, if no line more comes.
+    fn finish(self) -> Result<T, JournalFault>
+        ensures taken { IfOk result (λ taker. (version : Version) (lines : List Numbered) (body : List ℕ) → Gathers T.HasTaken self.taker self.lines self.gap lines
+            → SpellsLines version body lines → (events : List Event) × AreEvents version events body × T.HasTaken taker events) }
+        ensures fault { IfErr result (λ fault. (version : Version) (lines : List Numbered) (body : List ℕ) → Gathers T.HasTaken self.taker self.lines self.gap lines
             → SpellsLines version body lines → LinesFault version body fault) }
     {
         match self.gap {
-            None => Ok(self.events),
+            None => Ok(self.taker),
             Some(line) => Err(JournalFault::Gap(line)),
         }
     }

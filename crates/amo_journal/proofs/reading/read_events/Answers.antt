@@ -1,34 +1,9 @@
-use Rattle.std.proofs.Common.{◌∙◌}
+use Rattle.std.proofs.Common.{sym, subst}
 use Rattle.std.proofs.lemmas.Result.{IfOk-weaker}
-use Rattle.amo_journal.specs.Gathering.{Gathers}
-use Rattle.amo_text.proofs.Readings.{not_empty, is_empty}
-use Rattle.amo_journal.proofs.ReadOn.{malformed_here, read_on, all_read}
+use Rattle.amo_journal.specs.Journal.{AreEvents}
 use Rattle.amo_journal.proofs.Further.{event_streams}
 use Rattle.amo_journal.proofs.reading.read_events.Goals as goal
 
-pub returns-in_default-clause-fault : goal.returns-in_default-clause-fault
-returns-in_default-clause-fault c =
-    let so_far = c.loop-rest.invariant in
-    let none = rw so_far.version at (rw c.in_default.is at c.in_ok-line.ensures.none) in
-    malformed_here c.args.lines.version c.args.lines.text.now c.loop-rest.rest.text.now c.loop-rest.gathered.lines _ so_far.read (not_empty _ c.loop-rest-test.ensures) none
-
-pub loop-rest-preserved : goal.loop-rest-preserved
-loop-rest-preserved c =
-    let so_far = c.loop-rest.invariant in
-    let here = rw c.in-Some.is at c.in_ok-line.ensures.some in record {
-      version = here.2 ∙ so_far.version;
-      read = read_on c.args.lines.version c.args.lines.text.now c.loop-rest.rest.text.now _ c.loop-rest.gathered.lines _ _ (Gathers c.take.new.self.events.items c.take.new.self.lines c.take.new.self.gap) _ so_far.read
-          (rw so_far.version at here.0) here.1 c.take.ensures.counted c.in_ok-take.ensures.gathers;
-    }
-
-pub returns-clause-spelt : goal.returns-clause-spelt
-returns-clause-spelt c =
-    let so_far = c.loop-rest.invariant.read in
-    let spells = all_read c.args.lines.version c.args.lines.text.now c.loop-rest.rest.text.now c.loop-rest.gathered.lines _ so_far (is_empty _ c.loop-rest-test.ensures) in
-    IfOk-weaker c.finish.result _ _ (λ events told. told c.args.lines.version so_far.lines c.args.lines.text.now so_far.holds spells) c.finish.ensures.spelt
-
 pub returns-clause-streams : goal.returns-clause-streams
 returns-clause-streams c =
-    let so_far = c.loop-rest.invariant.read in
-    let spells = all_read c.args.lines.version c.args.lines.text.now c.loop-rest.rest.text.now c.loop-rest.gathered.lines _ so_far (is_empty _ c.loop-rest-test.ensures) in
-    IfOk-weaker c.finish.result _ _ (λ events told. event_streams c.args.lines.version c.args.lines.text.now events.items (told c.args.lines.version so_far.lines c.args.lines.text.now so_far.holds spells)) c.finish.ensures.spelt
+    IfOk-weaker c.read_into.result _ _ (λ taker (events, lines, is). event_streams c.args.lines.version c.args.lines.text.now taker.items (subst (λ es. AreEvents c.args.lines.version es c.args.lines.text.now) (sym is) lines)) c.read_into.ensures.taken
