@@ -1,4 +1,4 @@
-"""What the benchmarks of the program share: how long a program takes, and how much memory."""
+"""What the benchmarks of the program share: which program it is, how long it takes, and how much memory."""
 
 import os
 import re
@@ -11,6 +11,19 @@ QUIET = {"stdin": subprocess.DEVNULL, "stdout": subprocess.DEVNULL, "stderr": su
 
 def stop(why):
     sys.exit(f"{os.path.relpath(sys.argv[0])}: {why}")
+
+
+def program_of(words):
+    """The program that the words name; without one the proved one, which is made if need be."""
+    if words:
+        if len(words) > 1 or not os.access(words[0], os.X_OK):
+            stop(f"there is no program {' '.join(words)}")
+        return os.path.abspath(words[0])
+    built = os.path.join(os.path.dirname(os.path.dirname(os.path.realpath(__file__))), "scripts/built")
+    made = subprocess.run([built, "--proved"], stdout=subprocess.PIPE, text=True, check=False)
+    if made.returncode:
+        stop("the program was not built")
+    return made.stdout.strip()
 
 
 def times_of(command, wanted=0):
