@@ -6,9 +6,8 @@ use Rattle.std.proofs.lemmas.List.{reverse-append}
 use Rattle.amo_book.specs.Pass.{PassState, mine}
 use Rattle.amo_live.specs.declared.input.Line.{Line}
 use Rattle.amo_live.specs.declared.lines.Spelling.{Spelling}
-use Rattle.amo_live.specs.Client.{Addressed, AreLines, Fills, InputState, IsPending, Moment, Moves, Serves, Takes, Waits, ended, message_of, messages_of, missing_end, moment}
+use Rattle.amo_live.specs.Client.{Addressed, AreLines, Fills, InputState, IsPending, Moment, Moves, Serves, Takes, Waits, message_of, messages_of, moment}
 use Rattle.amo_live.specs.Host.{puts_in}
-use Rattle.amo_live.proofs.Clients.{missing_behind_lines}
 
 -- no message, and none was put
 pub none_moved : (kept kept' : Option Addressed) (v w : PassState) → kept' ≡ kept → puts_in (mine w) ≡ puts_in (mine v) → Moves [] kept kept' v w
@@ -43,30 +42,9 @@ lines_append spelling front behind (line ∷ some) more are next =
     let (f, m, is, lacks, reads, rest) = are in
     (f, m ++ behind, ap (λ (l : List ℕ). l ++ behind) is ∙ append_assoc f (10 ∷ m) behind, lacks, reads, lines_append spelling m behind some more rest next)
 
-ended_itself : (was : Bool) (text : List ℕ) → ended was was text ≡ text
-ended_itself true text = refl
-ended_itself false text = refl
-
-ended_behind_lines : (spelling : Spelling) (was is : Bool) (front : List ℕ) (lines : List Line) → AreLines spelling front lines → (more : List ℕ) → ended was is (front ++ more) ≡ front ++ ended was is more
-ended_behind_lines spelling true true front lines are more = refl
-ended_behind_lines spelling true false front lines are more = append_assoc front more (missing_end (front ++ more)) ∙ ap (λ (l : List ℕ). front ++ (more ++ l)) (missing_behind_lines spelling front lines are more)
-ended_behind_lines spelling false is front lines are more = refl
-
 -- the text of two times
-text_on : (spelling : Spelling) (first second third : Bool) (text some more front middle rest : List ℕ) (lines : List Line) → AreLines spelling front lines
-    → (first ≡ false → (some ≡ []) × (second ≡ false)) → (second ≡ false → (more ≡ []) × (third ≡ false))
-    → ended first second (text ++ some) ≡ front ++ middle → ended second third (middle ++ more) ≡ rest → ended first third (text ++ (some ++ more)) ≡ front ++ rest
-text_on spelling true true third text some more front middle rest lines are closed shut one two =
-    ap (ended true third) (sym (append_assoc text some more) ∙ (ap (λ (l : List ℕ). l ++ more) one ∙ append_assoc front middle more))
-    ∙ (ended_behind_lines spelling true third front lines are (middle ++ more) ∙ ap (λ (l : List ℕ). front ++ l) two)
-text_on spelling true false true text some more front middle rest lines are closed shut one two = absurd (true≢false (shut refl).1)
-text_on spelling true false false text some more front middle rest lines are closed shut one two =
-    let none = (shut refl).0 in
-    let left : some ++ more ≡ some = ap (λ (l : List ℕ). some ++ l) none ∙ append-nil some in
-    let last : middle ≡ rest = sym (append-nil middle) ∙ (ap (λ (l : List ℕ). middle ++ l) (sym none) ∙ two) in
-    ap (λ (l : List ℕ). ended true false (text ++ l)) left ∙ (one ∙ ap (λ (l : List ℕ). front ++ l) last)
-text_on spelling false true third text some more front middle rest lines are closed shut one two = absurd (true≢false (closed refl).1)
-text_on spelling false false third text some more front middle rest lines are closed shut one two =
+text_on : (text some more front middle rest : List ℕ) → text ++ some ≡ front ++ middle → middle ++ more ≡ rest → text ++ (some ++ more) ≡ front ++ rest
+text_on text some more front middle rest one two =
     sym (append_assoc text some more) ∙ (ap (λ (l : List ℕ). l ++ more) one ∙ (append_assoc front middle more ∙ ap (λ (l : List ℕ). front ++ l) two))
 
 module _ (spelling : Spelling) (puts : Bool) (streams : ℕ) where
@@ -75,7 +53,7 @@ module _ (spelling : Spelling) (puts : Bool) (streams : ℕ) where
   serves_none m n same moves = record {
     lines = [];
     closed = λ shut. (refl, ap (λ (i : InputState). i.is_open) same ∙ shut);
-    text = λ text p. ([], text, subst (λ (i : InputState). ended m.input.is_open i.is_open (text ++ []) ≡ text) (sym same) (ended_itself m.input.is_open (text ++ []) ∙ append-nil text), refl, subst (λ (i : InputState). IsPending i text) (sym same) p);
+    text = λ text p. ([], text, append-nil text, refl, subst (λ (i : InputState). IsPending i text) (sym same) p);
     moves = moves;
   }
 
@@ -84,7 +62,7 @@ module _ (spelling : Spelling) (puts : Bool) (streams : ℕ) where
   serves_bytes m n bytes waits moves = record {
     lines = [];
     closed = waits.closed;
-    text = λ text p. ([], ended m.input.is_open n.input.is_open (text ++ bytes), refl, refl, waits.text text p);
+    text = λ text p. ([], text ++ bytes, refl, refl, waits.text text p);
     moves = moves;
   }
 
@@ -97,7 +75,7 @@ module _ (spelling : Spelling) (puts : Bool) (streams : ℕ) where
         let (f, more, is, lacks, reads, q) = takes text p in (
           f ++ 10 ∷ [],
           more,
-          subst (λ (b : Bool). ended m.input.is_open b (text ++ []) ≡ (f ++ 10 ∷ []) ++ more) (sym still) (ended_itself m.input.is_open (text ++ []) ∙ (append-nil text ∙ (is ∙ sym (append_assoc f (10 ∷ []) more)))),
+          append-nil text ∙ (is ∙ sym (append_assoc f (10 ∷ []) more)),
           (f, [], refl, lacks, reads, refl),
           q,
         );
@@ -116,7 +94,7 @@ module _ (spelling : Spelling) (puts : Bool) (streams : ℕ) where
         let (g, rest, next, too, r) = two.text middle q in (
           f ++ g,
           rest,
-          text_on spelling m.input.is_open n.input.is_open o.input.is_open text some more f middle (g ++ rest) one.lines are one.closed two.closed is next ∙ sym (append_assoc f g rest),
+          text_on text some more f middle (g ++ rest) is next ∙ sym (append_assoc f g rest),
           lines_append spelling f g one.lines two.lines are too,
           r,
         );
@@ -150,7 +128,7 @@ module _ (spelling : Spelling) (puts : Bool) (streams : ℕ) where
       let none : Takes other i j None = subst (λ (r : Option Line). Takes other i j r) is takes in
       let waits : Waits i j [] = record {
         closed = λ shut. (refl, still ∙ shut);
-        text = λ text p. subst (λ (b : Bool). IsPending j (ended i.is_open b (text ++ []))) (sym still) (subst (IsPending j) (sym (ended_itself i.is_open (text ++ []) ∙ append-nil text)) (none text p).1);
+        text = λ text p. subst (IsPending j) (sym (append-nil text)) (none text p).1;
       } in
       serves_on m (moment i k v) (moment j k v) [] [] h (serves_bytes (moment i k v) (moment j k v) [] waits (none_moved k k v v refl refl))
 
@@ -166,14 +144,14 @@ module _ (spelling : Spelling) (puts : Bool) (streams : ℕ) where
 pub waits_none : (i j : InputState) → j ≡ i → Waits i j []
 waits_none i j same = subst (λ (x : InputState). Waits i x []) (sym same) (record {
   closed = λ shut. (refl, shut);
-  text = λ text p. subst (IsPending i) (sym (ended_itself i.is_open (text ++ []) ∙ append-nil text)) p;
+  text = λ text p. subst (IsPending i) (sym (append-nil text)) p;
 })
 
 -- an open input was read
 pub waits_filled : (i j : InputState) (bytes : List ℕ) → i.is_open ≡ true → Fills i j bytes → Waits i j bytes
 waits_filled i j bytes opened fills = record {
   closed = λ shut. let no : true ≡ false = sym opened ∙ shut in absurd (true≢false no);
-  text = subst (λ (b : Bool). (text : List ℕ) → IsPending i text → IsPending j (ended b j.is_open (text ++ bytes))) (sym opened) fills;
+  text = fills;
 }
 
 pub none_kept : (kept : Option Addressed) → is_some kept ≡ false → kept ≡ None

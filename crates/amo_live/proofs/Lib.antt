@@ -1,3 +1,4 @@
+pub mod Beginnings
 pub mod Clients
 pub mod Longest
 pub mod Conserving
@@ -10,3 +11,6 @@ pub mod Readers
 pub mod Returning
 pub mod Putting
 pub mod UsedUp
+pub mod Delivering
+pub mod Fresh
+pub mod Writers

@@ -24,7 +24,7 @@ use Rattle.amo_live.specs.declared.lines.Spelling.{Spelling}
 use Rattle.amo_live.specs.declared.lines.Word.TheVariants as word
 use Rattle.amo_live.specs.Host.{HostState, Did, Delivered, message_in}
 use Rattle.amo_live.specs.Service.{start_of}
-use Rattle.amo_live.specs.Shown.{IsMessageLine, IsShown, Shows, ShowsMore, Tells, word_line}
+use Rattle.amo_live.specs.Shown.{IsShown, Shows, ShowsMore, Tells, message_line, word_line}
 
 -- no event, or one that shows nothing, or one that shows a line
 pub shows_none : (spelling : Spelling) (v w : PassState) (old new : List ℕ) → mine w ≡ mine v → new ≡ old → ShowsMore spelling v w old new
@@ -96,21 +96,21 @@ one_message : (m n : List ℕ) → Some m ≡ Some n → m ≡ n
 one_message m n e = cc
 
 module _ (spelling : Spelling) (v w : PassState) (stream : ℕ) (old new : List ℕ) where
-  pub get_shows : (answer : Answer) (m line : List ℕ) → Some m ≡ message_in answer → Grown v w Receiver stream act.Get answer → IsMessageLine spelling stream m line → new ≡ old ++ line → ShowsMore spelling v w old new
-  get_shows None m line got grown shown is = absurd (no got)
+  pub get_shows : (answer : Answer) (m : List ℕ) → Some m ≡ message_in answer → Grown v w Receiver stream act.Get answer → new ≡ old ++ message_line spelling stream m → ShowsMore spelling v w old new
+  get_shows None m got grown is = absurd (no got)
     where
       no : Some m ≡ None → ⊥
       no e = cc
-  get_shows (Some (reply.Got n, position)) m line got grown shown is =
-      shows_line spelling v w old new (event v.number Receiver stream act.Get (reply.Got n)) line grown.mine_grew (subst (λ (l : List ℕ). IsMessageLine spelling stream l line) (one_message m n got) shown) is
-  get_shows (Some (reply.Ok, position)) m line got grown shown is = cc
-  get_shows (Some (reply.Full, position)) m line got grown shown is = cc
-  get_shows (Some (reply.Down, position)) m line got grown shown is = cc
-  get_shows (Some (reply.Nothing, position)) m line got grown shown is = cc
-  get_shows (Some (reply.Yes, position)) m line got grown shown is = cc
-  get_shows (Some (reply.No, position)) m line got grown shown is = cc
-  get_shows (Some (reply.NotYet, position)) m line got grown shown is = cc
-  get_shows (Some (reply.Done, position)) m line got grown shown is = cc
+  get_shows (Some (reply.Got n, position)) m got grown is =
+      shows_line spelling v w old new (event v.number Receiver stream act.Get (reply.Got n)) (message_line spelling stream m) grown.mine_grew (ap (message_line spelling stream) (one_message m n got)) is
+  get_shows (Some (reply.Ok, position)) m got grown is = cc
+  get_shows (Some (reply.Full, position)) m got grown is = cc
+  get_shows (Some (reply.Down, position)) m got grown is = cc
+  get_shows (Some (reply.Nothing, position)) m got grown is = cc
+  get_shows (Some (reply.Yes, position)) m got grown is = cc
+  get_shows (Some (reply.No, position)) m got grown is = cc
+  get_shows (Some (reply.NotYet, position)) m got grown is = cc
+  get_shows (Some (reply.Done, position)) m got grown is = cc
 
   pub nothing_shows : (answer : Answer) → None ≡ message_in answer → Grown v w Receiver stream act.Get answer → new ≡ old → ShowsMore spelling v w old new
   nothing_shows None got grown is = shows_none spelling v w old new (ap mine grown) is

@@ -1,5 +1,5 @@
 -- A client's lines, and what becomes of the messages in them.
-use Rattle.std.specs.Prelude.{◌≡◌, ℕ, ◌<◌, Bool, true, false, ◌&&◌, nat_le, ◌==◌, if◌then◌else◌, Option, Some, None, List, [], ◌∷◌, ◌++◌, length, reverse}
+use Rattle.std.specs.Prelude.{◌≡◌, ◌≢◌, ℕ, ◌<◌, ◌^◌, Bool, true, false, not, ◌&&◌, ◌||◌, nat_le, ◌==◌, if◌then◌else◌, Option, Some, None, Result, Ok, Err, List, [], ◌∷◌, ◌++◌, length, reverse}
 use Rattle.std.specs.Option.{option_to_list}
 use Rattle.std.specs.Fmt.{decimal}
 use Rattle.amo_packet.specs.Stream.{IsStream}
@@ -7,6 +7,8 @@ use Rattle.amo_text.specs.Hexadecimal.{hex}
 use Rattle.amo_text.specs.Line.{Lacks}
 use Rattle.amo_text.specs.Message.{IsMessage}
 use Rattle.amo_book.specs.Pass.{PassState, mine}
+use Rattle.amo_live.specs.declared.lines.LineFault.{LineFault}
+use Rattle.amo_live.specs.declared.lines.LineFault.TheVariants.{NoStream, Stream, TooLong, NoHex, TooLongLine}
 use Rattle.amo_live.specs.declared.lines.Spelling.{Spelling}
 use Rattle.amo_live.specs.declared.input.Line.{Line}
 use Rattle.amo_live.specs.declared.input.Line.TheVariants.{Put, Unread}
@@ -26,20 +28,39 @@ pub record IsPut (spelling : Spelling) (text : List ℕ) (stream : ℕ) (message
   pub message_is : IsMessage message
   pub text_is : text ≡ decimal stream ++ 32 ∷ spelt spelling message
 
--- what a line's text reads as, without its end: a message on a stream, or nothing
-abbrev pub ReadsAs : Spelling → List ℕ → Option Addressed → Type 0
-ReadsAs spelling text (Some (stream, message)) = IsPut spelling text stream message
-ReadsAs spelling text None = (stream : ℕ) (message : List ℕ) → ¬ (IsPut spelling text stream message)
+-- what is wrong with a field that names no stream: it is no number, or this one
+abbrev pub BlamesField : List ℕ → LineFault → Type 0
+BlamesField field NoStream = (number : ℕ) → number < 2 ^ 64 → field ≢ decimal number
+BlamesField field (Stream number) = field ≡ decimal number
+BlamesField field _ = ⊥
 
--- what is to be put by a line
-abbrev pub put_of : Line → Option Addressed
-put_of (Put stream message) = Some (stream, message)
-put_of Unread = None
+-- what is wrong with a line's text: no number and space in front; a number that is no stream's; a message of so many bytes; one that is no HEX; the length
+abbrev pub Blames : Spelling → List ℕ → LineFault → Type 0
+Blames spelling text NoStream = (number : ℕ) (rest : List ℕ) → number < 2 ^ 64 → text ≢ decimal number ++ 32 ∷ rest
+Blames spelling text (Stream number) = (rest : List ℕ) × (text ≡ decimal number ++ 32 ∷ rest) × ¬ (IsStream number)
+Blames spelling text (TooLong count) = (stream : ℕ) × (rest : List ℕ) × (text ≡ decimal stream ++ 32 ∷ rest) × (spelling.hex ≡ false) × (count ≡ length rest) × (1024 < count)
+Blames spelling text NoHex = (stream : ℕ) × (rest : List ℕ) × (text ≡ decimal stream ++ 32 ∷ rest) × (spelling.hex ≡ true) × ((m : List ℕ) → IsMessage m → rest ≢ hex m)
+Blames spelling text TooLongLine = 4096 < length text
+
+-- the text is no stream and message, for this reason
+pub record IsNoPut (spelling : Spelling) (text : List ℕ) (fault : LineFault) : Type 0 where
+  pub none : (stream : ℕ) (message : List ℕ) → ¬ (IsPut spelling text stream message)
+  pub blamed : Blames spelling text fault
+
+-- what a line's text reads as, without its end: a message on a stream, or nothing
+abbrev pub ReadsAs : Spelling → List ℕ → Result Addressed LineFault → Type 0
+ReadsAs spelling text (Ok (stream, message)) = IsPut spelling text stream message
+ReadsAs spelling text (Err fault) = IsNoPut spelling text fault
+
+-- what a line was read as
+abbrev pub read_of : Line → Result Addressed LineFault
+read_of (Put stream message) = Ok (stream, message)
+read_of (Unread fault) = Err fault
 
 -- the text is that of these lines, each with its end
 abbrev pub AreLines : Spelling → List ℕ → List Line → Type 0
 AreLines spelling text [] = text ≡ []
-AreLines spelling text (line ∷ lines) = (front more : List ℕ) × (text ≡ front ++ 10 ∷ more) × Lacks 10 front × ReadsAs spelling front (put_of line) × AreLines spelling more lines
+AreLines spelling text (line ∷ lines) = (front more : List ℕ) × (text ≡ front ++ 10 ∷ more) × Lacks 10 front × ReadsAs spelling front (read_of line) × AreLines spelling more lines
 
 -- What came and was not taken: these bytes; whether a line in front of them was too long, and is gone. How many lines were taken, and whether more may come.
 pub record InputState : Type 0 where
@@ -60,27 +81,20 @@ IsPending i text = (front : List ℕ) × IsGone i.skips front × (text ≡ front
 -- what was taken of it: the next line, or nothing, as there was none with an end
 abbrev pub Takes : Spelling → InputState → InputState → Option Line → Type 0
 Takes spelling i j None = (text : List ℕ) → IsPending i text → Lacks 10 text × IsPending j text
-Takes spelling i j (Some line) = (text : List ℕ) → IsPending i text → (front more : List ℕ) × (text ≡ front ++ 10 ∷ more) × Lacks 10 front × ReadsAs spelling front (put_of line) × IsPending j more
+Takes spelling i j (Some line) = (text : List ℕ) → IsPending i text → (front more : List ℕ) × (text ≡ front ++ 10 ∷ more) × Lacks 10 front × ReadsAs spelling front (read_of line) × IsPending j more
 
--- the end that the last line of a text lacks
-abbrev pub missing_end : List ℕ → List ℕ
-missing_end [] = []
-missing_end (byte ∷ []) = if byte == 10 then [] else (10 ∷ [])
-missing_end (byte ∷ next ∷ more) = missing_end (next ∷ more)
-
--- a text, from before its reader came to an end or not to afterwards: there the last line gets the end that it lacks
-abbrev pub ended : Bool → Bool → List ℕ → List ℕ
-ended true false text = text ++ missing_end text
-ended _ _ text = text
-
--- what a reader brought stands behind what came before
+-- what a reader brought stands behind what came before, and nothing else does
 abbrev pub Fills : InputState → InputState → List ℕ → Type 0
-Fills i j bytes = (text : List ℕ) → IsPending i text → IsPending j (ended true j.is_open (text ++ bytes))
+Fills i j bytes = (text : List ℕ) → IsPending i text → IsPending j (text ++ bytes)
+
+-- whether something came and was not taken, and no more may come
+abbrev pub is_torn : InputState → Bool
+is_torn i = not i.is_open && (i.skips || not (length i.rest == 0))
 
 -- the same where it is asked only as long as more may come
 pub record Waits (i j : InputState) (bytes : List ℕ) : Type 0 where
   pub closed : i.is_open ≡ false → (bytes ≡ []) × (j.is_open ≡ false)
-  pub text : (text : List ℕ) → IsPending i text → IsPending j (ended i.is_open j.is_open (text ++ bytes))
+  pub text : Fills i j bytes
 
 -- whether there is such a stream, of so many
 abbrev pub has : ℕ → ℕ → Bool
@@ -89,7 +103,7 @@ has streams stream = nat_le 1 stream && nat_le stream streams
 -- the message that is to be put by a line, where lines are put and there is such a stream
 abbrev pub message_of : Bool → ℕ → Line → List Addressed
 message_of puts streams (Put stream message) = if puts && has streams stream then ((stream, message) ∷ []) else []
-message_of puts streams Unread = []
+message_of puts streams (Unread fault) = []
 
 -- the messages that are to be put by lines
 abbrev pub messages_of : Bool → ℕ → List Line → List Addressed
@@ -113,9 +127,9 @@ abbrev pub moment : InputState → Option Addressed → PassState → Moment
 moment input kept pass = record { input = input; kept = kept; pass = pass }
 
 -- Between two moments a reader brought these bytes. What was pending, and they behind it, is the text of the lines that were taken and then what is
--- pending now; and the lines' messages were put.
+-- pending now; and the lines' messages were put. A text without an end is no line's, also where no more may come.
 pub record Serves (spelling : Spelling) (puts : Bool) (streams : ℕ) (bytes : List ℕ) (m n : Moment) : Type 0 where
   pub lines : List Line
   pub closed : m.input.is_open ≡ false → (bytes ≡ []) × (n.input.is_open ≡ false)
-  pub text : (text : List ℕ) → IsPending m.input text → (front more : List ℕ) × (ended m.input.is_open n.input.is_open (text ++ bytes) ≡ front ++ more) × AreLines spelling front lines × IsPending n.input more
+  pub text : (text : List ℕ) → IsPending m.input text → (front more : List ℕ) × (text ++ bytes ≡ front ++ more) × AreLines spelling front lines × IsPending n.input more
   pub moves : Moves (messages_of puts streams lines) m.kept n.kept m.pass n.pass

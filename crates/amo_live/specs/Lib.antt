@@ -1,7 +1,9 @@
 pub use Rattle.amo_settings.specs.Limits
 pub mod Client
+pub mod Fault
 pub mod Host
 pub mod Noted
+pub mod Notices
 pub mod Plans
 pub mod Scan
 pub mod Service

@@ -1,6 +1,8 @@
 -- What clients are shown.
-use Rattle.std.specs.Prelude.{◌≡◌, ◌⊎◌, ℕ, ◌==◌, ◌||◌, if◌then◌else◌, Option, List, [], ◌∷◌, ◌++◌, codes}
-use Rattle.std.specs.List.{flat_map}
+use Rattle.std.specs.Prelude.{◌≡◌, ℕ, Bool, not, ◌==◌, ◌||◌, ◌&&◌, if◌then◌else◌, Option, List, [], ◌∷◌, ◌++◌, codes}
+use Rattle.std.specs.Char.{is_ascii_control, is_control}
+use Rattle.std.specs.List.{flat_map, list_any}
+use Rattle.std.specs.Str.{chars, is_utf8}
 use Rattle.std.specs.Fmt.{decimal}
 use Rattle.std.specs.Io.KnownBytes.{Appends}
 use Rattle.amo_core.specs.declared.act.Act.{Act}
@@ -40,14 +42,22 @@ text_line spelling stream message = if spelling.json then object_front stream ++
 abbrev pub hex_line : Spelling → ℕ → List ℕ → List ℕ
 hex_line spelling stream message = if spelling.json then object_front stream ++ codes "got\",\"hex\":\"" ++ hex message ++ codes "\"}\n" else (decimal stream ++ codes " 0x" ++ hex message ++ codes "\n")
 
--- the line of a message: of its text, or in HEX
-abbrev pub IsMessageLine : Spelling → ℕ → List ℕ → List ℕ → Type 0
-IsMessageLine spelling stream message line = (line ≡ text_line spelling stream message) ⊎ (line ≡ hex_line spelling stream message)
+-- whether a character is not shown as it is: on a line a control character, but for a tab; in an object the same of the characters of one byte, and a tab
+abbrev pub is_hidden : Bool → ℕ → Bool
+is_hidden json c = if json then is_ascii_control c else (is_control c && not (c == 9))
+
+-- whether a message is shown as a text: it is UTF-8, and has no such character
+abbrev pub is_text : Bool → List ℕ → Bool
+is_text json message = is_utf8 message && not (list_any (is_hidden json) (chars message))
+
+-- the line of a message: of its text, if it is one, and else in HEX
+abbrev pub message_line : Spelling → ℕ → List ℕ → List ℕ
+message_line spelling stream message = if is_text spelling.json message then text_line spelling stream message else hex_line spelling stream message
 
 -- what an act with a reply shows: that a message was put, the message that was got, or whether the last one was; nothing else
 abbrev pub TellsReply : Spelling → ℕ → Act → Reply → List ℕ → Type 0
 TellsReply spelling stream (Put m) Ok line = line ≡ word_line spelling stream word.Ok
-TellsReply spelling stream Get (Got m) line = IsMessageLine spelling stream m line
+TellsReply spelling stream Get (Got m) line = line ≡ message_line spelling stream m
 TellsReply spelling stream Ack Yes line = line ≡ word_line spelling stream word.Yes
 TellsReply spelling stream Ack No line = line ≡ word_line spelling stream word.No
 TellsReply spelling stream _ _ line = line ≡ []

@@ -3,9 +3,46 @@ ghost use Rattle.std.specs.Prelude.{◌≡◌};
 
 use amo_journal::JournalFault;
 use std::alloc::AllocError;
-use std::io;
+use std::fmt::{Display, Formatter};
 use std::io::ErrorKind;
+use std::{fmt, io};
 use thiserror::Error;
+
+/// Why a call of the system failed.
+#[derive(Clone, Copy, Debug, PartialEq, Eq)]
+pub struct Cause {
+    code: Option<i32>,
+    kind: ErrorKind,
+}
+
+impl From<io::Error> for Cause {
+    fn from(error: io::Error) -> Cause {
+        Cause {
+            code: error.raw_os_error(),
+            kind: error.kind(),
+        }
+    }
+}
+
+impl Display for Cause {
+    fn fmt<W: fmt::Write>(&self, f: &mut Formatter<W>) -> fmt::Result {
+        match self.code {
+            Some(code) => Display::fmt(&io::Error::from_raw_os_error(code), f),
+            None => Display::fmt(&self.kind, f),
+        }
+    }
+}
+
+/// Why a host's socket did not open.
+#[derive(Clone, Copy, Debug, PartialEq, Eq, Error)]
+pub enum SocketFault {
+    /// It did not get its own address.
+    #[error("cannot listen: {0}")]
+    Listen(Cause),
+    /// It could not be connected to its peer's address.
+    #[error("no way to the peer: {0}")]
+    Peer(Cause),
+}
 
 /// Why a host cannot go on. What its journal lacks has not left, and nobody was shown it.
 #[derive(Clone, Copy, Debug, PartialEq, Eq, Error)]
@@ -25,6 +62,10 @@ pub enum LiveFault {
 }
 
 impl From<JournalFault> for LiveFault {
+    ghost use Rattle.amo_live.specs.Fault.{note_fault};
+
+    ghost from_gives = { λ fault live. live ≡ note_fault fault };
+
     fn from(fault: JournalFault) -> LiveFault {
         match fault {
             JournalFault::NoMemory => LiveFault::NoMemory,
@@ -43,30 +84,33 @@ impl From<AllocError> for LiveFault {
     }
 }
 
-/// Why a journal cannot go on. Nothing was changed but a last line that was torn.
+/// Why a journal cannot go on. It is as it was; but where the device failed, a last line that was torn may be gone.
 #[derive(Clone, Copy, Debug, PartialEq, Eq, Error)]
 pub enum OpenFault {
     /// Another process has the journal.
-    #[error("the journal is in use")]
+    #[error("another process has it in use")]
     InUse,
+    /// The file has something, but no whole line, and no journal of this side begins so.
+    #[error("it has no whole line, and does not begin as a journal of this side: it was left as it is")]
+    Foreign,
     /// This line, counted from 1, is the first that is no line.
-    #[error("the journal's line {0} is malformed")]
+    #[error("line {0} is none of a journal: it was left as it is")]
     Malformed(u64),
     /// This line, counted from 1, has a number that is not how many events are before it.
-    #[error("the journal's line {0} has another number")]
+    #[error("line {0} has another number: it was left as it is")]
     Gap(u64),
     /// This line, counted from 1, is an event of the other side.
-    #[error("the journal's line {0} is of the other side")]
+    #[error("line {0} is of the other side: it was left as it is")]
     OtherSide(u64),
     /// Starts of batches are wanted, and the journal is of version 1, which has no lines for them.
-    #[error("the journal is of version 1, which tells of no batches: begin new journals at both hosts, or leave out --batch")]
+    #[error("it is of version 1, which tells of no batches: begin new journals at both hosts, or leave out --batch")]
     NoBatches,
     /// The machine's fault: memory was refused.
     #[error("out of memory")]
     NoMemory,
     /// The journal's device failed.
-    #[error("the journal failed")]
-    Device,
+    #[error("{0}")]
+    Device(Cause),
 }
 
 impl From<AllocError> for OpenFault {
@@ -83,7 +127,7 @@ impl From<io::Error> for OpenFault {
     fn from(error: io::Error) -> OpenFault {
         match error.kind() {
             ErrorKind::OutOfMemory => OpenFault::NoMemory,
-            _ => OpenFault::Device,
+            _ => OpenFault::Device(Cause::from(error)),
         }
     }
 }
@@ -94,9 +138,28 @@ pub enum ServeFault {
     /// The host cannot go on.
     #[error("{0}")]
     Host(LiveFault),
-    /// The clients' lines, what is shown to them, or the clock failed.
-    #[error("a client's device failed")]
-    Clients,
+    /// Where the clients' lines come from failed so.
+    #[error("standard input failed: {0}")]
+    Input(ErrorKind),
+    /// Where answers and messages go failed so.
+    #[error("standard output failed: {0}")]
+    Output(ErrorKind),
+    /// Nobody reads the messages any more.
+    #[error("nobody reads standard output any more")]
+    Gone,
+    /// The clock failed.
+    #[error("the clock failed")]
+    Clock,
+}
+
+impl ServeFault {
+    /// The fault of an output that failed so.
+    pub(crate) fn output(error: &io::Error) -> ServeFault {
+        match error.kind() {
+            ErrorKind::OutOfMemory => ServeFault::Host(LiveFault::NoMemory),
+            kind => ServeFault::Output(kind),
+        }
+    }
 }
 
 impl From<LiveFault> for ServeFault {
@@ -111,11 +174,12 @@ impl From<AllocError> for ServeFault {
     }
 }
 
+/// The fault of a reader of clients' lines that failed so.
 impl From<io::Error> for ServeFault {
     fn from(error: io::Error) -> ServeFault {
         match error.kind() {
             ErrorKind::OutOfMemory => ServeFault::Host(LiveFault::NoMemory),
-            _ => ServeFault::Clients,
+            kind => ServeFault::Input(kind),
         }
     }
 }
@@ -129,9 +193,9 @@ pub enum ProcessFault {
     /// Its turns ended.
     #[error("{0}")]
     Serve(ServeFault),
-    /// Its socket did not open, or the system gave no seed.
-    #[error("a socket failed")]
-    Socket,
+    /// The system gave no seed.
+    #[error("the system gives no random bytes: {0}")]
+    Seed(Cause),
 }
 
 impl From<OpenFault> for ProcessFault {
@@ -162,7 +226,7 @@ impl From<io::Error> for ProcessFault {
     fn from(error: io::Error) -> ProcessFault {
         match error.kind() {
             ErrorKind::OutOfMemory => ProcessFault::from(LiveFault::NoMemory),
-            _ => ProcessFault::Socket,
+            _ => ProcessFault::Seed(Cause::from(error)),
         }
     }
 }

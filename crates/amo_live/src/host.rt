@@ -1,5 +1,5 @@
 //! A live host: how it opens, hears and sends.
-ghost use Rattle.std.specs.Prelude.{◌≡◌, ◌<◌, ◌≤◌, [], Some, IfOk, IfSome, length, slice_get};
+ghost use Rattle.std.specs.Prelude.{◌≡◌, ◌+◌, ◌<◌, ◌≤◌, [], Some, IfOk, IfSome, OnOk, OnErr, length, slice_get};
 ghost use Rattle.amo_packet.specs.Packet.{body_of, packet_of};
 ghost use Rattle.amo_packet.specs.Grammar.{CanBeWritten, Spells};
 ghost use Rattle.amo_journal.specs.Version.{newest};
@@ -90,6 +90,7 @@ impl<L: Link, S: Sink> Host<L, S> {
     /// The length of the datagram that has come and stands at the front of the buffer, if one has. A failed link brings none.
     pub fn hear(&mut self, buffer: &mut [u8; MAX_DATAGRAM]) -> Option<usize>
         ensures within { IfSome result (λ n. n ≤ MAX_DATAGRAM) }
+        ensures heard { IfSome result (λ _. L.failures self.new.link ≡ L.failures self.old.link) }
         ensures same { self.new ≡ record self.old { link = self.new.link } }
     {
         self.link.receive(buffer).unwrap_or(None)
@@ -137,9 +138,12 @@ impl<L: Link, S: Sink> Host<L, S> {
 }
 
 impl<L: Link, S: Durable> Host<L, S> {
-    /// Puts the journal on its disk.
+    /// Puts the journal on its disk. It fails where the journal's sink does, and only there.
     pub fn sync(&mut self) -> Result<(), LiveFault>
         requires { IsNoted S.written self.old }
+        ensures on_disk { OnOk result (S.on_disk self.new.journal.sink ≡ S.written self.new.journal.sink) }
+        ensures calm { OnOk result (S.failures self.new.journal.sink ≡ S.failures self.old.journal.sink) }
+        ensures failed { OnErr result (S.failures self.new.journal.sink ≡ S.failures self.old.journal.sink + 1) }
         ensures noted { IsNoted S.written self.new }
         ensures same { self.new ≡ record self.old { journal = self.new.journal } }
     {

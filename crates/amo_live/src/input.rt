@@ -1,10 +1,11 @@
-//! A client's lines, as a reader brings them.
-ghost use Rattle.std.specs.Prelude.{◌≡◌, List, ℕ, [], ◌∷◌, ◌++◌, IfOk, OnOk, true, false, if◌then◌else◌};
+//! A client's lines, as a reader brings them. Only whole lines are handed on: a client that dies in mid-line has not said what it wanted.
+ghost use Rattle.std.specs.Prelude.{◌≡◌, List, ℕ, [], IfOk, OnOk, true, false, Err, if◌then◌else◌};
 ghost use Rattle.std.specs.Io.KnownBytes.{Consumes};
 ghost use Rattle.amo_text.specs.Line.{Lacks};
-ghost use Rattle.amo_live.specs.Client.{Fills, IsGone, IsPending, Takes, missing_end, put_of};
+ghost use Rattle.amo_live.specs.Client.{Fills, IsPending, Takes, is_torn, read_of};
+ghost use Rattle.amo_live.specs.declared.lines.LineFault.TheVariants.{TooLongLine};
 
-use crate::lines::{Spelling, read_put};
+use crate::lines::{LineFault, Spelling, read_put};
 use amo_packet::Message;
 use amo_text::next_line;
 use std::alloc::{AllocError, Global};
@@ -23,8 +24,8 @@ const LONGEST_LINE: usize = 4096;
 pub enum Line {
     /// A message to be put on a stream.
     Put(u32, Message),
-    /// No such line.
-    Unread,
+    /// No such line, for this reason.
+    Unread(LineFault),
 }
 
 /// What a reader has brought, and not been taken. Contracts see these bytes, whether a line in front of them was too long, how many
@@ -82,7 +83,7 @@ impl Input {
         self.lines
     }
 
-    /// Reads once. At the reader's end the last line gets its end, where it has none.
+    /// Reads once. What came stands behind what was there before, and nothing else does: a last line that has no end gets none.
     pub fn fill<R: Read>(&mut self, reader: &mut R) -> io::Result<()>
         ensures filled { OnOk result ((bytes : List ℕ) × Consumes (R.remaining reader.old) (R.remaining reader.new) bytes × Fills self.old self.new bytes) }
         ensures taken { self.new.taken ≡ self.old.taken }
@@ -92,15 +93,17 @@ impl Input {
         let count = reader.read(self.piece.as_mut_slice())?;
         self.bytes.extend_from_slice(&self.piece[..count])?;
         self.is_open = count > 0;
-        if self.is_open {
-            return Ok(());
-        }
-        self.bytes
-            .extend_from_slice(missing_end(self.skips, self.bytes.as_slice()))?;
         Ok(())
     }
 
-    /// Takes the next line, if it has come whole.
+    /// Whether the reader is at its end, and something that it brought was not taken. Where each whole line was, that is a line without an end.
+    pub fn is_torn(&self) -> bool
+        ensures { result ≡ is_torn self.now }
+    {
+        !self.is_open && (self.skips || !self.rest().is_empty())
+    }
+
+    /// Takes the next line, if it has come whole: with its end.
     pub fn next(&mut self, spelling: Spelling) -> Result<Option<Line>, AllocError>
         ensures takes { IfOk result (Takes spelling self.old self.new) }
         ensures stays { self.new.is_open ≡ self.old.is_open }
@@ -138,28 +141,14 @@ impl Input {
 }
 
 /// The line that was read so, if it was not too long.
-fn line_of(read: Option<(u32, Message)>, skips: bool) -> Line
-    ensures { put_of result ≡ (if skips then None else read) }
+fn line_of(read: Result<(u32, Message), LineFault>, skips: bool) -> Line
+    ensures { read_of result ≡ (if skips then Err TooLongLine else read) }
 {
+    if skips {
+        return Line::Unread(LineFault::TooLongLine);
+    }
     match read {
-        Some((stream, message)) if !skips => Line::Put(stream, message),
-        _ => Line::Unread,
+        Ok((stream, message)) => Line::Put(stream, message),
+        Err(fault) => Line::Unread(fault),
     }
-}
-
-/// The end that the last line of a text lacks, if it does. Where it skips, something is gone in front.
-fn missing_end(skips: bool, text: &[u8]) -> &'static [u8]
-    ensures { (gone : List ℕ) → IsGone skips gone → missing_end (gone ++ text.now) ≡ result.now }
-{
-    match text.last() {
-        None => end_if(skips),
-        Some(byte) => end_if(*byte != b'\n'),
-    }
-}
-
-/// A line's end, if it is lacking.
-fn end_if(is_lacking: bool) -> &'static [u8]
-    ensures { result.now ≡ (if is_lacking then (10 ∷ []) else []) }
-{
-    if is_lacking { b"\n" } else { b"" }
 }

@@ -1,5 +1,5 @@
 //! The journal of a live host.
-ghost use Rattle.std.specs.Prelude.{◌≡◌, [], List, IfOk, OnOk, OnErr};
+ghost use Rattle.std.specs.Prelude.{◌≡◌, ◌+◌, ◌^◌, ◌<◌, ◌↔◌, [], List, IfOk, IsErrOf, OnOk, OnErr};
 ghost use Rattle.amo_world.specs.declared.event.Event.{Event};
 ghost use Rattle.amo_journal.specs.Journal.{CanSpell};
 ghost use Rattle.amo_live.specs.Noted.{Adds, AddsFront, Holds, IsSameJournal, beginning, going_on};
@@ -14,11 +14,20 @@ use std::snapshot::Snapshot;
 
 /// A sink that can be put on its disk.
 pub trait Durable: Sink {
+    ghost use Rattle.std.specs.Prelude.{ℕ, List, Option};
     ghost use Rattle.std.specs.Io.KnownBytes.{Keeps};
 
-    /// Puts what was written on the disk. A call that fails says nothing of what is there.
+    /// What of it a loss of power leaves, where the sink tells that.
+    ghost on_disk: { Self → Option (List ℕ) };
+
+    /// Puts what was written on the disk.
+    ///
+    /// A call that fails is counted once, and says nothing of what is there.
     fn sync(&mut self) -> Result<(), SinkFault>
-        ensures { Keeps (Self.written self.old) (Self.written self.new) };
+        ensures kept { Keeps (Self.written self.old) (Self.written self.new) }
+        ensures on_disk { OnOk result (on_disk self.new ≡ Self.written self.new) }
+        ensures calm { OnOk result (Self.failures self.new ≡ Self.failures self.old) }
+        ensures failed { OnErr result (Self.failures self.new ≡ Self.failures self.old + 1) };
 }
 
 /// A journal that goes on. Contracts see its version, its sink and the number of its next line; and of when it was opened its sink, the number
@@ -98,11 +107,14 @@ impl<S: Sink> Journal<S> {
 
     /// Writes the line of this event, whole, with the next number.
     ///
-    /// Where that fails a beginning of the line was written, and the journal can only be opened again.
+    /// Where that fails a beginning of the line was written, and the journal can only be opened again. It is full where no number is left, and its
+    /// device failed where a call of the sink did.
     pub fn note(&mut self, event: &Event) -> Result<(), LiveFault>
         requires { CanSpell self.old.version event.now }
         ensures noted { OnOk result (Adds S.written self.old self.new event.now) }
         ensures begun { OnErr result (AddsFront S.written self.old self.new event.now) }
+        ensures full { IsErrOf result LiveFault.Full ↔ (self.old.next + 1 ≡ 2 ^ 64) }
+        ensures device { IsErrOf result LiveFault.Journal ↔ (S.failures self.old.sink < S.failures self.new.sink) }
     {
         if self.next == u64::MAX {
             return Err(LiveFault::Full);
@@ -120,9 +132,12 @@ impl<S: Sink> Journal<S> {
 }
 
 impl<S: Durable> Journal<S> {
-    /// Puts all lines on the disk.
+    /// Puts all lines on the disk. It fails where the sink does, and only there.
     #[tactic(auto, using(crate::proofs::Onwards::holds_kept))]
     pub fn sync(&mut self) -> Result<(), LiveFault>
+        ensures on_disk { OnOk result (S.on_disk self.new.sink ≡ S.written self.new.sink) }
+        ensures calm { OnOk result (S.failures self.new.sink ≡ S.failures self.old.sink) }
+        ensures failed { OnErr result (S.failures self.new.sink ≡ S.failures self.old.sink + 1) }
         ensures same { IsSameJournal self.old self.new }
         ensures holds { (history : List Event) → Holds S.written self.old history → Holds S.written self.new history }
     {

@@ -20,13 +20,13 @@ use std::os::fd::AsRawFd;
 use std::random::RandomSource;
 use std::rt::Clock;
 
-/// Runs a host of 1 to 256 streams over this link until its clients are done. The system waits for the link by this number. Lines come
-/// from the reader, and answers go to the output. The journal goes on in the sink, of which this was read. It is refused where batches are to
-/// be started for which it has no lines.
+/// Runs a host of 1 to 256 streams over this link until its clients are done. The system waits for the link by this number. A host that sends
+/// takes lines from the reader, and one that receives leaves it alone; answers and messages go to the output. The journal goes on in the sink, of
+/// which this was read. It is refused where batches are to be started for which it has no lines.
 pub fn run_process<
     R: AllocGlobal + Clock + Eprint + RandomSource,
     I: Read + AsRawFd + Drop,
-    O: Write + Drop,
+    O: Write + AsRawFd + Drop,
     L: Link + Drop,
     S: Durable + Drop,
 >(
@@ -47,6 +47,7 @@ pub fn run_process<
     let desk = Desk {
         reader_number: reader.as_raw_fd(),
         reader,
+        output_number: output.as_raw_fd(),
         output,
         socket_number: number,
         input: Input::new(alloc)?,

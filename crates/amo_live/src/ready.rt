@@ -7,28 +7,56 @@ use std::thread;
 /// sooner than a sleeper wakes.
 const LOOKS: u32 = 64;
 
-/// Waits until there is something to read from one of the two, or for so many milliseconds; without a limit where that is negative. Whether
-/// there is something to read from the first one. A negative number is not waited for.
-pub fn wait(first: i32, second: i32, limit: i32) -> bool {
+/// What a host waits for, by the numbers that the system has for them. A negative number is not waited for.
+#[derive(Clone, Copy, Debug)]
+pub struct Waited {
+    /// Where lines come from.
+    pub lines: i32,
+    /// Where datagrams come from.
+    pub socket: i32,
+    /// Where messages go: it is waited for only to be gone, as a pipe that nobody will read any more.
+    pub output: i32,
+}
+
+/// What there was when a host had waited.
+#[derive(Clone, Copy, Debug)]
+pub struct Ready {
+    /// Lines may have come, or their end.
+    pub lines: bool,
+    /// The output is gone.
+    pub is_gone: bool,
+}
+
+/// Waits until something has come or the output is gone, or for so many milliseconds; without a limit where that is negative.
+pub fn wait(what: Waited, limit: i32) -> Ready {
     let mut waited = [
-        pollfd {
-            fd: first,
-            events: net::POLLIN,
-            revents: 0,
-        },
-        pollfd {
-            fd: second,
-            events: net::POLLIN,
-            revents: 0,
-        },
+        watched(what.lines, net::POLLIN),
+        watched(what.socket, net::POLLIN),
+        watched(what.output, 0),
     ];
     let looks = if limit == 0 { 0 } else { LOOKS };
     for _look in 0..looks {
         if net::poll(&mut waited, 0) != 0 {
-            return waited[0].revents != 0;
+            return found_in(&waited);
         }
         thread::yield_now();
     }
     net::poll(&mut waited, limit);
-    waited[0].revents != 0
+    found_in(&waited)
+}
+
+/// That number, for these events and for faults.
+fn watched(number: i32, events: i16) -> pollfd {
+    pollfd {
+        fd: number,
+        events,
+        revents: 0,
+    }
+}
+
+fn found_in(waited: &[pollfd; 3]) -> Ready {
+    Ready {
+        lines: waited[0].revents != 0,
+        is_gone: waited[2].revents != 0,
+    }
 }

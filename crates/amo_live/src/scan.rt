@@ -1,8 +1,8 @@
 //! Reads a journal in pieces: of which version it is, where it ends, and which words it has.
-ghost use Rattle.std.specs.Prelude.{◌≡◌, ◌≢◌, ◌+◌, ◌++◌, ◌∷◌, ◌⊎◌, ◌↔◌, ℕ, List, [], length, IfErr, IfSome, IsOk, IsSome, IsTrue, OnOk, true, unwrap_or};
+ghost use Rattle.std.specs.Prelude.{◌≡◌, ◌≢◌, ◌+◌, ◌≤◌, ◌++◌, ◌∷◌, ◌⊎◌, ◌↔◌, ℕ, List, [], length, IfErr, IfSome, IsOk, IsSome, IsTrue, OnOk, true, unwrap_or};
 ghost use Rattle.amo_text.specs.Line.{Lacks};
 ghost use Rattle.amo_journal.specs.Version.{heading};
-ghost use Rattle.amo_live.specs.Scan.{BeginsHeading, BeginsJournal, BeginsLine, IsTooLong, Scanned};
+ghost use Rattle.amo_live.specs.Scan.{Agree, Begins, BeginsAct, BeginsHeading, BeginsJournal, BeginsLine, BeginsStream, IsTooLong, Scanned, first_front};
 ghost use Rattle.amo_live.specs.Words.{with_act};
 
 use crate::{OpenFault, UsedWords};
@@ -10,7 +10,7 @@ use amo_core::Act;
 use amo_journal::{Version, read_line};
 use amo_object::End;
 use amo_packet::MAX_PACKET;
-use amo_text::next_line;
+use amo_text::{next_field, next_line, read_stream};
 use amo_world::Event;
 use std::alloc::{AllocError, Global};
 use std::marker::Model;
@@ -117,11 +117,11 @@ impl Scan {
 
     /// All was read. A file without a whole line is a journal only where what it has begins one: else it is somebody else's, and must not be cut.
     pub fn end(&self) -> Result<(), OpenFault>
-        ensures ok { IsOk result ↔ (IsSome self.now.version ⊎ BeginsJournal self.now.rest) }
-        ensures malformed { IfErr result (λ fault. fault ≡ OpenFault.Malformed 1) }
+        ensures ok { IsOk result ↔ (IsSome self.now.version ⊎ BeginsJournal self.now.side self.now.rest) }
+        ensures foreign { IfErr result (λ fault. fault ≡ OpenFault.Foreign) }
     {
-        if self.version.is_none() && !begins_journal(self.rest.as_slice()) {
-            return Err(OpenFault::Malformed(1));
+        if self.version.is_none() && !begins_journal(self.side, self.rest.as_slice()) {
+            return Err(OpenFault::Foreign);
         }
         Ok(())
     }
@@ -225,25 +225,76 @@ impl Scan {
     }
 }
 
-/// Whether a journal of either version may begin so, in front of the end of its first line.
-fn begins_journal(text: &[u8]) -> bool
-    ensures { IsTrue result ↔ BeginsJournal text.now }
+/// Whether a journal of this side, of either version, may begin so, in front of the end of its first line.
+fn begins_journal(side: End, text: &[u8]) -> bool
+    ensures { IsTrue result ↔ BeginsJournal side text.now }
 {
-    begins_first_line(text) || begins_heading(text)
+    begins_first_line(side, text) || begins_heading(text)
 }
 
-/// Whether an event's first line may begin so.
-fn begins_first_line(text: &[u8]) -> bool
-    ensures { IsTrue result ↔ BeginsLine text.now }
+/// Whether the first line of an event may begin so.
+#[tactic(auto, using(crate::proofs::Beginnings::behind_front))]
+fn begins_first_line(side: End, text: &[u8]) -> bool
+    ensures { IsTrue result ↔ BeginsLine side text.now }
 {
-    matches!(text, [] | [b'0'] | [b'0', b' ', ..])
+    let front = front_for(side);
+    if begins(text, front) {
+        begins_stream(side, &text[front.len()..])
+    } else {
+        begins(front, text)
+    }
+}
+
+/// Whether it may go on so behind the side: with a stream, and an act of which the first line can tell.
+fn begins_stream(side: End, text: &[u8]) -> bool
+    ensures { IsTrue result ↔ BeginsStream side text.now }
+{
+    match next_field(text) {
+        Some((stream, act)) => read_stream(stream).is_some() && begins_act(side, act),
+        None => text.is_empty() || read_stream(text).is_some(),
+    }
+}
+
+/// Whether it may go on so behind the stream.
+fn begins_act(side: End, text: &[u8]) -> bool
+    ensures { IsTrue result ↔ BeginsAct side text.now }
+{
+    match side {
+        End::Sender => agree(text, b"put "),
+        End::Receiver => agree(text, b"deliver ") || agree(text, b"get "),
+    }
+}
+
+/// Whether one of two texts begins with the other.
+fn agree(one: &[u8], other: &[u8]) -> bool
+    ensures { IsTrue result ↔ Agree one.now other.now }
+{
+    begins(one, other) || begins(other, one)
+}
+
+/// What stands in front of the stream in the first line of an event.
+fn front_for(side: End) -> &'static [u8]
+    ensures { result.now ≡ first_front side }
+{
+    match side {
+        End::Sender => b"0 1 s ",
+        End::Receiver => b"0 1 r ",
+    }
 }
 
 /// Whether the heading of version 2 begins so.
 fn begins_heading(text: &[u8]) -> bool
     ensures { IsTrue result ↔ BeginsHeading text.now }
 {
-    Version::Two.heading().starts_with(text)
+    begins(Version::Two.heading(), text)
+}
+
+/// Whether a text begins so.
+fn begins(text: &[u8], front: &[u8]) -> bool
+    ensures begins { IsTrue result ↔ Begins text.now front.now }
+    ensures bound { IsTrue result → length front.now ≤ length text.now }
+{
+    text.starts_with(front)
 }
 
 /// Whether this is the heading of version 2, in front of its end.

@@ -1,11 +1,13 @@
 //! What a live host does with datagrams, times and its clients' messages.
-ghost use Rattle.std.specs.Prelude.{◌≡◌, [], IfOk, OnOk, is_some, length};
-ghost use Rattle.amo_packet.specs.Packet.{body_of};
-ghost use Rattle.amo_packet.specs.Grammar.{messages_of};
+ghost use Rattle.std.specs.Prelude.{◌≡◌, ℕ, [], IfOk, OnOk, is_some, length};
+ghost use Rattle.amo_packet.specs.Packet.{body_of, packet_of};
+ghost use Rattle.amo_packet.specs.Grammar.{Spells, messages_of};
+ghost use Rattle.amo_journal.specs.Version.{newest};
 ghost use Rattle.amo_live.specs.Client.{has};
-ghost use Rattle.amo_live.specs.Host.{Did, IsNoted, Puts};
+ghost use Rattle.amo_live.specs.Host.{Delivered, Did, IsNoted, Puts};
 ghost use Rattle.amo_live.specs.Service.{PutsNone, got_by, new_version, shown_by, spelling_of, start_of, starts_batches, streams_of, words_of};
 ghost use Rattle.amo_live.specs.Shown.{ShowsMore};
+ghost use Rattle.amo_live.specs.Words.{BearsNew};
 
 use crate::lines::{Spelling, Word, push_message, push_word};
 use crate::timer::Timer;
@@ -78,6 +80,10 @@ pub struct Service<L, S, W> {
     owed: u64,
     /// A batch came for which the journal has no line.
     missed: bool,
+    /// A datagram came when it heard last.
+    heard: bool,
+    /// A stream that it has not, for which a packet came.
+    foreign: Option<u32>,
 }
 
 /// How a service is set up.
@@ -93,7 +99,7 @@ pub struct Setup {
     pub each: bool,
     /// The messages that wait on a stream travel together, at most four, if the journal has lines for that.
     pub batch: bool,
-    /// How many messages are got at most.
+    /// How many messages are wanted. Those that came with the last of them are got too: left behind, a batch's rest would be lost.
     pub most: u64,
     /// How messages and answers are spelt.
     pub spelling: Spelling,
@@ -140,6 +146,8 @@ impl<L: Link + Drop, S: Sink + Drop, W: Words + Drop> Service<L, S, W> {
             got: 0,
             owed: 0,
             missed: false,
+            heard: false,
+            foreign: None,
         })
     }
 }
@@ -168,6 +176,7 @@ impl<L: Link, S: Sink, W: Words> Service<L, S, W> {
         ensures host { self.new.host ≡ self.old.host }
         ensures streams { streams_of self.new ≡ streams_of self.old }
         ensures shown { shown_by self.new ≡ [] }
+        ensures words { words_of self.new ≡ words_of self.old }
         ensures spelling { spelling_of self.new ≡ spelling_of self.old }
     {
         self.shown.clear();
@@ -180,6 +189,13 @@ impl<L: Link, S: Sink, W: Words> Service<L, S, W> {
         self.lane(stream).is_some()
     }
 
+    /// How many streams it has.
+    pub fn streams(&self) -> usize
+        ensures { result ≡ streams_of self.now }
+    {
+        self.lanes.len()
+    }
+
     /// How many messages were got.
     pub fn got(&self) -> u64
         ensures { result ≡ got_by self.now }
@@ -190,6 +206,16 @@ impl<L: Link, S: Sink, W: Words> Service<L, S, W> {
     /// Whether a batch came for one of its streams for which its journal has no line, and which it took for no packet.
     pub fn has_missed_batch(&self) -> bool {
         self.missed
+    }
+
+    /// Whether a datagram came when it heard last.
+    pub fn has_heard(&self) -> bool {
+        self.heard
+    }
+
+    /// A stream that it has not, for which a packet came, if one did.
+    pub fn foreign_stream(&self) -> Option<u32> {
+        self.foreign
     }
 
     /// Whether no stream waits for its peer, and each client has its answers.
@@ -223,6 +249,7 @@ impl<L: Link, S: Sink, W: Words> Service<L, S, W> {
         ensures host { self.new.host ≡ self.old.host }
         ensures streams { streams_of self.new ≡ streams_of self.old }
         ensures shown { (shown_by self.new ≡ shown_by self.old) × (self.new.setup ≡ self.old.setup) }
+        ensures words { words_of self.new ≡ words_of self.old }
     {
         let Some(place) = (stream as usize).checked_sub(1) else {
             return;
@@ -237,6 +264,7 @@ impl<L: Link, S: Sink, W: Words> Service<L, S, W> {
         ensures host { self.new.host ≡ self.old.host }
         ensures streams { streams_of self.new ≡ streams_of self.old }
         ensures shown { (shown_by self.new ≡ shown_by self.old) × (self.new.setup ≡ self.old.setup) }
+        ensures words { words_of self.new ≡ words_of self.old }
     {
         if let Some(lane) = self.lane(stream) {
             let mut lane = lane;
@@ -247,7 +275,7 @@ impl<L: Link, S: Sink, W: Words> Service<L, S, W> {
 
     /// Puts a message on a stream, and begins its handshake if the stream is at rest. A message that is not taken comes back: the stream
     /// is full, or has no answer yet to the one before.
-    #[tactic(auto, using(crate::proofs::Putting::was_put, crate::proofs::Putting::was_refused))]
+    #[tactic(auto, using(crate::proofs::Putting::was_put, crate::proofs::Putting::was_refused, crate::proofs::Fresh::bears_none))]
     pub fn put(
         &mut self,
         stream: u32,
@@ -260,6 +288,7 @@ impl<L: Link, S: Sink, W: Words> Service<L, S, W> {
         ensures streams { streams_of self.new ≡ streams_of self.old }
         ensures shown { OnOk result (ShowsMore (spelling_of self.old) self.old.host.pass self.new.host.pass (shown_by self.old) (shown_by self.new)) }
         ensures spelling { spelling_of self.new ≡ spelling_of self.old }
+        ensures words { OnOk result (BearsNew (words_of self.old) (words_of self.new) self.old.host.pass self.new.host.pass) }
     {
         let Some(lane) = self.lane(stream) else {
             return Ok(Some(message));
@@ -283,6 +312,7 @@ impl<L: Link, S: Sink, W: Words> Service<L, S, W> {
         ensures host { self.new.host ≡ self.old.host }
         ensures streams { streams_of self.new ≡ streams_of self.old }
         ensures shown { (shown_by self.new ≡ shown_by self.old) × (self.new.setup ≡ self.old.setup) }
+        ensures words { words_of self.new ≡ words_of self.old }
     {
         if !lane.owed {
             self.owed = self.owed.saturating_add(1);
@@ -299,7 +329,7 @@ impl<L: Link, S: Sink, W: Words> Service<L, S, W> {
     }
 
     /// Begins the handshake of a stream's next messages, if its sender is at rest and one waits.
-    #[tactic(auto, using(crate::proofs::Putting::start_puts))]
+    #[tactic(auto, using(crate::proofs::Putting::start_puts, crate::proofs::Fresh::bears_none))]
     fn begin(&mut self, stream: u32, now: u64) -> Result<(), LiveFault>
         requires { IsNoted S.written self.old.host }
         ensures noted { OnOk result (IsNoted S.written self.new.host) }
@@ -307,6 +337,7 @@ impl<L: Link, S: Sink, W: Words> Service<L, S, W> {
         ensures streams { streams_of self.new ≡ streams_of self.old }
         ensures shown { OnOk result (ShowsMore (spelling_of self.old) self.old.host.pass self.new.host.pass (shown_by self.old) (shown_by self.new)) }
         ensures spelling { spelling_of self.new ≡ spelling_of self.old }
+        ensures words { OnOk result (BearsNew (words_of self.old) (words_of self.new) self.old.host.pass self.new.host.pass) }
     {
         let Some(lane) = self.lane(stream) else {
             return Ok(());
@@ -314,18 +345,33 @@ impl<L: Link, S: Sink, W: Words> Service<L, S, W> {
         if lane.mode != Mode::Quiet || lane.waiting == 0 {
             return Ok(());
         }
-        let Some(word) = self.words.peek() else {
-            return Ok(());
-        };
-        if let Some(mode) = self.start(stream, word)? {
+        if let Some(mode) = self.start_anew(stream)? {
             if mode == Mode::NeedId {
-                self.words.use_up()?;
                 let waiting = lane.waiting.saturating_sub(self.most_at_once());
                 self.set_lane(stream, Lane { waiting, ..lane });
             }
             self.enter(stream, mode, false, now);
         }
         Ok(())
+    }
+
+    /// Begins a handshake on a stream under the next word, which is used up by that, if its sender is at rest and a message waits.
+    #[tactic(auto, using(crate::proofs::Fresh::bears_none, crate::proofs::Fresh::bears_word, crate::proofs::Fresh::start_bears, crate::proofs::Fresh::idle_bears))]
+    fn start_anew(&mut self, stream: u32) -> Result<Option<Mode>, LiveFault>
+        requires { IsNoted S.written self.old.host }
+        ensures noted { OnOk result (IsNoted S.written self.new.host) }
+        ensures did { IfOk result (λ mode. (word : ℕ) × Did self.old.host self.new.host stream (start_of self.old.setup.batch self.old.host.journal.version word) mode) }
+        ensures words { OnOk result (BearsNew (words_of self.old) (words_of self.new) self.old.host.pass self.new.host.pass) }
+        ensures same { self.new ≡ record self.old { host = self.new.host; words = self.new.words } }
+    {
+        let Some(word) = self.words.peek() else {
+            return Ok(None);
+        };
+        let Some(mode) = self.start(stream, word)? else {
+            return Ok(None);
+        };
+        self.words.use_up()?;
+        Ok(Some(mode))
     }
 
     /// Begins a handshake on a stream under this word, if its sender is at rest and a message waits: for one message, or for those that travel
@@ -359,6 +405,7 @@ impl<L: Link, S: Sink, W: Words> Service<L, S, W> {
     }
 
     /// Takes the datagrams that have come, up to a bound.
+    #[tactic(auto, using(crate::proofs::Fresh::bears_none))]
     pub fn hear(&mut self, now: u64) -> Result<(), LiveFault>
         requires { IsNoted S.written self.old.host }
         ensures noted { OnOk result (IsNoted S.written self.new.host) }
@@ -366,18 +413,22 @@ impl<L: Link, S: Sink, W: Words> Service<L, S, W> {
         ensures streams { streams_of self.new ≡ streams_of self.old }
         ensures shown { OnOk result (ShowsMore (spelling_of self.old) self.old.host.pass self.new.host.pass (shown_by self.old) (shown_by self.new)) }
         ensures spelling { spelling_of self.new ≡ spelling_of self.old }
+        ensures words { OnOk result (BearsNew (words_of self.old) (words_of self.new) self.old.host.pass self.new.host.pass) }
     {
         let mut buffer = [0; MAX_DATAGRAM];
+        self.heard = false;
         'datagrams: for _datagram in 0..MOST_DATAGRAMS {
             let Some(length) = self.host.hear(&mut buffer) else {
                 break;
             };
+            self.heard = true;
             self.deliver(&buffer[..length], now)?;
         }
         Ok(())
     }
 
     /// Delivers a datagram.
+    #[tactic(auto, using(crate::proofs::Fresh::bears_none))]
     fn deliver(&mut self, bytes: &[u8], now: u64) -> Result<(), LiveFault>
         requires { IsNoted S.written self.old.host }
         ensures noted { OnOk result (IsNoted S.written self.new.host) }
@@ -385,23 +436,22 @@ impl<L: Link, S: Sink, W: Words> Service<L, S, W> {
         ensures streams { streams_of self.new ≡ streams_of self.old }
         ensures shown { OnOk result (ShowsMore (spelling_of self.old) self.old.host.pass self.new.host.pass (shown_by self.old) (shown_by self.new)) }
         ensures spelling { spelling_of self.new ≡ spelling_of self.old }
+        ensures words { OnOk result (BearsNew (words_of self.old) (words_of self.new) self.old.host.pass self.new.host.pass) }
     {
         let Ok(packet) = self.host.read(bytes) else {
             self.miss(bytes);
             return Ok(());
         };
-        let Some(word) = self.word_for(&packet) else {
+        if !self.has(packet.stream) {
+            self.foreign = Some(packet.stream);
             return Ok(());
-        };
-        let Some((stream, mode)) = self.host.deliver(bytes, word)? else {
+        }
+        let Some((stream, mode)) = self.deliver_anew(&packet, bytes)? else {
             return Ok(());
         };
         let Some(lane) = self.lane(stream) else {
             return Ok(());
         };
-        if lane.mode == Mode::Idle && mode == Mode::Accept {
-            self.words.use_up()?;
-        }
         self.arrive(stream, mode, brought_by(&packet), now);
         self.go_on(stream, lane.mode, mode, now)
     }
@@ -411,6 +461,7 @@ impl<L: Link, S: Sink, W: Words> Service<L, S, W> {
         ensures host { self.new.host ≡ self.old.host }
         ensures streams { streams_of self.new ≡ streams_of self.old }
         ensures shown { (shown_by self.new ≡ shown_by self.old) × (self.new.setup ≡ self.old.setup) }
+        ensures words { words_of self.new ≡ words_of self.old }
     {
         let is_missed = match read(bytes) {
             Ok(
@@ -429,6 +480,7 @@ impl<L: Link, S: Sink, W: Words> Service<L, S, W> {
         ensures host { self.new.host ≡ self.old.host }
         ensures streams { streams_of self.new ≡ streams_of self.old }
         ensures shown { (shown_by self.new ≡ shown_by self.old) × (self.new.setup ≡ self.old.setup) }
+        ensures words { words_of self.new ≡ words_of self.old }
     {
         if let Some(lane) = self.lane(stream) {
             let holds_more = mode == Mode::Rcvd && lane.mode != Mode::Rcvd;
@@ -439,6 +491,7 @@ impl<L: Link, S: Sink, W: Words> Service<L, S, W> {
     }
 
     /// Goes on where a packet was delivered on a stream, whose side went from one mode into another.
+    #[tactic(auto, using(crate::proofs::Fresh::bears_none))]
     fn go_on(&mut self, stream: u32, before: Mode, after: Mode, now: u64) -> Result<(), LiveFault>
         requires { IsNoted S.written self.old.host }
         ensures noted { OnOk result (IsNoted S.written self.new.host) }
@@ -446,6 +499,7 @@ impl<L: Link, S: Sink, W: Words> Service<L, S, W> {
         ensures streams { streams_of self.new ≡ streams_of self.old }
         ensures shown { OnOk result (ShowsMore (spelling_of self.old) self.old.host.pass self.new.host.pass (shown_by self.old) (shown_by self.new)) }
         ensures spelling { spelling_of self.new ≡ spelling_of self.old }
+        ensures words { OnOk result (BearsNew (words_of self.old) (words_of self.new) self.old.host.pass self.new.host.pass) }
     {
         match after {
             Mode::Rcvd => self.get_all(stream, now),
@@ -454,16 +508,36 @@ impl<L: Link, S: Sink, W: Words> Service<L, S, W> {
         }
     }
 
-    /// The word that a packet is delivered with: the next one for a needuid, 0 for any other. None where no word is left.
-    fn word_for(&self, packet: &Packet<'_>) -> Option<u64> {
-        match packet.body {
-            Body::NeedUid(_) => self.words.peek(),
-            _ => Some(0),
-        }
+    /// Delivers the packet that a datagram is: a needuid under the next word, which is used up by that, and any other under none.
+    #[tactic(auto, using(crate::proofs::Fresh::bears_none, crate::proofs::Fresh::bears_word, crate::proofs::Fresh::none_delivered))]
+    fn deliver_anew(
+        &mut self,
+        packet: &Packet<'_>,
+        bytes: &[u8],
+    ) -> Result<Option<(u32, Mode)>, LiveFault>
+        requires noted { IsNoted S.written self.old.host }
+        requires spelt { Spells (newest self.old.host.journal.version) bytes.now (packet_of packet.now) }
+        ensures noted { OnOk result (IsNoted S.written self.new.host) }
+        ensures delivered { IfOk result (λ did. (word : ℕ) × Delivered self.old.host self.new.host bytes.now word did) }
+        ensures words { OnOk result (BearsNew (words_of self.old) (words_of self.new) self.old.host.pass self.new.host.pass) }
+        ensures same { self.new ≡ record self.old { host = self.new.host; words = self.new.words } }
+    {
+        let Body::NeedUid(_) = packet.body else {
+            return self.host.deliver(bytes, 0);
+        };
+        let Some(word) = self.words.peek() else {
+            return Ok(None);
+        };
+        let Some(did) = self.host.deliver(bytes, word)? else {
+            return Ok(None);
+        };
+        self.words.use_up()?;
+        Ok(Some(did))
     }
 
-    /// Gets the messages that have come to a stream, in their order, and acknowledges them together. Where no more are wanted it stops: those that
-    /// are left stay where they are, and no ack leaves.
+    /// Gets the messages that have come to a stream, in their order, and acknowledges them together. Where no more are wanted they stay where
+    /// they are, and no ack leaves.
+    #[tactic(auto, using(crate::proofs::Fresh::bears_none))]
     fn get_all(&mut self, stream: u32, now: u64) -> Result<(), LiveFault>
         requires { IsNoted S.written self.old.host }
         ensures noted { OnOk result (IsNoted S.written self.new.host) }
@@ -471,10 +545,14 @@ impl<L: Link, S: Sink, W: Words> Service<L, S, W> {
         ensures streams { streams_of self.new ≡ streams_of self.old }
         ensures shown { OnOk result (ShowsMore (spelling_of self.old) self.old.host.pass self.new.host.pass (shown_by self.old) (shown_by self.new)) }
         ensures spelling { spelling_of self.new ≡ spelling_of self.old }
+        ensures words { OnOk result (BearsNew (words_of self.old) (words_of self.new) self.old.host.pass self.new.host.pass) }
     {
         let Some(lane) = self.lane(stream) else {
             return Ok(());
         };
+        if self.got >= self.setup.most {
+            return Ok(());
+        }
         'messages: for _message in 0..lane.held {
             if !self.get(stream)? {
                 return Ok(());
@@ -485,7 +563,8 @@ impl<L: Link, S: Sink, W: Words> Service<L, S, W> {
         Ok(())
     }
 
-    /// Gets the next message that has come to a stream, if one is wanted. Answers whether it did.
+    /// Gets the next message that has come to a stream. Answers whether it did.
+    #[tactic(auto, using(crate::proofs::Fresh::bears_none))]
     fn get(&mut self, stream: u32) -> Result<bool, LiveFault>
         requires { IsNoted S.written self.old.host }
         ensures noted { OnOk result (IsNoted S.written self.new.host) }
@@ -493,10 +572,8 @@ impl<L: Link, S: Sink, W: Words> Service<L, S, W> {
         ensures streams { streams_of self.new ≡ streams_of self.old }
         ensures shown { OnOk result (ShowsMore (spelling_of self.old) self.old.host.pass self.new.host.pass (shown_by self.old) (shown_by self.new)) }
         ensures spelling { spelling_of self.new ≡ spelling_of self.old }
+        ensures words { OnOk result (BearsNew (words_of self.old) (words_of self.new) self.old.host.pass self.new.host.pass) }
     {
-        if self.got >= self.setup.most {
-            return Ok(false);
-        }
         let Some(message) = self.host.get(stream)? else {
             return Ok(false);
         };
@@ -510,6 +587,7 @@ impl<L: Link, S: Sink, W: Words> Service<L, S, W> {
     }
 
     /// A handshake is over: the stream's next one begins, or its client is told what became of the last message.
+    #[tactic(auto, using(crate::proofs::Fresh::bears_none))]
     fn settle(&mut self, stream: u32, now: u64) -> Result<(), LiveFault>
         requires { IsNoted S.written self.old.host }
         ensures noted { OnOk result (IsNoted S.written self.new.host) }
@@ -517,6 +595,7 @@ impl<L: Link, S: Sink, W: Words> Service<L, S, W> {
         ensures streams { streams_of self.new ≡ streams_of self.old }
         ensures shown { OnOk result (ShowsMore (spelling_of self.old) self.old.host.pass self.new.host.pass (shown_by self.old) (shown_by self.new)) }
         ensures spelling { spelling_of self.new ≡ spelling_of self.old }
+        ensures words { OnOk result (BearsNew (words_of self.old) (words_of self.new) self.old.host.pass self.new.host.pass) }
     {
         let Some(lane) = self.lane(stream) else {
             return Ok(());
@@ -541,6 +620,7 @@ impl<L: Link, S: Sink, W: Words> Service<L, S, W> {
     }
 
     /// Sends again what is due.
+    #[tactic(auto, using(crate::proofs::Fresh::bears_none))]
     pub fn resend(&mut self, now: u64) -> Result<(), LiveFault>
         requires { IsNoted S.written self.old.host }
         ensures noted { OnOk result (IsNoted S.written self.new.host) }
@@ -548,6 +628,7 @@ impl<L: Link, S: Sink, W: Words> Service<L, S, W> {
         ensures streams { streams_of self.new ≡ streams_of self.old }
         ensures shown { OnOk result (ShowsMore (spelling_of self.old) self.old.host.pass self.new.host.pass (shown_by self.old) (shown_by self.new)) }
         ensures spelling { spelling_of self.new ≡ spelling_of self.old }
+        ensures words { OnOk result (BearsNew (words_of self.old) (words_of self.new) self.old.host.pass self.new.host.pass) }
     {
         let streams = self.setup.streams;
         'streams: for place in 0..streams {

@@ -1,19 +1,22 @@
 //! The socket of a live host. Whatever it says, the host goes on.
 ghost use Rattle.std.specs.Prelude.{◌≡◌, ◌+◌, ◌<◌, IfOk};
 
+use crate::{Cause, SocketFault};
 use amo_net::{Link, LinkFault, MAX_DATAGRAM};
 use amo_text::Failures;
 use std::io;
 use std::io::ErrorKind;
 use std::marker::Model;
-use std::net::{Net, UdpSocket};
+use std::net::{Net, SocketAddr, UdpSocket};
 use std::os::fd::AsRawFd;
 use std::sync::ledger::{Blank, Ledger};
 
-/// A socket that is connected to its peer, and that can be waited for. Contracts see how many of its calls have failed.
+/// A socket that is connected to its peer, and that can be waited for. It hands out what the peer sent, and nothing else. Contracts see how many
+/// of its calls have failed.
 #[derive(Drop)]
 pub struct Socket<L: Ledger> {
     socket: UdpSocket,
+    peer: SocketAddr,
     failures: Failures<L>,
 }
 
@@ -27,21 +30,31 @@ impl<L: Ledger> Model for Socket<L> {
 
 impl<L: Ledger> Socket<L> {
     /// A socket at one address, connected to the peer at another, no call of which waits or has failed. From now on the system drops what
-    /// others send.
+    /// others send. What they sent before waits in it, and is not handed out.
     ///
     /// The blank becomes the ledger in which contracts count failures. It takes no bytes.
-    pub fn open<R: Net>(rt: &R, listen: &str, peer: &str, blank: Blank) -> io::Result<Socket<L>>
+    pub fn open<R: Net>(
+        rt: &R,
+        listen: &str,
+        peer: &str,
+        blank: Blank,
+    ) -> Result<Socket<L>, SocketFault>
         requires name { blank.name ≡ L.name }
         requires parts { blank.parts ≡ L.parts }
         requires some { 0 < L.parts }
         ensures calm { IfOk result (λ socket. socket ≡ 0) }
     {
-        // Where a standard stream is closed, the socket has its number, and sends what is shown there. A clone has a number of its own.
-        let socket = UdpSocket::bind(rt, listen)?.try_clone()?;
-        socket.connect(peer)?;
-        socket.set_nonblocking(true)?;
+        let socket = match bound(rt, listen) {
+            Ok(socket) => socket,
+            Err(error) => return Err(SocketFault::Listen(Cause::from(error))),
+        };
+        let peer = match connected(&socket, peer) {
+            Ok(peer) => peer,
+            Err(error) => return Err(SocketFault::Peer(Cause::from(error))),
+        };
         Ok(Socket {
             socket,
+            peer,
             failures: Failures::new(blank),
         })
     }
@@ -53,6 +66,14 @@ impl<L: Ledger> Socket<L> {
     {
         self.failures.count();
         LinkFault::Device
+    }
+
+    /// Where it listens. The port is the one that the system chose, where it was left to choose.
+    pub fn address(&self) -> Result<SocketAddr, SocketFault> {
+        match self.socket.local_addr() {
+            Ok(address) => Ok(address),
+            Err(error) => Err(SocketFault::Listen(Cause::from(error))),
+        }
     }
 
     /// The number by which the system waits for it.
@@ -73,10 +94,31 @@ impl<L: Ledger> Link for Socket<L> {
     }
 
     fn receive(&mut self, buffer: &mut [u8; MAX_DATAGRAM]) -> Result<Option<usize>, LinkFault> {
-        match self.socket.recv(buffer.as_mut_slice()) {
-            Ok(length) => Ok(Some(length)),
+        match self.socket.recv_from(buffer.as_mut_slice()) {
+            Ok((length, sender)) if is_same(sender, self.peer) => Ok(Some(length)),
+            // It came before the socket was connected. Others may stand behind it: there are as many at most as the system keeps for a socket.
+            Ok(_) => Ok(None),
             Err(error) if error.kind() == ErrorKind::WouldBlock => Ok(None),
             Err(_) => Err(self.failed()),
         }
     }
+}
+
+/// A socket at this address, no call of which waits.
+fn bound<R: Net>(rt: &R, listen: &str) -> io::Result<UdpSocket> {
+    // Where a standard stream is closed, the socket has its number, and sends what is shown there. A clone has a number of its own.
+    let socket = UdpSocket::bind(rt, listen)?.try_clone()?;
+    socket.set_nonblocking(true)?;
+    Ok(socket)
+}
+
+/// Connects a socket to the peer at this address, and answers which that is.
+fn connected(socket: &UdpSocket, peer: &str) -> io::Result<SocketAddr> {
+    socket.connect(peer)?;
+    socket.peer_addr()
+}
+
+/// Whether two addresses are of one socket. Of an address of IPv6 the system tells more at some calls than at others.
+fn is_same(one: SocketAddr, other: SocketAddr) -> bool {
+    one.ip() == other.ip() && one.port() == other.port()
 }

@@ -1,12 +1,15 @@
 //! A live host's turns: it waits for its socket and its clients' lines, and does what has come.
-ghost use Rattle.std.specs.Prelude.{◌≡◌, ℕ, List, [], ◌∷◌, None, IfOk, OnOk};
+ghost use Rattle.std.specs.Prelude.{◌≡◌, ◌≢◌, ℕ, List, [], ◌∷◌, None, true, false, IfOk, OnOk};
 ghost use Rattle.std.specs.Io.KnownBytes.{Appends, Consumes};
-ghost use Rattle.amo_live.specs.Client.{Moves, Serves, Waits, message_of, moment};
+ghost use Rattle.amo_live.specs.Client.{Moves, Serves, Waits, is_torn, message_of, moment};
 ghost use Rattle.amo_live.specs.Host.{IsNoted};
 ghost use Rattle.amo_live.specs.Service.{shown_by, spelling_of, streams_of};
 ghost use Rattle.amo_live.specs.Shown.{IsShown, ShowsMore};
+ghost use Rattle.amo_live.specs.declared.turns.Ended.TheVariants.{AtRest};
 
-use crate::ready::wait;
+use crate::lines::LineFault;
+use crate::notices::Notices;
+use crate::ready::{Waited, wait};
 use crate::{Durable, Input, Line, LiveFault, ServeFault, Service, Spelling};
 use amo_net::Link;
 use amo_packet::Message;
@@ -20,6 +23,9 @@ const LINGER: u64 = 1_000_000;
 
 /// The longest that it waits without looking up, in microseconds.
 const LONGEST: u64 = 60_000_000;
+
+/// The number of what is not waited for.
+const NOTHING: i32 = -1;
 
 /// When a host ends, and what it does before packets leave.
 #[derive(Clone, Copy, Debug)]
@@ -43,13 +49,15 @@ pub struct Desk<I, O> {
     pub reader_number: i32,
     /// Where answers go.
     pub output: O,
+    /// The number by which the system tells that nobody reads them any more.
+    pub output_number: i32,
     /// The number by which the system waits for the host's socket.
     pub socket_number: i32,
     /// The lines that have come.
     pub input: Input,
     /// How lines are spelt.
     pub spelling: Spelling,
-    /// Lines are messages to be put. Otherwise only their end matters.
+    /// Lines are messages to be put. Otherwise none is read.
     pub puts: bool,
     /// The message that was not taken, which is put again.
     pub kept: Option<(u32, Message)>,
@@ -62,6 +70,8 @@ pub enum Ended {
     AtRest,
     /// Something was still on its way.
     OnItsWay,
+    /// Nothing was on its way, and the last line had no end: it was not put.
+    Torn,
 }
 
 /// Makes one turn after another until the clients are done.
@@ -80,12 +90,17 @@ pub fn serve<C: Clock + Eprint, L: Link, S: Durable, W: Words, I: Read, O: Write
     // What clients are shown are the replies of the host's events, in the order in which they happened.
     ensures shown { OnOk result (IsShown (spelling_of service.old) service.old.host.pass service.new.host.pass (shown_by service.old) (shown_by service.new)
         (O.contents desk.old.output) (O.contents desk.new.output)) }
+    // It does not end at rest where the last line was not taken, as it had no end.
+    ensures whole { IfOk result (λ ended. is_torn desk.new.input ≡ true → ended ≢ AtRest) }
+    ensures unread { OnOk result (desk.old.puts ≡ false → desk.new.reader ≡ desk.old.reader) }
 {
-    let start = Instant::now(rt)?;
+    let start = started(rt)?;
     let mut since: Option<u64> = None;
-    let mut told = false;
+    let mut notices = Notices::new();
+    let mut told_torn = false;
     'turns: for _turn in 0..u64::MAX {
         let now = microseconds(rt, &start)?;
+        notices.tell(rt, service, now);
         let is_over = limits.count.is_some_and(|count| count <= service.got());
         since = if is_over || desk.takes_none() {
             Some(since.unwrap_or(now))
@@ -94,7 +109,7 @@ pub fn serve<C: Clock + Eprint, L: Link, S: Durable, W: Words, I: Read, O: Write
         };
         let is_at_rest = service.is_at_rest() && desk.kept.is_none();
         if let Some(ended) = limits.ending(is_at_rest, since, now) {
-            return Ok(ended);
+            return Ok(desk.ended(ended));
         }
         let until = limits.until(service.next_due(), since);
         turn(
@@ -105,19 +120,9 @@ pub fn serve<C: Clock + Eprint, L: Link, S: Durable, W: Words, I: Read, O: Write
             limits.sync,
             milliseconds(until, now),
         )?;
-        told = told || tell_of_batch(rt, service.has_missed_batch());
+        told_torn = told_torn || desk.tell_of_torn(rt);
     }
     Ok(Ended::OnItsWay)
-}
-
-/// Tells that a batch came for which the journal has no line, if one has. Answers whether it did.
-fn tell_of_batch<C: Eprint>(rt: &C, has_missed_batch: bool) -> bool {
-    if has_missed_batch {
-        let _ = eprintln!(rt;
-            "amo: a batch came, and a journal of version 1 tells of none: begin new journals at both hosts, or send without --batch"
-        );
-    }
-    has_missed_batch
 }
 
 /// One turn, which waits at most so many milliseconds.
@@ -140,6 +145,7 @@ fn turn<C: Clock + Eprint, L: Link, S: Durable, W: Words, I: Read, O: Write>(
     ensures spells { spelling_of service.new ≡ spelling_of service.old }
     ensures spelling { desk.new.spelling ≡ desk.old.spelling }
     ensures puts { desk.new.puts ≡ desk.old.puts }
+    ensures unread { OnOk result (desk.old.puts ≡ false → desk.new.reader ≡ desk.old.reader) }
 {
     desk.wait(limit)?;
     let now = microseconds(rt, start)?;
@@ -226,7 +232,11 @@ fn put_line<C: Eprint, L: Link, S: Durable, W: Words, I: Read, O: Write>(
         Line::Put(stream, message) if desk.puts && service.has(stream) => {
             desk.kept = put_or_keep(service, stream, message, now)?;
         }
-        _ => desk.refuse(rt),
+        Line::Put(stream, _) => {
+            let fault = LineFault::Stream(u64::from(stream));
+            desk.refuse(rt, fault, service.streams());
+        }
+        Line::Unread(fault) => desk.refuse(rt, fault, service.streams()),
     }
     Ok(())
 }
@@ -292,17 +302,66 @@ impl<I: Read, O: Write> Desk<I, O> {
         !self.input.is_open() || self.kept.is_some()
     }
 
-    /// Waits, and reads lines once where some have come. While a message waits to be put again, lines wait too.
+    /// Waits, and reads lines once where some have come. While a message waits to be put again, lines wait too. A host that puts none reads nothing,
+    /// and ends where nobody reads its messages any more.
     fn wait(&mut self, limit: i32) -> Result<(), ServeFault>
+        ensures unread { OnOk result (self.old.puts ≡ false → self.new.reader ≡ self.old.reader) }
         ensures waits { OnOk result ((bytes : List ℕ) × Consumes (I.remaining self.old.reader) (I.remaining self.new.reader) bytes × Waits self.old.input self.new.input bytes) }
         ensures same { self.new ≡ record self.old { reader = self.new.reader; input = self.new.input } }
     {
-        let reads = self.input.is_open() && self.kept.is_none();
-        let number = if reads { self.reader_number } else { -1 };
-        if wait(number, self.socket_number, limit) && reads {
+        let reads = self.reads();
+        let ready = wait(self.waited(reads), limit);
+        if ready.is_gone {
+            return Err(ServeFault::Gone);
+        }
+        if ready.lines && reads {
             self.input.fill(&mut self.reader)?;
         }
         Ok(())
+    }
+
+    /// Whether lines are read now.
+    fn reads(&self) -> bool
+        ensures puts { result ≡ true → self.now.puts ≡ true }
+        ensures opened { result ≡ true → self.now.input.is_open ≡ true }
+    {
+        self.puts && self.input.is_open() && self.kept.is_none()
+    }
+
+    /// What is waited for, where lines are read or not.
+    fn waited(&self, reads: bool) -> Waited {
+        Waited {
+            lines: if reads { self.reader_number } else { NOTHING },
+            socket: self.socket_number,
+            output: if self.puts {
+                NOTHING
+            } else {
+                self.output_number
+            },
+        }
+    }
+
+    /// How a host ended that ended so, by its last line too.
+    fn ended(&self, ended: Ended) -> Ended
+        ensures { is_torn self.now.input ≡ true → result ≢ AtRest }
+    {
+        if !self.input.is_torn() {
+            return ended;
+        }
+        match ended {
+            Ended::OnItsWay => Ended::OnItsWay,
+            Ended::AtRest | Ended::Torn => Ended::Torn,
+        }
+    }
+
+    /// Tells that the last line has no end, if it has none and each line before it was taken. Answers whether it did.
+    fn tell_of_torn<C: Eprint>(&self, rt: &C) -> bool {
+        let is_torn = self.kept.is_none() && self.input.is_torn();
+        if is_torn {
+            let line = self.input.lines().saturating_add(1);
+            let _ = eprintln!(rt; "amo: line {line} has no end");
+        }
+        is_torn
     }
 
     /// Shows these lines to the clients.
@@ -310,26 +369,47 @@ impl<I: Read, O: Write> Desk<I, O> {
         ensures same { self.new ≡ record self.old { output = self.new.output } }
         ensures shown { OnOk result (Appends (O.contents self.old.output) (O.contents self.new.output) shown.now) }
     {
-        if !shown.is_empty() {
-            self.output.write_all(shown)?;
-            self.output.flush()?;
+        if shown.is_empty() {
+            return Ok(());
         }
-        Ok(())
+        match self.output.write_all(shown) {
+            Ok(()) => (),
+            Err(error) => return Err(ServeFault::output(&error)),
+        }
+        match self.output.flush() {
+            Ok(()) => Ok(()),
+            Err(error) => Err(ServeFault::output(&error)),
+        }
     }
 
-    /// Tells that the line that was taken last is none.
-    fn refuse<C: Eprint>(&self, rt: &C) {
+    /// Tells why the line that was taken last is none, at a host of so many streams.
+    fn refuse<C: Eprint>(&self, rt: &C, fault: LineFault, streams: usize) {
         if self.puts {
             let line = self.input.lines();
-            let _ = eprintln!(rt; "amo: line {line} does not read");
+            let _ = match fault {
+                LineFault::Stream(stream) => {
+                    eprintln!(rt; "amo: line {line}: stream {stream} of {streams}")
+                }
+                _ => eprintln!(rt; "amo: line {line}: {fault}"),
+            };
         }
+    }
+}
+
+/// When the turns began.
+fn started<C: Clock>(rt: &C) -> Result<Instant, ServeFault> {
+    match Instant::now(rt) {
+        Ok(start) => Ok(start),
+        Err(_) => Err(ServeFault::Clock),
     }
 }
 
 /// How many microseconds have passed.
 fn microseconds<C: Clock>(rt: &C, start: &Instant) -> Result<u64, ServeFault> {
-    let passed = start.elapsed(rt)?.as_micros();
-    Ok(u64::try_from(passed).unwrap_or(u64::MAX))
+    match start.elapsed(rt) {
+        Ok(passed) => Ok(u64::try_from(passed.as_micros()).unwrap_or(u64::MAX)),
+        Err(_) => Err(ServeFault::Clock),
+    }
 }
 
 /// How many milliseconds there are until a time, rounded up, as the system counts them. Without a time there is no limit.

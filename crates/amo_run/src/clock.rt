@@ -58,7 +58,7 @@ impl Clock {
         match turned {
             // More streams may be due.
             Ok(Turn { resent: true, .. }) => self.left = 0,
-            // The side that is due is busy. Datagrams are taken meanwhile.
+            // The side that is due, or is to start, is busy. Datagrams are taken meanwhile.
             Err(PumpFault::Busy) | Err(PumpFault::NoMemory) => self.left = MOST_TAKEN,
             Ok(_) | Err(PumpFault::NoWord) => *self = Clock::at(self.moment.saturating_add(1)),
         }

@@ -1,9 +1,9 @@
 //! Why the program fails.
 use amo_journal::JournalFault;
-use amo_live::ProcessFault;
+use amo_live::{Cause, LiveFault, OpenFault, ProcessFault, ServeFault, SocketFault};
 use amo_replay::ToolFault;
 use amo_run::RunFault;
-use std::alloc::AllocError;
+use std::alloc::{AllocError, Global};
 use std::io;
 use std::io::ErrorKind;
 use thiserror::Error;
@@ -23,9 +23,75 @@ pub(crate) enum Failure {
     /// A text is the address of no socket, or a name that is not known.
     #[error("amo: no address: {0}")]
     NoAddress(String),
+    /// Standard input is closed, and a host was to read it.
+    #[error("amo: standard input is closed")]
+    InputClosed,
+    /// Standard output is closed, and a host was to write to it.
+    #[error("amo: standard output is closed")]
+    OutputClosed,
+    /// A host's socket did not get this address of its own.
+    #[error("amo: cannot listen on {0}: {1}")]
+    Listen(String, Cause),
+    /// A host's socket could not be connected to its peer at this address.
+    #[error("amo: no way to {0}: {1}")]
+    Peer(String, Cause),
+    /// A host cannot go on with the journal in this file.
+    #[error("amo: {0}: {1}")]
+    Journal(String, OpenFault),
+    /// The file of a host's journal failed while it was written.
+    #[error("amo: {0}: {1}")]
+    Disk(String, Cause),
     /// A host in this process cannot go on.
     #[error("amo: {0}")]
     Host(ProcessFault),
+}
+
+impl Failure {
+    /// A socket that was to be at one address, and connected to another, did not open.
+    pub(crate) fn of_socket(
+        alloc: Global,
+        listen: &str,
+        peer: &str,
+        fault: SocketFault,
+    ) -> Failure {
+        match fault {
+            SocketFault::Listen(cause) => match String::from_str(alloc, listen) {
+                Ok(listen) => Failure::Listen(listen, cause),
+                Err(_) => Failure::NoMemory,
+            },
+            SocketFault::Peer(cause) => match String::from_str(alloc, peer) {
+                Ok(peer) => Failure::Peer(peer, cause),
+                Err(_) => Failure::NoMemory,
+            },
+        }
+    }
+
+    /// The journal in this file cannot be gone on with.
+    pub(crate) fn of_journal(alloc: Global, path: &str, fault: OpenFault) -> Failure {
+        match String::from_str(alloc, path) {
+            Ok(path) if fault != OpenFault::NoMemory => Failure::Journal(path, fault),
+            _ => Failure::NoMemory,
+        }
+    }
+
+    /// A host with a journal in this file cannot go on. If a call on the file failed, this is why.
+    pub(crate) fn of_host(
+        alloc: Global,
+        path: &str,
+        fault: ProcessFault,
+        cause: Option<Cause>,
+    ) -> Failure {
+        match (fault, cause) {
+            (ProcessFault::Open(fault), _) => Failure::of_journal(alloc, path, fault),
+            (ProcessFault::Serve(ServeFault::Host(LiveFault::Journal)), Some(cause)) => {
+                match String::from_str(alloc, path) {
+                    Ok(path) => Failure::Disk(path, cause),
+                    Err(_) => Failure::NoMemory,
+                }
+            }
+            _ => Failure::Host(fault),
+        }
+    }
 }
 
 impl From<ToolFault> for Failure {
@@ -68,17 +134,6 @@ impl From<RunFault> for Failure {
             RunFault::NoMemory => Failure::NoMemory,
             RunFault::Device => Failure::Device,
         }
-    }
-}
-
-impl From<ProcessFault> for Failure {
-    ghost use Rattle.std.specs.Prelude.{◌≡◌};
-    ghost use Rattle.amo_tool.specs.declared.failure.Failure.TheVariants.{Host};
-
-    ghost from_gives = { λ fault failure. failure ≡ Host fault };
-
-    fn from(fault: ProcessFault) -> Failure {
-        Failure::Host(fault)
     }
 }
 

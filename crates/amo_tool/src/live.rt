@@ -3,13 +3,15 @@ ghost use Rattle.std.specs.Prelude.{◌≡◌, ◌<◌, ◌≤◌};
 ghost use Rattle.amo_settings.specs.Limits.{IsHostWithin};
 
 use crate::failure::Failure;
-use amo_live::{Disk, Ended, Plan, ProcessFault, ServeFault, Socket, run_process};
+use amo_live::{Disk, Ended, Opened, Plan, Socket, run_process};
+use amo_object::End;
 use amo_settings::{HostSettings, ReceiveSettings, SendSettings};
+use std::cell::Cell;
 use std::fs;
 use std::fs::File;
 use std::io::{Read, Write};
 use std::marker::Brand;
-use std::net::{Net, ToSocketAddrs};
+use std::net::{Net, SocketAddr, ToSocketAddrs};
 use std::os::fd::AsRawFd;
 use std::random::RandomSource;
 use std::rt::{Clock, Files};
@@ -18,14 +20,20 @@ use std::sync::ledger::{Blank, Ledger};
 /// The status where something was still on its way at the end.
 const ON_ITS_WAY: u8 = 5;
 
-/// The number of standard output. That of standard input is less.
+/// The status where the last line of standard input had no end, and was not put.
+const TORN: u8 = 2;
+
+/// The number of standard input.
+const STANDARD_INPUT: i32 = 0;
+
+/// The number of standard output.
 const STANDARD_OUTPUT: i32 = 1;
 
 /// Puts the messages that come, and tells what became of each. Answers the status to end with.
 pub(crate) fn send_lines<
     R: AllocGlobal + Clock + Eprint + Files<File = File> + Net + RandomSource,
     I: Read + AsRawFd + Drop,
-    O: Write + Drop,
+    O: Write + AsRawFd + Drop,
 >(rt: &R, settings: &SendSettings, input: I, output: O) -> Result<u8, Failure>
     requires { IsHostWithin settings.now.host }
 {
@@ -36,7 +44,7 @@ pub(crate) fn send_lines<
 pub(crate) fn receive_lines<
     R: AllocGlobal + Clock + Eprint + Files<File = File> + Net + RandomSource,
     I: Read + AsRawFd + Drop,
-    O: Write + Drop,
+    O: Write + AsRawFd + Drop,
 >(rt: &R, settings: &ReceiveSettings, input: I, output: O) -> Result<u8, Failure>
     requires { IsHostWithin settings.now.host }
 {
@@ -53,13 +61,13 @@ pub(crate) fn receive_lines<
 fn run_host<
     R: AllocGlobal + Clock + Eprint + Files<File = File> + Net + RandomSource,
     I: Read + AsRawFd + Drop,
-    O: Write + Drop,
+    O: Write + AsRawFd + Drop,
 >(rt: &R, host: &HostSettings, plan: Plan, input: I, output: O) -> Result<u8, Failure>
     requires { (1 ≤ plan.setup.streams) × (plan.setup.streams ≤ 256) }
 {
     check_address(rt, host.listen.as_str())?;
     check_address(rt, host.peer.as_str())?;
-    let _held = hold_number(rt)?;
+    let _held = hold_numbers(rt, plan.setup.side)?;
     let ended = run_opened::<R, I, O, Brand, Brand>(
         rt,
         host,
@@ -72,6 +80,7 @@ fn run_host<
     match ended {
         Ended::AtRest => Ok(0),
         Ended::OnItsWay => Ok(ON_ITS_WAY),
+        Ended::Torn => Ok(TORN),
     }
 }
 
@@ -83,14 +92,20 @@ fn check_address<R: AllocGlobal + Net>(rt: &R, address: &str) -> Result<(), Fail
     }
 }
 
-/// Opens a file, to be held open. What is opened behind it has the number of no standard stream: where one is closed, a socket or a
-/// journal could have its number, and would get what is meant for a client. Refused where standard input or output is closed.
-fn hold_number<R: Files<File = File>>(rt: &R) -> Result<File, Failure> {
-    let file = fs::open(rt, "/dev/null")?;
-    if file.as_raw_fd() <= STANDARD_OUTPUT {
-        return Err(Failure::Host(ProcessFault::Serve(ServeFault::Clients)));
+/// Opens two files, to be held open. What is opened behind them has the number of no standard stream: where one is closed, a socket or a
+/// journal could have its number, and would get what is meant for a client. Refused where standard output is closed, or standard input at a
+/// host that reads it.
+fn hold_numbers<R: Files<File = File>>(rt: &R, side: End) -> Result<(File, File), Failure> {
+    let held = (fs::open(rt, "/dev/null")?, fs::open(rt, "/dev/null")?);
+    let numbers = [held.0.as_raw_fd(), held.1.as_raw_fd()];
+    let lacks_input = side == End::Sender && numbers[0] == STANDARD_INPUT;
+    if lacks_input {
+        return Err(Failure::InputClosed);
     }
-    Ok(file)
+    if numbers[0] == STANDARD_OUTPUT || numbers[1] == STANDARD_OUTPUT {
+        return Err(Failure::OutputClosed);
+    }
+    Ok(held)
 }
 
 /// Opens the socket, then the journal, and runs the host with both. The blanks become the ledgers in which contracts count their
@@ -98,7 +113,7 @@ fn hold_number<R: Files<File = File>>(rt: &R) -> Result<File, Failure> {
 fn run_opened<
     R: AllocGlobal + Clock + Eprint + Files<File = File> + Net + RandomSource,
     I: Read + AsRawFd + Drop,
-    O: Write + Drop,
+    O: Write + AsRawFd + Drop,
     L: Ledger,
     M: Ledger,
 >(
@@ -109,14 +124,61 @@ fn run_opened<
     output: O,
     link: Blank,
     lines: Blank,
-) -> Result<Ended, ProcessFault>
+) -> Result<Ended, Failure>
     requires link { (link.name ≡ L.name) × (link.parts ≡ L.parts) × (0 < L.parts) }
     requires lines { (lines.name ≡ M.name) × (lines.parts ≡ M.parts) × (0 < M.parts) }
     requires streams { (1 ≤ plan.setup.streams) × (plan.setup.streams ≤ 256) }
 {
-    let socket = Socket::<L>::open(rt, host.listen.as_str(), host.peer.as_str(), link)?;
+    let alloc = rt.alloc();
+    let path = host.journal.as_str();
+    let (socket, address) = open_socket::<R, L>(rt, host, link)?;
+    let cause = Cell::new(None);
+    let opened = match Disk::<File, M>::open(rt, alloc, path, &plan, &cause, lines) {
+        Ok(opened) => opened,
+        Err(fault) => return Err(Failure::of_journal(alloc, path, fault)),
+    };
+    let Opened { disk, scan, zeros } = opened;
+    tell_of_zeros(rt, path, zeros);
+    tell_of_start(rt, &address, path, scan.lines());
     let number = socket.number();
-    let side = plan.setup.side;
-    let (disk, scan) = Disk::<M>::open(rt, rt.alloc(), host.journal.as_str(), side, lines)?;
-    run_process(rt, plan, input, output, socket, number, disk, scan)
+    match run_process(rt, plan, input, output, socket, number, disk, scan) {
+        Ok(ended) => Ok(ended),
+        Err(fault) => Err(Failure::of_host(alloc, path, fault, cause.get())),
+    }
+}
+
+/// Opens the socket. Answers where it listens, too.
+fn open_socket<R: AllocGlobal + Net, L: Ledger>(
+    rt: &R,
+    host: &HostSettings,
+    blank: Blank,
+) -> Result<(Socket<L>, SocketAddr), Failure>
+    requires { (blank.name ≡ L.name) × (blank.parts ≡ L.parts) × (0 < L.parts) }
+{
+    let (listen, peer) = (host.listen.as_str(), host.peer.as_str());
+    let fault = match Socket::<L>::open(rt, listen, peer, blank) {
+        Ok(socket) => {
+            let address = socket.address();
+            match address {
+                Ok(address) => return Ok((socket, address)),
+                Err(fault) => fault,
+            }
+        }
+        Err(fault) => fault,
+    };
+    Err(Failure::of_socket(rt.alloc(), listen, peer, fault))
+}
+
+/// Tells that so many zeros were cut off at the end of a journal, if there were any.
+fn tell_of_zeros<R: Eprint>(rt: &R, path: &str, zeros: u64) {
+    if zeros > 0 {
+        let _ = eprintln!(rt;
+            "amo: {path}: {zeros} zeros at its end were cut off, as a loss of power leaves them"
+        );
+    }
+}
+
+/// Tells where a host listens, and how many lines of events came back of its journal.
+fn tell_of_start<R: Eprint>(rt: &R, address: &SocketAddr, journal: &str, lines: u64) {
+    let _ = eprintln!(rt; "amo: listens on {address}, behind {lines} lines of {journal}");
 }

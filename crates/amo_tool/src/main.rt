@@ -60,7 +60,7 @@ fn obey<
         + Net
         + Sync,
     I: Read + AsRawFd + Drop,
-    O: Write + Drop,
+    O: Write + AsRawFd + Drop,
     E: Write + IsTerminal + Send + Drop,
 >(rt: &R, input: I, output: O, errors: E) -> u8 {
     let done = match choose(rt) {

@@ -19,6 +19,7 @@ turns-init g c =
       spells = refl;
       spelling = refl;
       puts = refl;
+      unread = λ shut. refl;
     }
 
 pub turns-preserved : goal.turns-preserved
@@ -40,4 +41,5 @@ turns-preserved g c =
       spells = c.in_ok-turn.ensures.spells ∙ so_far.spells;
       spelling = c.in_ok-turn.ensures.spelling ∙ so_far.spelling;
       puts = c.in_ok-turn.ensures.puts ∙ so_far.puts;
+      unread = λ shut. c.in_ok-turn.ensures.unread (so_far.puts ∙ shut) ∙ so_far.unread shut;
     }

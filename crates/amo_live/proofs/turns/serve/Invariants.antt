@@ -1,4 +1,4 @@
-use Rattle.std.specs.Prelude.{◌≡◌, ℕ, List}
+use Rattle.std.specs.Prelude.{◌≡◌, ℕ, List, false}
 use Rattle.std.specs.Io.KnownBytes.{Consumes}
 use Rattle.amo_live.specs.Client.{Serves, moment}
 use Rattle.amo_live.specs.Host.{IsNoted}
@@ -18,4 +18,5 @@ invariant-turns g l = record {
   spells : spelling_of l.service ≡ spelling_of l.fn.service;
   spelling : l.desk.spelling ≡ l.fn.desk.spelling;
   puts : l.desk.puts ≡ l.fn.desk.puts;
+  unread : l.fn.desk.puts ≡ false → l.desk.reader ≡ l.fn.desk.reader;
 }

@@ -45,3 +45,8 @@ returns-clause-shown g c =
     let appends : Appends (g.O.Write.contents c.args.desk.now.output) (g.O.Write.contents c.show.new.self.output) taken = search rules in
     shown_whole spelling v c.take_lines.new.service.host.pass c.send.new.self.pass old taken (shown_by c.clear_shown.new.self) (g.O.Write.contents c.args.desk.now.output) (g.O.Write.contents c.show.new.self.output)
     (sent ∙ synced) to_lines appends c.clear_shown.ensures.shown
+
+pub returns-clause-unread : goal.returns-clause-unread
+returns-clause-unread g c =
+    let reader : c.show.new.self.reader ≡ c.wait.new.self.reader = search rules in
+    λ shut. reader ∙ c.in_ok-wait.ensures.unread shut

@@ -1,8 +1,8 @@
 use Rattle.amo_tool.proofs.replaying.replay_file.Given as goal
 
--- the count of failures is the blank's ledger
-abbrev pub ghosts-replay_bytes : goal.ghosts-replay_bytes
-ghosts-replay_bytes g a = record { name = a.blank.name; parts = a.blank.parts }
+-- the counts of failures are the blanks' ledgers
+abbrev pub ghosts-replay_and_tell-L-Ledger : goal.ghosts-replay_and_tell-L-Ledger
+ghosts-replay_and_tell-L-Ledger g a = record { name = a.transcript.name; parts = a.transcript.parts }
 
-abbrev pub ghosts-tell_ending : goal.ghosts-tell_ending
-ghosts-tell_ending g a = record { name = a.blank.name; parts = a.blank.parts }
+abbrev pub ghosts-replay_and_tell-M-Ledger : goal.ghosts-replay_and_tell-M-Ledger
+ghosts-replay_and_tell-M-Ledger g a = record { name = a.telling.name; parts = a.telling.parts }

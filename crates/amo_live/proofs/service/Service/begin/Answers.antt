@@ -1,15 +1,33 @@
-use Rattle.std.proofs.Common.{◌≡◌, refl, rules}
-use Rattle.amo_live.specs.Service.{shown_by, spelling_of}
+use Rattle.std.proofs.Common.{◌≡◌, ◌∙◌, refl, ap, rules}
+use Rattle.amo_book.specs.Pass.{PassState, mine}
+use Rattle.amo_live.specs.Host.{puts_in}
+use Rattle.amo_live.specs.Service.{shown_by, spelling_of, words_of}
+use Rattle.amo_live.proofs.Fresh.{bears_as}
+use Rattle.amo_live.proofs.Putting.{start_puts}
 use Rattle.amo_live.proofs.Showing.{shows_as, start_shows}
 use Rattle.amo_live.proofs.service.Service.begin.Goals as goal
-use Rattle.amo_live.proofs.service.Service.begin.Goals.{then-eq+in_ok-use_up, else-eq}
+use Rattle.amo_live.proofs.service.Service.begin.Goals.{then-eq, else-eq}
 
 pub returns-after-eq-clause-shown : goal.returns-after-eq-clause-shown
 returns-after-eq-clause-shown g c =
-    let pass : c.enter.new.self.host.pass ≡ c.start.new.self.host.pass = elim c.if-eq.branch [ then-eq+in_ok-use_up w ↦ search rules | else-eq w ↦ search rules ] in
-    let shown : shown_by c.enter.new.self ≡ shown_by c.args.self.now = elim c.if-eq.branch [ then-eq+in_ok-use_up w ↦ search rules | else-eq w ↦ search rules ] in
+    let pass : c.enter.new.self.host.pass ≡ c.start_anew.new.self.host.pass = elim c.if-eq.branch [ then-eq w ↦ search rules | else-eq w ↦ search rules ] in
+    let shown : shown_by c.enter.new.self ≡ shown_by c.args.self.now = elim c.if-eq.branch [ then-eq w ↦ search rules | else-eq w ↦ search rules ] in
     let spelling = spelling_of c.args.self.now in
     let old = shown_by c.args.self.now in
     let new = shown_by c.enter.new.self in
-    shows_as spelling spelling c.args.self.now.host.pass c.start.new.self.host.pass c.args.self.now.host.pass c.enter.new.self.host.pass old new old new refl refl pass refl refl
-    (start_shows c.args.self.now.host c.start.new.self.host spelling c.args.stream c.in-Some-peek.word c.args.self.now.setup.batch c.args.self.now.host.journal.version c.in_ok-mode.field-0 old new c.in_ok-mode.ensures.did shown)
+    let did = c.in_ok-mode.ensures.did in
+    shows_as spelling spelling c.args.self.now.host.pass c.start_anew.new.self.host.pass c.args.self.now.host.pass c.enter.new.self.host.pass old new old new refl refl pass refl refl
+    (start_shows c.args.self.now.host c.start_anew.new.self.host spelling c.args.stream did.0 c.args.self.now.setup.batch c.args.self.now.host.journal.version c.in_ok-mode.field-0 old new did.1 shown)
+
+pub returns-after-eq-clause-none_put : goal.returns-after-eq-clause-none_put
+returns-after-eq-clause-none_put g c =
+    let pass : c.enter.new.self.host.pass ≡ c.start_anew.new.self.host.pass = elim c.if-eq.branch [ then-eq w ↦ search rules | else-eq w ↦ search rules ] in
+    let did = c.in_ok-mode.ensures.did in
+    ap (λ (p : PassState). puts_in (mine p)) pass ∙ start_puts c.args.self.now.host c.start_anew.new.self.host c.args.stream did.0 c.args.self.now.setup.batch c.args.self.now.host.journal.version c.in_ok-mode.field-0 did.1
+
+pub returns-after-eq-clause-words : goal.returns-after-eq-clause-words
+returns-after-eq-clause-words g c =
+    let pass : c.enter.new.self.host.pass ≡ c.start_anew.new.self.host.pass = elim c.if-eq.branch [ then-eq w ↦ search rules | else-eq w ↦ search rules ] in
+    let words : words_of c.enter.new.self ≡ words_of c.start_anew.new.self = elim c.if-eq.branch [ then-eq w ↦ search rules | else-eq w ↦ search rules ] in
+    let old = words_of c.args.self.now in
+    bears_as old (words_of c.start_anew.new.self) old (words_of c.enter.new.self) c.args.self.now.host.pass c.start_anew.new.self.host.pass c.args.self.now.host.pass c.enter.new.self.host.pass refl words refl pass c.in_ok-mode.ensures.words

@@ -1,5 +1,8 @@
 use Rattle.std.proofs.Common.{◌≡◌, refl, sym, ◌∙◌, rules}
-use Rattle.amo_live.specs.Service.{shown_by, spelling_of}
+use Rattle.amo_object.specs.declared.step.End.TheVariants.{Receiver}
+use Rattle.amo_core.specs.declared.act.Act.TheVariants as act
+use Rattle.amo_live.specs.Service.{shown_by, spelling_of, words_of}
+use Rattle.amo_live.proofs.Fresh.{bears_as, bears_none, call_bears}
 use Rattle.amo_live.proofs.Showing.{get_shows, nothing_shows, shows_as}
 use Rattle.amo_live.proofs.service.Service.get.Goals as goal
 use Rattle.amo_live.proofs.service.Service.get.Goals.{in-Some-lane, in_default-lane}
@@ -13,7 +16,6 @@ returns-in_default-clause-shown g c =
 pub returns-clause-shown : goal.returns-clause-shown
 returns-clause-shown g c =
     let (answer, grown, got) = c.in_ok-message.ensures.got in
-    let (line, is_line, added) = c.in_ok-push_message.ensures in
     let spelling = spelling_of c.args.self.now in
     let first = c.args.self.now.host.pass in
     let old = shown_by c.args.self.now in
@@ -21,4 +23,19 @@ returns-clause-shown g c =
     let pass : c.match-lane.self.host.pass ≡ c.get.new.self.pass = elim c.match-lane.branch [ in-Some-lane w ↦ search rules | in_default-lane w ↦ search rules ] in
     let shown : shown_by c.match-lane.self ≡ with_line = elim c.match-lane.branch [ in-Some-lane w ↦ search rules | in_default-lane w ↦ search rules ] in
     shows_as spelling spelling first c.get.new.self.pass first c.match-lane.self.host.pass old with_line old (shown_by c.match-lane.self) refl refl pass refl shown
-    (get_shows spelling first c.get.new.self.pass c.args.stream old with_line answer c.in-Some.message line (sym c.in-Some.is ∙ got) grown is_line added)
+    (get_shows spelling first c.get.new.self.pass c.args.stream old with_line answer c.in-Some.message (sym c.in-Some.is ∙ got) grown c.in_ok-push_message.ensures)
+
+pub returns-in_default-clause-words : goal.returns-in_default-clause-words
+returns-in_default-clause-words g c =
+    let (answer, grown, got) = c.in_ok-message.ensures.got in let old = words_of c.args.self.now in
+    bears_none old old c.args.self.now.host.pass c.get.new.self.pass refl (call_bears c.args.self.now.host.pass c.get.new.self.pass Receiver c.args.stream act.Get answer refl grown)
+
+pub returns-clause-words : goal.returns-clause-words
+returns-clause-words g c =
+    let (answer, grown, got) = c.in_ok-message.ensures.got in
+    let old = words_of c.args.self.now in
+    let first = c.args.self.now.host.pass in
+    let pass : c.match-lane.self.host.pass ≡ c.get.new.self.pass = elim c.match-lane.branch [ in-Some-lane w ↦ search rules | in_default-lane w ↦ search rules ] in
+    let words : words_of c.match-lane.self ≡ old = elim c.match-lane.branch [ in-Some-lane w ↦ search rules | in_default-lane w ↦ search rules ] in
+    bears_as old old old (words_of c.match-lane.self) first c.get.new.self.pass first c.match-lane.self.host.pass refl words refl pass
+    (bears_none old old first c.get.new.self.pass refl (call_bears first c.get.new.self.pass Receiver c.args.stream act.Get answer refl grown))

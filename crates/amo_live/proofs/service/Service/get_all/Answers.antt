@@ -1,5 +1,8 @@
 use Rattle.std.proofs.Common.{◌≡◌, ◌∙◌, refl, sym, ap, rules}
-use Rattle.amo_live.specs.Service.{shown_by, spelling_of}
+use Rattle.amo_book.specs.Pass.{mine}
+use Rattle.amo_live.specs.Service.{shown_by, spelling_of, words_of}
+use Rattle.amo_live.specs.Words.{words_in}
+use Rattle.amo_live.proofs.Fresh.{bears_none, bears_on, resend_bears}
 use Rattle.amo_live.proofs.Showing.{resend_shows, shows_after, shows_as, shows_on}
 use Rattle.amo_live.proofs.service.Service.get_all.Goals as goal
 
@@ -19,6 +22,7 @@ messages-preserved g c =
       shown = shows_after (spelling_of c.args.self.now) (spelling_of c.messages.self) c.args.self.now.host.pass c.messages.self.host.pass c.get.new.self.host.pass
           (shown_by c.args.self.now) (shown_by c.messages.self) (shown_by c.get.new.self) so_far.spelling so_far.shown c.in_ok-get.ensures.shown;
       spelling = c.get.ensures.spelling ∙ so_far.spelling;
+      words = bears_on (words_of c.args.self.now) (words_of c.messages.self) (words_of c.get.new.self) c.args.self.now.host.pass c.messages.self.host.pass c.get.new.self.host.pass so_far.words c.in_ok-get.ensures.words;
     }
 
 pub returns-clause-shown : goal.returns-clause-shown
@@ -34,3 +38,15 @@ returns-clause-shown g c =
     let two = resend_shows c.enter.new.self.host c.resend.new.self spelling c.args.stream c.in_ok-resend.field-0 before new c.in_ok-resend.ensures.did c.enter.ensures.shown.0 in
     shows_on spelling first middle c.resend.new.self.pass old before new so_far.shown
     (shows_as spelling spelling c.enter.new.self.host.pass c.resend.new.self.pass middle c.resend.new.self.pass before new before new refl (ap (λ h. h.pass) (sym entered)) refl refl refl two)
+
+pub returns-then-not-branch-clause-words : goal.returns-then-not-branch-clause-words
+returns-then-not-branch-clause-words g c =
+    bears_on (words_of c.args.self.now) (words_of c.messages.self) (words_of c.get.new.self) c.args.self.now.host.pass c.messages.self.host.pass c.get.new.self.host.pass c.messages.invariant.words c.in_ok-get.ensures.words
+
+pub returns-clause-words : goal.returns-clause-words
+returns-clause-words g c =
+    let middle = c.messages.self.host.pass in
+    let entered : c.enter.new.self.host ≡ c.messages.self.host = c.enter.ensures.host in
+    bears_on (words_of c.args.self.now) (words_of c.messages.self) (words_of c.enter.new.self) c.args.self.now.host.pass middle c.resend.new.self.pass c.messages.invariant.words
+    (bears_none (words_of c.messages.self) (words_of c.enter.new.self) middle c.resend.new.self.pass c.enter.ensures.words
+    (resend_bears c.enter.new.self.host c.resend.new.self c.args.stream c.in_ok-resend.field-0 c.in_ok-resend.ensures.did ∙ ap (λ h. words_in (mine h.pass)) entered))

@@ -1,5 +1,6 @@
 use Rattle.std.proofs.Common.{◌≡◌, ◌∙◌, refl, sym, rules}
-use Rattle.amo_live.specs.Service.{shown_by, spelling_of}
+use Rattle.amo_live.specs.Service.{shown_by, spelling_of, words_of}
+use Rattle.amo_live.proofs.Fresh.{bears_as, bears_on}
 use Rattle.amo_live.proofs.Showing.{shows_as, shows_on}
 use Rattle.amo_live.proofs.service.Service.hear.Goals as goal
 
@@ -21,4 +22,6 @@ datagrams-preserved g c =
       shown = shows_on spelling first middle last old before new so_far.shown
           (shows_as (spelling_of c.datagrams.self) spelling c.hear.new.self.pass last middle last before new before new (sym so_far.spelling) pass refl refl refl c.in_ok-deliver.ensures.shown);
       spelling = c.deliver.ensures.spelling ∙ so_far.spelling;
+      words = let had = words_of c.datagrams.self in let has = words_of c.deliver.new.self in
+          bears_on (words_of c.args.self.now) had has first middle last so_far.words (bears_as had has had has c.hear.new.self.pass last middle last refl refl pass refl c.in_ok-deliver.ensures.words);
     }

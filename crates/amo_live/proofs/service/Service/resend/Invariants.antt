@@ -1,7 +1,8 @@
 use Rattle.std.specs.Prelude.{◌≡◌}
 use Rattle.amo_live.specs.Host.{IsNoted}
-use Rattle.amo_live.specs.Service.{PutsNone, shown_by, spelling_of, streams_of}
+use Rattle.amo_live.specs.Service.{PutsNone, shown_by, spelling_of, streams_of, words_of}
 use Rattle.amo_live.specs.Shown.{ShowsMore}
+use Rattle.amo_live.specs.Words.{BearsNew}
 use Rattle.amo_live.proofs.service.Service.resend.Given as goal
 
 -- the journal has all lines so far, no message was put, and what has happened is shown
@@ -12,4 +13,5 @@ invariant-streams g l = record {
   streams : streams_of l.self ≡ streams_of l.fn.self;
   shown : ShowsMore (spelling_of l.fn.self) l.fn.self.host.pass l.self.host.pass (shown_by l.fn.self) (shown_by l.self);
   spelling : spelling_of l.self ≡ spelling_of l.fn.self;
+  words : BearsNew (words_of l.fn.self) (words_of l.self) l.fn.self.host.pass l.self.host.pass;
 }

@@ -1,6 +1,10 @@
 use Rattle.std.proofs.Common.{◌≡◌, ◌++◌, refl, rules, true, false}
 use Rattle.amo_live.specs.declared.lines.Word.TheVariants as word
-use Rattle.amo_live.specs.Service.{shown_by, spelling_of}
+use Rattle.amo_object.specs.declared.step.End.TheVariants.{Sender}
+use Rattle.amo_core.specs.declared.act.Act.TheVariants as act
+use Rattle.amo_book.specs.Calls.{ack_answer}
+use Rattle.amo_live.specs.Service.{shown_by, spelling_of, words_of}
+use Rattle.amo_live.proofs.Fresh.{bears_as, bears_none, call_bears}
 use Rattle.amo_live.specs.Shown.{word_line}
 use Rattle.amo_live.proofs.Showing.{no_shows, shows_as, unknown_shows, yes_shows}
 use Rattle.amo_live.proofs.service.Service.settle.Goals as goal
@@ -34,3 +38,16 @@ returns-clause-shown g c =
           shows_as spelling spelling first c.get_ack.new.self.pass first last old new old new refl refl pass refl refl
           (no_shows spelling first c.get_ack.new.self.pass c.args.stream old new c.in-Ok.field-0-1 known told)
     ]
+
+pub returns-in_default-2-clause-words : goal.returns-in_default-2-clause-words
+returns-in_default-2-clause-words g c =
+    let old = words_of c.args.self.now in let first = c.args.self.now.host.pass in
+    bears_none old old first c.get_ack.new.self.pass refl (call_bears first c.get_ack.new.self.pass Sender c.args.stream act.Ack (ack_answer c.in_ok-was_got.field-0) refl c.in_ok-was_got.ensures.known)
+
+pub returns-clause-words : goal.returns-clause-words
+returns-clause-words g c =
+    let old = words_of c.args.self.now in let first = c.args.self.now.host.pass in
+    let pass : c.set_lane.new.self.host.pass ≡ c.get_ack.new.self.pass = search rules in
+    let words : words_of c.set_lane.new.self ≡ old = search rules in
+    bears_as old old old (words_of c.set_lane.new.self) first c.get_ack.new.self.pass first c.set_lane.new.self.host.pass refl words refl pass
+    (bears_none old old first c.get_ack.new.self.pass refl (call_bears first c.get_ack.new.self.pass Sender c.args.stream act.Ack (ack_answer c.in_ok-was_got.field-0) refl c.in_ok-was_got.ensures.known))
