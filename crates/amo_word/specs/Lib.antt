@@ -1,1 +1,4 @@
 pub mod Word
+pub mod SipHash
+pub mod Feistel
+pub mod Distinct
