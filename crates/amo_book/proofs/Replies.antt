@@ -17,12 +17,16 @@ use Rattle.amo_core.specs.declared.receiver.ReceiverMode.TheVariants as receivin
 use Rattle.amo_core.specs.Row.{silent}
 use Rattle.amo_core.specs.Sender as sender
 use Rattle.amo_core.specs.Receiver as receiver
-use Rattle.amo_core.specs.Automaton.{row, handed_back}
-use Rattle.amo_world.specs.Stream.{Stream, reply_of}
+use Rattle.amo_core.specs.Automaton.{row, handed_back, Writes}
+use Rattle.amo_world.specs.Stream.{Stream, reply_of, emission_of}
 use Rattle.amo_world.specs.History.{stream_after}
 use Rattle.amo_world.proofs.Emitted.{start_is_done, batch_is_done, resend_is_done, deliver_is_done, crash_is_done, recover_is_done}
 use Rattle.amo_book.specs.Steps.{IsStateOf}
 use Rattle.amo_book.specs.Calls.{IsPutReply, IsGetReply, IsAckReply}
+use Rattle.amo_book.specs.Charge.{ChargeState}
+use Rattle.amo_book.specs.declared.drive.Done.{Done}
+use Rattle.amo_book.specs.Drive.{Suits, Driven, DrivenSilently}
+use Rattle.amo_book.specs.Pass.{PassState}
 use Rattle.amo_book.proofs.Histories.{reply-row}
 
 -- what is true of the reply in every stream is true of it at every state of the side
@@ -170,10 +174,22 @@ crash_known at stream = done_known at stream act.Crash (λ s. crash_is_done s at
 pub recover_known : (at : End) (stream : ℕ) (x : Automaton) → IsStateOf at stream x → (row x act.Recover).reply ≡ Some reply.Done
 recover_known at stream = done_known at stream act.Recover (λ s. recover_is_done s at)
 
+-- and so is each act of a host that suits a charge
+pub suited_known : (c : ChargeState) (a : Act) → Suits c a → (x : Automaton) → IsStateOf c.side c.stream x → (row x a).reply ≡ Some reply.Done
+suited_known c (act.Put m) never = absurd never
+suited_known c act.Get never = absurd never
+suited_known c act.Ack never = absurd never
+suited_known c (act.Start word) is = start_known c.side c.stream word is
+suited_known c (act.Batch word) is = batch_known c.side c.stream word is
+suited_known c act.Resend suits = resend_known c.side c.stream
+suited_known c (act.Deliver p word) suits = deliver_known c.side c.stream p word
+suited_known c act.Crash suits = crash_known c.side c.stream
+suited_known c act.Recover suits = recover_known c.side c.stream
+
 -- a crash and a recovery emit nothing
-pub crash_is_silent : (x : Automaton) → (row x act.Crash).emitted ≡ None
-crash_is_silent (automaton.Sender s) = refl
-crash_is_silent (automaton.Receiver s) = refl
+pub crash_is_silent : (s : Stream) (at : End) → emission_of s at act.Crash ≡ None
+crash_is_silent s side.Sender = refl
+crash_is_silent s side.Receiver = refl
 
 sender_recovers : (s : sender.SenderState) (mode : SenderMode) → (sender.recover s mode).emitted ≡ None
 sender_recovers s (sending.Quiet got) = refl
@@ -188,6 +204,21 @@ receiver_recovers s (receiving.Rcvd id m) = refl
 receiver_recovers s (receiving.Ack id) = refl
 receiver_recovers s receiving.Down = refl
 
-pub recover_is_silent : (x : Automaton) → (row x act.Recover).emitted ≡ None
-recover_is_silent (automaton.Sender s) = sender_recovers s s.mode
-recover_is_silent (automaton.Receiver s) = receiver_recovers s s.mode
+pub recover_is_silent : (s : Stream) (at : End) → emission_of s at act.Recover ≡ None
+recover_is_silent s side.Sender = sender_recovers s.sender.state s.sender.state.mode
+recover_is_silent s side.Receiver = receiver_recovers s.receiver.state s.receiver.state.mode
+
+-- an act that emits nothing answers no length
+pub silently : (v w : PassState) (c d : ChargeState) (a : Act) (old new : List ℕ) (done : Done) → ((s : Stream) (at : End) → emission_of s at a ≡ None)
+    → Driven v w c d a old new done → DrivenSilently v w c d a done
+silently v w c d a old new done silent driven =
+    let here = silent (stream_after c.stream driven.grown.earlier) c.side in
+    ((subst (λ (e : Option OwnedPacket). Writes e old new done.length) here driven.emitted).1, (old, new, driven))
+
+pub crashes_silently : (v w : PassState) (c d : ChargeState) (old new : List ℕ) (done : Done)
+    → Driven v w c d act.Crash old new done → DrivenSilently v w c d act.Crash done
+crashes_silently v w c d old new done = silently v w c d act.Crash old new done crash_is_silent
+
+pub recovers_silently : (v w : PassState) (c d : ChargeState) (old new : List ℕ) (done : Done)
+    → Driven v w c d act.Recover old new done → DrivenSilently v w c d act.Recover done
+recovers_silently v w c d old new done = silently v w c d act.Recover old new done recover_is_silent

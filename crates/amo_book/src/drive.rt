@@ -11,7 +11,7 @@ ghost use Rattle.amo_world.specs.History.{IsRight};
 ghost use Rattle.amo_book.specs.Charge.{IsChargeOf};
 ghost use Rattle.amo_book.specs.Plays.{Sat};
 ghost use Rattle.amo_book.specs.Steps.{IsSame, IsPass, IsStateOf, holding, pass_of};
-ghost use Rattle.amo_book.specs.Drive.{Driven, DrivenSilently, Unchanged};
+ghost use Rattle.amo_book.specs.Drive.{Suits, Driven, DrivenSilently, Unchanged};
 
 use crate::board::Chair;
 use crate::slot::Housed;
@@ -34,7 +34,6 @@ pub struct Done {
 
 impl Book {
     /// Begins a handshake under a word, if the sender is at rest and a message waits.
-    #[tactic(auto, using(crate::proofs::Replies::start_known))]
     pub fn start(
         &self,
         pass: &mut Pass,
@@ -48,12 +47,11 @@ impl Book {
         ensures right { IsRight pass.new.seen }
         ensures busy { IfErr result (λ fault. (fault ≡ DriveFault.Busy) × Unchanged pass.old pass.new charge.old charge.new out.old out.new) }
     {
-        self.drive(pass, charge, Act::Start(word), out)
+        self.perform(pass, charge, Act::Start(word), out)
     }
 
     /// Begins a handshake under a word for the first messages that wait, at most [`MAX_BATCH`](amo_packet::MAX_BATCH), which travel together, if
     /// the sender is at rest and a message waits.
-    #[tactic(auto, using(crate::proofs::Replies::batch_known))]
     pub fn start_batch(
         &self,
         pass: &mut Pass,
@@ -67,11 +65,10 @@ impl Book {
         ensures right { IsRight pass.new.seen }
         ensures busy { IfErr result (λ fault. (fault ≡ DriveFault.Busy) × Unchanged pass.old pass.new charge.old charge.new out.old out.new) }
     {
-        self.drive(pass, charge, Act::Batch(word), out)
+        self.perform(pass, charge, Act::Batch(word), out)
     }
 
     /// Emits the packet of the mode, if it has one.
-    #[tactic(auto, using(crate::proofs::Replies::resend_known))]
     pub fn resend(
         &self,
         pass: &mut Pass,
@@ -83,12 +80,11 @@ impl Book {
         ensures right { IsRight pass.new.seen }
         ensures busy { IfErr result (λ fault. (fault ≡ DriveFault.Busy) × Unchanged pass.old pass.new charge.old charge.new out.old out.new) }
     {
-        self.drive(pass, charge, Act::Resend, out)
+        self.perform(pass, charge, Act::Resend, out)
     }
 
     /// Delivers a packet of the charge's stream, with the word for an accept. Memory is asked for only where a message of the packet has a
     /// byte, for all its messages, and before anything happens.
-    #[tactic(auto, using(crate::proofs::Replies::deliver_known))]
     pub fn deliver(
         &self,
         alloc: Global,
@@ -110,33 +106,33 @@ impl Book {
         let Ok(owned) = packet.copied(alloc) else {
             return Err(DriveFault::NoMemory);
         };
-        self.drive(pass, charge, Act::Deliver(owned, word), out)
+        self.perform(pass, charge, Act::Deliver(owned, word), out)
     }
 
     /// The side's host goes down, and forgets everything.
-    #[tactic(auto, using(crate::proofs::Replies::crash_known, crate::proofs::Replies::crash_is_silent))]
+    #[tactic(auto, using(crate::proofs::Replies::crashes_silently))]
     pub fn crash(&self, pass: &mut Pass, charge: &mut Charge) -> Result<Done, DriveFault>
         requires book { (pass.old.book ≡ self.now.id) × IsChargeOf self.now.id self.now.sides charge.old }
         ensures driven { IfOk result (DrivenSilently pass.old pass.new charge.old charge.new act.Crash) }
         ensures right { IsRight pass.new.seen }
         ensures busy { IfErr result (λ fault. (fault ≡ DriveFault.Busy) × (pass.new ≡ pass.old) × (charge.new ≡ charge.old)) }
     {
-        self.drive_silently(pass, charge, Act::Crash)
+        self.perform(pass, charge, Act::Crash, &mut [0; MAX_PACKET])
     }
 
     /// The side's host is up again.
-    #[tactic(auto, using(crate::proofs::Replies::recover_known, crate::proofs::Replies::recover_is_silent))]
+    #[tactic(auto, using(crate::proofs::Replies::recovers_silently))]
     pub fn recover(&self, pass: &mut Pass, charge: &mut Charge) -> Result<Done, DriveFault>
         requires book { (pass.old.book ≡ self.now.id) × IsChargeOf self.now.id self.now.sides charge.old }
         ensures driven { IfOk result (DrivenSilently pass.old pass.new charge.old charge.new act.Recover) }
         ensures right { IsRight pass.new.seen }
         ensures busy { IfErr result (λ fault. (fault ≡ DriveFault.Busy) × (pass.new ≡ pass.old) × (charge.new ≡ charge.old)) }
     {
-        self.drive_silently(pass, charge, Act::Recover)
+        self.perform(pass, charge, Act::Recover, &mut [0; MAX_PACKET])
     }
 
-    /// One act on the charge's side, which has it, if its gate is free.
-    fn drive(
+    /// Does an act of a host at the charge's side, if its gate is free. Each call above is this one with its act.
+    pub fn perform(
         &self,
         pass: &mut Pass,
         charge: &mut Charge,
@@ -144,7 +140,7 @@ impl Book {
         out: &mut [u8; MAX_PACKET],
     ) -> Result<Done, DriveFault>
         requires book { (pass.old.book ≡ self.now.id) × IsChargeOf self.now.id self.now.sides charge.old }
-        requires known { (x : Automaton) → IsStateOf charge.old.side charge.old.stream x → (row x act).reply ≡ Some reply.Done }
+        requires suits { Suits charge.old act }
         ensures driven { IfOk result (Driven pass.old pass.new charge.old charge.new act out.old out.new) }
         ensures right { IsRight pass.new.seen }
         ensures busy { IfErr result (λ fault. (fault ≡ DriveFault.Busy) × Unchanged pass.old pass.new charge.old charge.new out.old out.new) }
@@ -157,30 +153,6 @@ impl Book {
         let told = Snapshot::of(&act);
         let Outcome { length, .. } = automaton.step(act, out);
         Ok(self.finish(number, seat, charge, &told, automaton, length))
-    }
-
-    /// The same for an act that emits nothing.
-    fn drive_silently(
-        &self,
-        pass: &mut Pass,
-        charge: &mut Charge,
-        act: Act,
-    ) -> Result<Done, DriveFault>
-        requires book { (pass.old.book ≡ self.now.id) × IsChargeOf self.now.id self.now.sides charge.old }
-        requires known { (x : Automaton) → IsStateOf charge.old.side charge.old.stream x → (row x act).reply ≡ Some reply.Done }
-        requires silent { (x : Automaton) → (row x act).emitted ≡ None }
-        ensures driven { IfOk result (DrivenSilently pass.old pass.new charge.old charge.new act) }
-        ensures right { IsRight pass.new.seen }
-        ensures busy { IfErr result (λ fault. (fault ≡ DriveFault.Busy) × (pass.new ≡ pass.old) × (charge.new ≡ charge.old)) }
-    {
-        let number = pass.number;
-        let seat = &mut pass.seat;
-        let Some(mut automaton) = self.board.take_as_held(seat, charge.site, charge.mode) else {
-            return Err(DriveFault::Busy);
-        };
-        let told = Snapshot::of(&act);
-        automaton.advance(act);
-        Ok(self.finish(number, seat, charge, &told, automaton, None))
     }
 
     /// Makes the event of an act that the automaton has done, gives it home, and leaves the charge its mode.

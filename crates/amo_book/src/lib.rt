@@ -27,6 +27,7 @@
 //! Histories are newest first, as in `amo_world`.
 #![tactic(auto)]
 
+mod answer;
 mod board;
 mod book;
 mod charge;
@@ -43,6 +44,7 @@ mod stride;
 mod view;
 mod whole;
 
+pub use answer::{reply_to_ack, reply_to_get, reply_to_put};
 pub use book::Book;
 pub use charge::Charge;
 pub use closed::{CloseFault, Closed};

@@ -43,28 +43,6 @@ silently_driven v w c d act done buffer h =
       found = driven.found;
     }
 
--- a crash or a recovery emits nothing
-pub crash_is_silent : (s : Stream) (side : End) → emission_of s side act.Crash ≡ None
-crash_is_silent s Sender = refl
-crash_is_silent s Receiver = refl
-
-recover_sender : (st : ℕ) (waiting : List (List ℕ)) (m : SenderMode) → (sender.recover (record { stream = st; mode = m; waiting = waiting }) m).emitted ≡ None
-recover_sender st waiting (sending.Quiet got) = refl
-recover_sender st waiting (sending.NeedId jd m) = refl
-recover_sender st waiting (sending.Send id m) = refl
-recover_sender st waiting sending.Down = refl
-
-recover_receiver : (st : ℕ) (m : ReceiverMode) → (receiver.recover (record { stream = st; mode = m }) m).emitted ≡ None
-recover_receiver st receiving.Idle = refl
-recover_receiver st (receiving.Accept jd id) = refl
-recover_receiver st (receiving.Rcvd id m) = refl
-recover_receiver st (receiving.Ack id) = refl
-recover_receiver st receiving.Down = refl
-
-pub recover_is_silent : (s : Stream) (side : End) → emission_of s side act.Recover ≡ None
-recover_is_silent s Sender = let x = s.sender.state in recover_sender x.stream x.waiting x.mode
-recover_is_silent s Receiver = let x = s.receiver.state in recover_receiver x.stream x.mode
-
 -- an event that emits nothing answers no length
 pub no_length : (v w : PassState) (c d : ChargeState) (a : Act) (old new : List ℕ) (done : Done) → ((s : Stream) (side : End) → emission_of s side a ≡ None) → Driven v w c d a old new done → done.length ≡ None
 no_length v w c d a old new done silent driven =

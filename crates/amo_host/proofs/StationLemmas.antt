@@ -1,10 +1,13 @@
 -- A pump and its charges.
-use Rattle.std.proofs.Common.{◌≡◌, ℕ, zero, suc, ◌<◌, Bool, false, List, [], ◌∷◌, None, length, get_or, set, slice_get, Some, refl, sym, ap, subst, ◌∙◌, arith}
+use Rattle.std.proofs.Common.{◌≡◌, ℕ, zero, suc, ◌<◌, Bool, false, List, [], ◌∷◌, Option, None, length, get_or, set, slice_get, Some, refl, sym, ap, subst, ◌∙◌, arith}
 use Rattle.std.proofs.lemmas.List.{map-set, length-map}
 use Rattle.std.proofs.lemmas.Option.{same_Some, slice_get-map, slice_get_within}
 use Rattle.std.specs.Option.{option_map}
 use Rattle.amo_core.specs.declared.mode.Mode.{Mode}
 use Rattle.amo_packet.specs.declared.packet.OwnedPacket.{OwnedPacket}
+use Rattle.amo_packet.specs.declared.packet.OwnedBody.{OwnedBody}
+use Rattle.amo_packet.specs.declared.packet.OwnedBody.TheVariants as packet
+use Rattle.amo_packet.specs.Grammar.{CarriesNoBytes}
 use Rattle.amo_book.specs.Book.{Each}
 use Rattle.amo_book.specs.Charge.{ChargeState}
 use Rattle.amo_host.specs.declared.agenda.StreamMode.{StreamMode}
@@ -12,17 +15,21 @@ use Rattle.amo_host.specs.Charges.{IsOfSide, stream_mode_of}
 use Rattle.amo_host.specs.Host.{Host, IsHost, IsAt, IsFor, Noted, streams_of}
 use Rattle.amo_host.specs.Station.{Station, IsStation}
 use Rattle.amo_host.proofs.ChargeLemmas.{each_at, each_set}
-use Rattle.amo_host.proofs.Drives.{no_length, crash_is_silent, recover_is_silent}
+use Rattle.amo_host.proofs.Drives.{no_length}
 use Rattle.amo_object.specs.declared.step.End.{End}
 use Rattle.amo_world.specs.Stream.{Stream, emission_of}
+use Rattle.amo_core.specs.declared.act.Act.{Act}
+use Rattle.amo_core.specs.declared.act.Act.TheVariants as act
+use Rattle.amo_book.specs.Drive.{Suits}
 use Rattle.amo_book.specs.Pass.{PassState}
-use Rattle.amo_host.specs.declared.host_act.HostAct.{HostAct}
-use Rattle.amo_host.specs.declared.host_act.HostAct.TheVariants.{Start, Batch, Resend, Deliver, Crash, Recover}
+use Rattle.amo_book.proofs.Replies.{crash_is_silent, recover_is_silent}
+use Rattle.amo_host.specs.declared.fault.PumpFault.TheVariants.{NoMemory}
+use Rattle.amo_host.specs.declared.turned.Kind.{Kind}
 use Rattle.amo_host.specs.declared.turned.Turned.{Turned}
 use Rattle.amo_host.specs.declared.turned.Turned.TheVariants.{Idle, Unread, Stranger, Did}
-use Rattle.amo_host.specs.HostAct.{act_of, kind_of, is_resend, IsDownOrUp, Suits, Carries}
+use Rattle.amo_host.specs.Kind.{IsKindOf, IsHostAct, IsDownOrUp, is_resend}
 use Rattle.amo_host.specs.Modes.{MayOpen}
-use Rattle.amo_host.specs.Turn.{Happened, Performed, GoesDownOrUp}
+use Rattle.amo_host.specs.Turn.{Happened, Performed, GoesDownOrUp, DeliveryFails}
 
 -- what was read in a place stands there
 pub read_at : {X : Type 0} (xs : List X) (i : ℕ) (x : X) → i < length xs → x ≡ get_or xs i x → slice_get xs i ≡ Some x
@@ -63,63 +70,100 @@ module _ {W : Type 0} (s : Station W) (is : IsStation s) (place : ℕ) where
   for_place p fits = is_place (omega (arith, length-map s.host.modes (λ (m : StreamMode). m.stream), slice_get_within (streams_of s.host.modes) place p.stream fits.stream))
 
 -- a crash or a recovery is asked of any charge
-pub suits_any : (a : HostAct) (c : ChargeState) → IsDownOrUp a → Suits a c
-suits_any (Start word) c never = absurd never
-suits_any (Batch word) c never = absurd never
-suits_any Resend c never = absurd never
-suits_any (Deliver p word) c never = absurd never
-suits_any Crash c down = tt
-suits_any Recover c down = tt
+pub suits_any : (c : ChargeState) (a : Act) → IsDownOrUp a → Suits c a
+suits_any c (act.Put m) never = absurd never
+suits_any c act.Get never = absurd never
+suits_any c act.Ack never = absurd never
+suits_any c (act.Start word) never = absurd never
+suits_any c (act.Batch word) never = absurd never
+suits_any c act.Resend never = absurd never
+suits_any c (act.Deliver p word) never = absurd never
+suits_any c act.Crash down = tt
+suits_any c act.Recover down = tt
 
 -- it opens no handshake
-pub opens_none : (a : HostAct) (was : Mode) → IsDownOrUp a → ¬ (MayOpen (act_of a) was)
-opens_none (Start word) was never opens = never
-opens_none (Batch word) was never opens = never
-opens_none Resend was never opens = never
-opens_none (Deliver p word) was never opens = never
-opens_none Crash was down opens = opens
-opens_none Recover was down opens = opens
+pub opens_none : (a : Act) (was : Mode) → IsDownOrUp a → ¬ (MayOpen a was)
+opens_none (act.Put m) was never opens = never
+opens_none act.Get was never opens = never
+opens_none act.Ack was never opens = never
+opens_none (act.Start word) was never opens = never
+opens_none (act.Batch word) was never opens = never
+opens_none act.Resend was never opens = never
+opens_none (act.Deliver p word) was never opens = never
+opens_none act.Crash was down opens = opens
+opens_none act.Recover was down opens = opens
 
--- it emits nothing, takes no memory, and is no resend
-pub is_silent : (a : HostAct) → IsDownOrUp a → (x : Stream) (side : End) → emission_of x side (act_of a) ≡ None
-is_silent (Start word) never = absurd never
-is_silent (Batch word) never = absurd never
-is_silent Resend never = absurd never
-is_silent (Deliver p word) never = absurd never
-is_silent Crash down = crash_is_silent
-is_silent Recover down = recover_is_silent
+-- it emits nothing, and is no resend
+pub is_silent : (a : Act) → IsDownOrUp a → (x : Stream) (side : End) → emission_of x side a ≡ None
+is_silent (act.Put m) never = absurd never
+is_silent act.Get never = absurd never
+is_silent act.Ack never = absurd never
+is_silent (act.Start word) never = absurd never
+is_silent (act.Batch word) never = absurd never
+is_silent act.Resend never = absurd never
+is_silent (act.Deliver p word) never = absurd never
+is_silent act.Crash down = crash_is_silent
+is_silent act.Recover down = recover_is_silent
 
-pub carries_none : (a : HostAct) → IsDownOrUp a → ¬ (Carries a)
-carries_none (Start word) never carries = never
-carries_none (Batch word) never carries = never
-carries_none Resend never carries = never
-carries_none (Deliver p word) never carries = never
-carries_none Crash down carries = carries
-carries_none Recover down carries = carries
+pub is_once : (a : Act) → IsDownOrUp a → is_resend a ≡ false
+is_once (act.Put m) never = refl
+is_once act.Get never = refl
+is_once act.Ack never = refl
+is_once (act.Start word) never = refl
+is_once (act.Batch word) never = refl
+is_once act.Resend never = absurd never
+is_once (act.Deliver p word) never = refl
+is_once act.Crash down = refl
+is_once act.Recover down = refl
 
-pub is_once : (a : HostAct) → IsDownOrUp a → is_resend a ≡ false
-is_once (Start word) never = refl
-is_once (Batch word) never = refl
-is_once Resend never = absurd never
-is_once (Deliver p word) never = refl
-is_once Crash down = refl
-is_once Recover down = refl
+-- what a charge is asked is an act of a host's
+pub suits_host : (c : ChargeState) (a : Act) → Suits c a → IsHostAct a
+suits_host c (act.Put m) never = never
+suits_host c act.Get never = never
+suits_host c act.Ack never = never
+suits_host c (act.Start word) suits = tt
+suits_host c (act.Batch word) suits = tt
+suits_host c act.Resend suits = tt
+suits_host c (act.Deliver p word) suits = tt
+suits_host c act.Crash suits = tt
+suits_host c act.Recover suits = tt
+
+-- which has one kind
+pub kind_is : (a : Act) (k l : Kind) → IsKindOf a k → IsKindOf a l → k ≡ l
+kind_is (act.Put m) k l never same = absurd never
+kind_is act.Get k l never same = absurd never
+kind_is act.Ack k l never same = absurd never
+kind_is (act.Start word) k l is same = is ∙ sym same
+kind_is (act.Batch word) k l is same = is ∙ sym same
+kind_is act.Resend k l is same = is ∙ sym same
+kind_is (act.Deliver p word) k l is same = is ∙ sym same
+kind_is act.Crash k l is same = is ∙ sym same
+kind_is act.Recover k l is same = is ∙ sym same
 
 -- an act that emits nothing, of the charge of this stream
-pub goes : {W : Type 0} (s t : Station W) (v w : PassState) (old new : List ℕ) (place now stream : ℕ) (a : HostAct) (turned : Turned)
-    → IsStation s → ((x : Stream) (side : End) → emission_of x side (act_of a) ≡ None) → is_resend a ≡ false
+pub goes : {W : Type 0} (s t : Station W) (v w : PassState) (old new : List ℕ) (place now stream : ℕ) (a : Act) (kind : Kind) (turned : Turned)
+    → IsStation s → ((x : Stream) (side : End) → emission_of x side a ≡ None) → is_resend a ≡ false → IsKindOf a kind
     → slice_get (streams_of s.host.modes) place ≡ Some stream → t.words ≡ s.words
-    → Performed s t v w old new place now a turned → GoesDownOrUp (act_of a) (kind_of a) stream now s t v w turned
-goes s t v w old new place now stream a (Did side named k d) is silent once at words done =
+    → Performed s t v w old new place now a turned → GoesDownOrUp a kind stream now s t v w turned
+goes s t v w old new place now stream a kind (Did side named k d) is silent once of at words done =
     let h = done.1 in (
       place,
       at,
       h.of_stream ∙ same_Some h.charge.stream stream (sym (stream_at_place s is place h.charge h.at) ∙ at),
-      done.0,
-      no_length v w h.charge _ (act_of a) old new d silent h.driven,
+      kind_is a k kind done.0 of,
+      no_length v w h.charge _ a old new d silent h.driven,
       words,
-      (old, new, subst (λ (b : Bool). Happened s t v w old new place now (act_of a) b side named d) once h),
+      (old, new, subst (λ (b : Bool). Happened s t v w old new place now a b side named d) once h),
     )
-goes s t v w old new place now stream a Idle is silent once at words done = absurd done
-goes s t v w old new place now stream a (Unread fault) is silent once at words done = absurd done
-goes s t v w old new place now stream a Stranger is silent once at words done = absurd done
+goes s t v w old new place now stream a kind Idle is silent once of at words done = absurd done
+goes s t v w old new place now stream a kind (Unread fault) is silent once of at words done = absurd done
+goes s t v w old new place now stream a kind Stranger is silent once of at words done = absurd done
+
+-- only a message with a byte takes memory, and a packet with one needs no word
+pub short_of_memory : {W : Type 0} (to_come : W → ℕ → Option ℕ) (body : OwnedBody) (s : Station W) → ¬ (CarriesNoBytes body) → DeliveryFails to_come body s s NoMemory
+short_of_memory to_come (packet.NeedUid jd) s carries = absurd (carries tt)
+short_of_memory to_come (packet.Accept jd id) s carries = absurd (carries tt)
+short_of_memory to_come (packet.Send id m) s carries = ((0, (refl, refl)), refl)
+short_of_memory to_come (packet.Ack id b) s carries = absurd (carries tt)
+short_of_memory to_come (packet.Cleanup id) s carries = absurd (carries tt)
+short_of_memory to_come (packet.Batch id b) s carries = ((0, (refl, refl)), refl)

@@ -4,7 +4,7 @@ pub mod Division
 pub mod Fault
 pub mod Handshakes
 pub mod Host
-pub mod HostAct
+pub mod Kind
 pub mod Modes
 pub mod Room
 pub mod Station

@@ -17,14 +17,13 @@ use Rattle.amo_host.specs.declared.agenda.Task.{Task}
 use Rattle.amo_host.specs.declared.agenda.Task.TheVariants as task
 use Rattle.amo_host.specs.declared.fault.PumpFault.{PumpFault}
 use Rattle.amo_host.specs.declared.fault.PumpFault.TheVariants.{Busy, NoWord}
-use Rattle.amo_host.specs.declared.host_act.HostAct.{HostAct}
 use Rattle.amo_host.specs.declared.turned.Kind.{Kind}
 use Rattle.amo_host.specs.declared.turned.Kind.TheVariants as kind
 use Rattle.amo_host.specs.declared.turned.Turned.{Turned}
 use Rattle.amo_host.specs.declared.turned.Turned.TheVariants.{Idle, Unread, Stranger, Did}
 use Rattle.amo_host.specs.Charges.{stream_mode_of}
 use Rattle.amo_host.specs.Host.{Host, IsNext, IsFor, Noted, streams_of}
-use Rattle.amo_host.specs.HostAct.{act_of, kind_of, is_resend}
+use Rattle.amo_host.specs.Kind.{IsKindOf, is_resend}
 use Rattle.amo_host.specs.Station.{Station, moved_past}
 
 -- One event, at the charge in this place: the book's call did this act, the charge holds the mode that it answered, and the host
@@ -44,9 +43,9 @@ abbrev pub Nothing : {W : Type 0} → Station W → Station W → PassState → 
 Nothing s t v w old new = (t ≡ s) × (w ≡ v) × (new ≡ old)
 
 -- the pump did this act at the charge in this place
-abbrev pub Performed : {W : Type 0} → Station W → Station W → PassState → PassState → List ℕ → List ℕ → ℕ → ℕ → HostAct → Turned → Type 0
+abbrev pub Performed : {W : Type 0} → Station W → Station W → PassState → PassState → List ℕ → List ℕ → ℕ → ℕ → Act → Turned → Type 0
 Performed s t v w old new place now a (Did side stream k done) =
-    (k ≡ kind_of a) × Happened s t v w old new place now (act_of a) (is_resend a) side stream done
+    IsKindOf a k × Happened s t v w old new place now a (is_resend a) side stream done
 Performed s t v w old new place now a _ = ⊥
 
 -- a crash or a recovery: no charge is of this stream, or that charge's side went down, or came up again

@@ -23,7 +23,6 @@ mod charges;
 mod division;
 mod fault;
 mod handshakes;
-mod host_act;
 mod modes;
 mod pump;
 mod room;

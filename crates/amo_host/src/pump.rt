@@ -4,20 +4,22 @@ ghost use Rattle.amo_core.specs.declared.mode.Mode.{Mode};
 ghost use Rattle.amo_core.specs.declared.act.Act.TheVariants as act;
 ghost use Rattle.amo_book.specs.Book.{Each};
 ghost use Rattle.amo_book.specs.Charge.{ChargeState};
+ghost use Rattle.amo_book.specs.Drive.{Suits};
 ghost use Rattle.amo_host.specs.declared.turned.Kind.TheVariants as kind;
 ghost use Rattle.amo_host.specs.Charges.{CanBeDriven, IsAtRest, IsOfSide, stream_mode_of};
 ghost use Rattle.amo_host.specs.Handshakes.{open_count};
 ghost use Rattle.amo_host.specs.Host.{IsHost, fresh, streams_of};
-ghost use Rattle.amo_host.specs.HostAct.{act_of, kind_of, IsDownOrUp, Suits, Carries};
+ghost use Rattle.amo_host.specs.Kind.{IsKindOf, IsDownOrUp};
 ghost use Rattle.amo_host.specs.Modes.{MayOpen};
 ghost use Rattle.amo_host.specs.Station.{IsStation, BelongTogether, Begins, Refuses};
 ghost use Rattle.amo_host.specs.Turn.{Nothing, Performed, GoesDownOrUp};
 
 use crate::agenda::Agenda;
 use crate::charges::{can_be_driven, modes_of};
-use crate::host_act::HostAct;
-use crate::{NewPumpFault, PumpFault, Turned};
+use crate::turned::is_resend;
+use crate::{Kind, NewPumpFault, PumpFault, Turned};
 use amo_book::{Book, Charge, Pass};
+use amo_core::Act;
 use amo_packet::MAX_PACKET;
 use amo_window::WindowFault;
 use amo_word::Words;
@@ -88,7 +90,7 @@ impl<W: Words + Drop> Pump<W> {
         ensures busy { IfErr result (λ fault. (self.new ≡ self.old) × (pass.new ≡ pass.old) × (fault ≡ PumpFault.Busy)) }
         ensures station { IsStation self.new × BelongTogether book.now pass.new self.new }
     {
-        self.go(book, pass, now, stream, HostAct::Crash)
+        self.go(book, pass, now, stream, Act::Crash)
     }
 
     /// The side of this stream is up again.
@@ -104,7 +106,7 @@ impl<W: Words + Drop> Pump<W> {
         ensures busy { IfErr result (λ fault. (self.new ≡ self.old) × (pass.new ≡ pass.old) × (fault ≡ PumpFault.Busy)) }
         ensures station { IsStation self.new × BelongTogether book.now pass.new self.new }
     {
-        self.go(book, pass, now, stream, HostAct::Recover)
+        self.go(book, pass, now, stream, Act::Recover)
     }
 
     /// From now on the words are these: those of the next incarnation.
@@ -147,11 +149,11 @@ impl<W: Words + Drop> Pump<W> {
         pass: &mut Pass,
         now: u64,
         stream: u32,
-        act: HostAct<'_>,
+        act: Act,
     ) -> Result<Turned, PumpFault>
         requires together { BelongTogether book.now pass.old self.old }
         requires act { IsDownOrUp act }
-        ensures ok { IfOk result (GoesDownOrUp (act_of act.entry) (kind_of act.entry) stream now self.old self.new pass.old pass.new) }
+        ensures ok { (k : Kind) → IsKindOf act k → IfOk result (GoesDownOrUp act k stream now self.old self.new pass.old pass.new) }
         ensures busy { IfErr result (λ fault. (self.new ≡ self.old) × (pass.new ≡ pass.old) × (fault ≡ PumpFault.Busy)) }
         ensures station { IsStation self.new × BelongTogether book.now pass.new self.new }
     {
@@ -179,25 +181,26 @@ impl<W: Words + Drop> Pump<W> {
         pass: &mut Pass,
         now: u64,
         place: usize,
-        act: HostAct<'_>,
+        act: Act,
         out: &mut [u8; MAX_PACKET],
     ) -> Result<Turned, PumpFault>
         requires together { BelongTogether book.now pass.old self.old }
         requires place { place < length self.old.charges }
-        requires suits { (c : ChargeState) → slice_get self.old.charges place ≡ Some c → Suits act c }
-        requires free { (was : Mode) → MayOpen (act_of act) was → open_count self.old.host.permits < self.old.host.limit }
-        ensures done { IfOk result (Performed self.old self.new pass.old pass.new out.old out.new place now act.entry) }
-        ensures fault { IfErr result (λ fault. Nothing self.old self.new pass.old pass.new out.old out.new × (fault ≢ PumpFault.NoWord)) }
+        requires suits { (c : ChargeState) → slice_get self.old.charges place ≡ Some c → Suits c act }
+        requires free { (was : Mode) → MayOpen act was → open_count self.old.host.permits < self.old.host.limit }
+        ensures done { IfOk result (Performed self.old self.new pass.old pass.new out.old out.new place now act) }
+        ensures busy { IfErr result (λ fault. Nothing self.old self.new pass.old pass.new out.old out.new × (fault ≡ PumpFault.Busy)) }
         ensures words { self.new.words ≡ self.old.words }
-        ensures memory { IfErr result (λ fault. fault ≡ PumpFault.NoMemory → Carries act.entry) }
         ensures station { IsStation self.new × BelongTogether book.now pass.new self.new }
     {
         let charge = &mut self.charges[place];
         let side = charge.side();
         let stream = charge.stream();
-        let done = act.perform(self.alloc, book, pass, charge, out)?;
-        self.agenda.note(place, act.is_resend(), done.mode, now);
-        Ok(Turned::Did(side, stream, act.kind(), done))
+        let kind = Kind::of(&act);
+        let resent = is_resend(&act);
+        let done = book.perform(pass, charge, act, out)?;
+        self.agenda.note(place, resent, done.mode, now);
+        Ok(Turned::Did(side, stream, kind, done))
     }
 }
 

@@ -7,9 +7,9 @@ ghost use Rattle.amo_host.specs.Station.{IsStation, BelongTogether, moved_past};
 ghost use Rattle.amo_host.specs.Turn.{Turns, TurnsAlone, TurnsWith, Fails, FailsAlone, FailsWith, DeliveryFails, NoEvent, Drew, DrewFor, Lacks, BringsBytes};
 
 use crate::agenda::Task;
-use crate::host_act::HostAct;
 use crate::{Pump, PumpFault, Turned};
 use amo_book::{Book, Pass};
+use amo_core::Act;
 use amo_packet::{Body, MAX_PACKET, NEWEST_VERSION, Packet, read};
 use amo_word::Words;
 
@@ -63,14 +63,14 @@ impl<W: Words + Drop> Pump<W> {
     {
         match self.next(now) {
             Task::Idle => Ok(Turned::Idle),
-            Task::Resend(place) => self.perform(book, pass, now, place, HostAct::Resend, out),
+            Task::Resend(place) => self.perform(book, pass, now, place, Act::Resend, out),
             Task::Start(place) => {
                 let word = self.draw()?;
                 self.move_past(place);
                 let start = if self.batches {
-                    HostAct::Batch(word)
+                    Act::Batch(word)
                 } else {
-                    HostAct::Start(word)
+                    Act::Start(word)
                 };
                 self.perform(book, pass, now, place, start, out)
             }
@@ -78,6 +78,7 @@ impl<W: Words + Drop> Pump<W> {
     }
 
     /// A turn with a datagram.
+    #[tactic(auto, using(crate::proofs::StationLemmas::short_of_memory))]
     fn turn_with(
         &mut self,
         book: &Book,
@@ -102,8 +103,11 @@ impl<W: Words + Drop> Pump<W> {
         let Some(place) = self.addressed(&packet) else {
             return Ok(Turned::Stranger);
         };
+        let Ok(owned) = packet.copied(self.alloc) else {
+            return Err(PumpFault::NoMemory);
+        };
         let word = self.word_for(&packet)?;
-        self.perform(book, pass, now, place, HostAct::Deliver(packet, word), out)
+        self.perform(book, pass, now, place, Act::Deliver(owned, word), out)
     }
 
     // Each of these reaches one field and tells that the pump is still one, so that a turn speaks of whole pumps alone.

@@ -1,5 +1,9 @@
 //! What a turn answers.
+ghost use Rattle.std.specs.Prelude.{◌≡◌};
+ghost use Rattle.amo_host.specs.Kind.{IsKindOf, IsHostAct, is_resend};
+
 use amo_book::Done;
+use amo_core::Act;
 use amo_object::End;
 use amo_packet::ReadFault;
 
@@ -18,6 +22,33 @@ pub enum Kind {
     Crash,
     /// The side came up again.
     Recover,
+}
+
+impl Kind {
+    /// The kind of an act of a host.
+    pub(crate) fn of(act: &Act) -> Kind
+        requires { IsHostAct act.now }
+        ensures { IsKindOf act.now result }
+    {
+        match act {
+            Act::Start(word) => Kind::Start(*word),
+            Act::Batch(word) => Kind::Batch(*word),
+            Act::Resend => Kind::Resend,
+            Act::Deliver(_, word) => Kind::Deliver(*word),
+            Act::Crash => Kind::Crash,
+            Act::Recover => Kind::Recover,
+            Act::Put(_) => unreachable!(),
+            Act::Get => unreachable!(),
+            Act::Ack => unreachable!(),
+        }
+    }
+}
+
+/// Whether an act emits the packet of the mode again.
+pub(crate) fn is_resend(act: &Act) -> bool
+    ensures { result ≡ is_resend act.now }
+{
+    matches!(act, Act::Resend)
 }
 
 /// What came of a turn.

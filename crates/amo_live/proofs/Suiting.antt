@@ -1,5 +1,5 @@
 -- The acts of a host are those of its side.
-use Rattle.std.proofs.Common.{◌≡◌, ℕ, zero, suc, ◌<◌, ◌^◌, List, [], ◌∷◌, Option, Some, None, Result, Ok, Err, IfOk, IfSome, length, slice_get, refl, sym, subst, arith}
+use Rattle.std.proofs.Common.{◌≡◌, ℕ, zero, suc, ◌<◌, ◌^◌, Bool, true, false, List, [], ◌∷◌, Option, Some, None, Result, Ok, Err, IfOk, IfSome, length, slice_get, refl, sym, subst, arith}
 use Rattle.hex.specs.Hex.{IsBytes}
 use Rattle.amo_object.specs.declared.step.End.{End}
 use Rattle.amo_object.specs.declared.step.End.TheVariants.{Sender, Receiver}
@@ -10,6 +10,13 @@ use Rattle.amo_core.specs.declared.act.Act.TheVariants as act
 use Rattle.amo_core.specs.declared.mode.Mode.{Mode}
 use Rattle.amo_core.specs.declared.reply.Reply.TheVariants.{Done}
 use Rattle.amo_text.specs.Message.{IsMessage}
+use Rattle.amo_book.specs.declared.fault.PutFault.{PutFault}
+use Rattle.amo_book.specs.declared.fault.PutFault.TheVariants as put_fault
+use Rattle.amo_book.specs.declared.fault.GetFault.{GetFault}
+use Rattle.amo_book.specs.declared.fault.GetFault.TheVariants as get_fault
+use Rattle.amo_book.specs.declared.fault.AckFault.{AckFault}
+use Rattle.amo_book.specs.declared.fault.AckFault.TheVariants as ack_fault
+use Rattle.amo_book.specs.Calls.{put_answer, get_answer, ack_answer}
 use Rattle.amo_book.specs.Charge.{ChargeState}
 use Rattle.amo_journal.specs.declared.version.Version.{Version}
 use Rattle.amo_journal.specs.declared.version.Version.TheVariants.{Two}
@@ -89,16 +96,44 @@ did_at h g place stream a (Ok (Some mode)) within of did =
     let there = stands h.charges place within in
     subst (λ (n : ℕ). Did h g n a (Some mode)) (of there.0 there.1) (there.0.side, did there.0 there.1)
 
--- a put has its line, whatever was replied
-pub put_spelt : (version : Version) (stream : ℕ) (m copy : List ℕ) (known : Answer) → IsMessage m → copy ≡ m → IfSome known (λ k. (x : List ℕ) → HasReply (act.Put x) k.0)
+-- what a put answered has its line
+pub put_spelt : (version : Version) (stream : ℕ) (m copy : List ℕ) (r : Result ℕ PutFault) (known : Answer) → IsMessage m → copy ≡ m → known ≡ put_answer r
     → IfSome known (λ k. HasAct version Sender stream (act.Put copy) × HasReply (act.Put copy) k.0)
-put_spelt version stream m copy None short is replies = tt
-put_spelt version stream m copy (Some (reply, position)) short is replies = (subst IsMessage (sym is) short, replies copy)
+put_spelt version stream m copy r known short is told =
+    subst (λ (a : Answer). IfSome a (λ k. HasAct version Sender stream (act.Put copy) × HasReply (act.Put copy) k.0)) (sym told) (spelt r)
+  where
+    message : IsMessage copy
+    message = subst IsMessage (sym is) short
+
+    spelt : (r : Result ℕ PutFault) → IfSome (put_answer r) (λ k. HasAct version Sender stream (act.Put copy) × HasReply (act.Put copy) k.0)
+    spelt (Ok n) = (message, tt)
+    spelt (Err (put_fault.Full n x)) = (message, tt)
+    spelt (Err (put_fault.Down n x)) = (message, tt)
+    spelt (Err (put_fault.Busy x)) = tt
+    spelt (Err (put_fault.NoStream x)) = tt
+
+-- and what a get answered, where its message is one
+pub get_replies : (r : Result (List ℕ × ℕ) GetFault) → IfOk r (λ t. IsMessage t.0) → IfSome (get_answer r) (λ k. HasReply act.Get k.0)
+get_replies (Ok (m, n)) k = k
+get_replies (Err (get_fault.Nothing n)) k = tt
+get_replies (Err (get_fault.Down n)) k = tt
+get_replies (Err get_fault.Busy) k = tt
+get_replies (Err get_fault.NoStream) k = tt
 
 pub get_spelt : (version : Version) (stream : ℕ) (known : Answer) → IfSome known (λ k. HasReply act.Get k.0) → IfSome known (λ k. HasAct version Receiver stream act.Get × HasReply act.Get k.0)
 get_spelt version stream None replies = tt
 get_spelt version stream (Some (reply, position)) replies = (tt, replies)
 
-pub ack_spelt : (version : Version) (stream : ℕ) (known : Answer) → IfSome known (λ k. HasReply act.Ack k.0) → IfSome known (λ k. HasAct version Sender stream act.Ack × HasReply act.Ack k.0)
-ack_spelt version stream None replies = tt
-ack_spelt version stream (Some (reply, position)) replies = (tt, replies)
+-- and what a question for the last put answered
+pub ack_spelt : (version : Version) (stream : ℕ) (r : Result (Bool × ℕ) AckFault) (known : Answer) → known ≡ ack_answer r
+    → IfSome known (λ k. HasAct version Sender stream act.Ack × HasReply act.Ack k.0)
+ack_spelt version stream r known told =
+    subst (λ (a : Answer). IfSome a (λ k. HasAct version Sender stream act.Ack × HasReply act.Ack k.0)) (sym told) (spelt r)
+  where
+    spelt : (r : Result (Bool × ℕ) AckFault) → IfSome (ack_answer r) (λ k. HasAct version Sender stream act.Ack × HasReply act.Ack k.0)
+    spelt (Ok (true, n)) = (tt, tt)
+    spelt (Ok (false, n)) = (tt, tt)
+    spelt (Err (ack_fault.NotYet n)) = (tt, tt)
+    spelt (Err (ack_fault.Down n)) = (tt, tt)
+    spelt (Err ack_fault.Busy) = tt
+    spelt (Err ack_fault.NoStream) = tt

@@ -12,7 +12,7 @@ ghost use Rattle.amo_live.specs.Host.{IsBegun, IsNoted, Stays, message_in};
 
 use crate::noting::note_answer;
 use crate::{Host, LiveFault};
-use amo_book::{AckFault, GetFault, PutFault};
+use amo_book::{AckFault, GetFault, PutFault, reply_to_ack, reply_to_get, reply_to_put};
 use amo_core::{Act, Reply};
 use amo_net::Link;
 use amo_object::End;
@@ -21,7 +21,7 @@ use amo_text::Sink;
 
 impl<L: Link, S: Sink> Host<L, S> {
     /// Puts a message on a stream. The answer is the book's, and stands in the journal.
-    #[tactic(auto, using(crate::proofs::Suiting::put_spelt, crate::proofs::Onwards::begins_whole))]
+    #[tactic(auto, using(crate::proofs::Onwards::begins_whole))]
     pub fn put(&mut self, stream: u32, message: Message) -> Result<Result<u64, PutFault>, LiveFault>
         requires { IsNoted S.written self.old }
         ensures put { IfOk result (λ answer. Grown self.old.pass self.new.pass end.Sender stream (act.Put message) (put_answer answer)) }
@@ -61,7 +61,7 @@ impl<L: Link, S: Sink> Host<L, S> {
             return Ok(None);
         }
         let pass = self.pass.number();
-        let known = reply_to_get(self.book.get(&mut self.pass, stream));
+        let known = spelt_reply_to_get(self.book.get(&mut self.pass, stream));
         let side = End::Receiver;
         let known = match note_answer(&mut self.journal, pass, side, stream, Act::Get, known) {
             Ok(known) => known,
@@ -71,7 +71,7 @@ impl<L: Link, S: Sink> Host<L, S> {
     }
 
     /// What is known of the last message put to a stream. The answer is the book's, and stands in the journal.
-    #[tactic(auto, using(crate::proofs::Suiting::ack_spelt, crate::proofs::Onwards::begins_whole))]
+    #[tactic(auto, using(crate::proofs::Onwards::begins_whole))]
     pub fn get_ack(&mut self, stream: u32) -> Result<Result<(bool, u64), AckFault>, LiveFault>
         requires { IsNoted S.written self.old }
         ensures known { IfOk result (λ answer. Grown self.old.pass self.new.pass end.Sender stream act.Ack (ack_answer answer)) }
@@ -104,50 +104,16 @@ fn message_in(known: Option<(Reply, u64)>) -> Option<Message>
     }
 }
 
-/// The reply and the position that a put answered.
-fn reply_to_put(answered: &Result<u64, PutFault>) -> Option<(Reply, u64)>
-    ensures answer { result ≡ put_answer answered.now }
-    ensures reply { IfSome result (λ k. (m : List ℕ) → HasReply (act.Put m) k.0) }
-{
-    match answered {
-        Ok(position) => Some((Reply::Ok, *position)),
-        Err(PutFault::Full(position, _)) => Some((Reply::Full, *position)),
-        Err(PutFault::Down(position, _)) => Some((Reply::Down, *position)),
-        Err(PutFault::Busy(_)) => None,
-        Err(PutFault::NoStream(_)) => None,
-    }
-}
-
-/// The reply and the position that a get answered.
-fn reply_to_get(answered: Result<(Message, u64), GetFault>) -> Option<(Reply, u64)>
+/// The reply to a get and its event's position, for which a journal has a line.
+#[tactic(auto, using(crate::proofs::Suiting::get_replies))]
+fn spelt_reply_to_get(answered: Result<(Message, u64), GetFault>) -> Option<(Reply, u64)>
     ensures answer { result ≡ get_answer answered }
     ensures reply { IfSome result (λ k. HasReply act.Get k.0) }
 {
-    match answered {
-        Ok((message, position)) => {
-            is_message(&message);
-            Some((Reply::Got(message), position))
-        }
-        Err(GetFault::Nothing(position)) => Some((Reply::Nothing, position)),
-        Err(GetFault::Down(position)) => Some((Reply::Down, position)),
-        Err(GetFault::Busy) => None,
-        Err(GetFault::NoStream) => None,
+    if let Ok((message, _)) = &answered {
+        is_message(message);
     }
-}
-
-/// The reply and the position that a question for the last put answered.
-fn reply_to_ack(answered: Result<(bool, u64), AckFault>) -> Option<(Reply, u64)>
-    ensures answer { result ≡ ack_answer answered }
-    ensures reply { IfSome result (λ k. HasReply act.Ack k.0) }
-{
-    match answered {
-        Ok((true, position)) => Some((Reply::Yes, position)),
-        Ok((false, position)) => Some((Reply::No, position)),
-        Err(AckFault::NotYet(position)) => Some((Reply::NotYet, position)),
-        Err(AckFault::Down(position)) => Some((Reply::Down, position)),
-        Err(AckFault::Busy) => None,
-        Err(AckFault::NoStream) => None,
-    }
+    reply_to_get(answered)
 }
 
 /// What a journal asks of a message's bytes, which every message keeps. It does nothing.

@@ -16,7 +16,7 @@ use Rattle.amo_world.proofs.Extensions.{earlier_too}
 use Rattle.amo_book.specs.declared.drive.Done.{Done}
 use Rattle.amo_book.specs.Pass.{PassState, Answer, GrownBy, Grown, event}
 use Rattle.amo_book.specs.Charge.{ChargeState, IsChargeOf}
-use Rattle.amo_book.specs.Drive.{Driven, DrivenSilently}
+use Rattle.amo_book.specs.Drive.{Driven, Suits}
 use Rattle.amo_book.specs.Book.{BookState, Each, first_pass, Opens, Lists, AreFirstCharges}
 use Rattle.amo_book.specs.Rule.{AllBelow}
 use Rattle.amo_book.specs.Closed.{ClosedState, Closes, AreAll, IsOf, HasPass, StandsIn}
@@ -130,7 +130,7 @@ grown_same p q side stream act (Some (answer, position)) grown = (grown.book, gr
 abbrev pub Says : Result Reply ToolFault → Answer → Type 0
 Says result answer = IfOk result (λ reply. (position : ℕ) × (answer ≡ Some (reply, position))) × IfErr result (λ fault. (fault ≡ Busy) × (answer ≡ None))
 
-grown_as : (p q : PassState) (side : End) (stream : ℕ) (act : Act) (answer : Answer) (answer' : Answer) → answer ≡ answer' → Grown p q side stream act answer → Grown p q side stream act answer'
+pub grown_as : (p q : PassState) (side : End) (stream : ℕ) (act : Act) (answer : Answer) (answer' : Answer) → answer ≡ answer' → Grown p q side stream act answer → Grown p q side stream act answer'
 grown_as p q side stream act answer answer' is grown = subst (Grown p q side stream act) is grown
 
 pub called_adds : (b : BookState) (ps : List PassState) (cs : List ChargeState) (r : Represents b ps cs) (p q d : PassState) (side : End) (stream : ℕ) (act : Act)
@@ -175,24 +175,6 @@ pub driven_after : (b : BookState) (ps : List PassState) (cs : List ChargeState)
 driven_after b ps cs r p q d c e f k side stream act old new done is h place at driven =
     both_after b ps cs r p q d k c e done.mode is driven.grown.book driven.grown.number (charge_at b ps cs r side stream k c f h place at) driven.charge
 
--- an act that emits nothing leaves each buffer as it is
-writes_none : (o : Option OwnedPacket) (old new buffer : List ℕ) (length : Option ℕ) → length ≡ None → Writes o old new length → Writes o buffer buffer length
-writes_none None old new buffer length none writes = (refl, none)
-writes_none (Some p) old new buffer length none writes = absurd (no_length (sym none ∙ writes.2))
-  where
-    no_length : {n : ℕ} → ◌≡◌ {A = Option ℕ} None (Some n) → ⊥
-    no_length h = cc
-
-pub silently : (v w : PassState) (c d : ChargeState) (act : Act) (done : Done) → DrivenSilently v w c d act done → (buffer : List ℕ) → Driven v w c d act buffer buffer done
-silently v w c d act done (none, (old, new, driven)) buffer = record {
-  grown = driven.grown;
-  answered = driven.answered;
-  emitted = writes_none (emission_of (stream_after c.stream driven.grown.earlier) c.side act) old new buffer done.length none driven.emitted;
-  mode = driven.mode;
-  charge = driven.charge;
-  found = driven.found;
-}
-
 -- no event bears another number than 0
 own_here : (n : ℕ) (e : Event) (rest : List Event) → n < 2 → event_if (1 == n) e rest ≡ [] → (n ≡ 0) × (rest ≡ [])
 own_here zero e rest h is = (refl, is)
@@ -211,14 +193,26 @@ own_at_close b ps cs closed r closes =
     subst (λ (l : List Event). IsOwn l) (sym (ap seen_of r.passes_are))
     (earlier_too (λ past e. e.pass ≡ 0) closes.history r.pass.seen each.0.0 own)
 
--- only a sender starts
-pub starts_sender : (side : End) (act : Act) (word : ℕ) → act ≡ acts.Start word → IsHostActOf side act → side ≡ Sender
-starts_sender Sender act word is may = refl
-starts_sender Receiver act word is may = absurd (subst (IsHostActOf Receiver) is may)
-
-pub batches_sender : (side : End) (act : Act) (word : ℕ) → act ≡ acts.Batch word → IsHostActOf side act → side ≡ Sender
-batches_sender Sender act word is may = refl
-batches_sender Receiver act word is may = absurd (subst (IsHostActOf Receiver) is may)
+-- what a side's host may do suits the charge that drives the side
+pub suits_side : (c : ChargeState) (side : End) (act : Act) → c.side ≡ side → IsHostActOf side act → Suits c act
+suits_side c Sender (acts.Put m) is may = absurd may
+suits_side c Sender acts.Get is may = absurd may
+suits_side c Sender acts.Ack is may = absurd may
+suits_side c Sender (acts.Start word) is may = is
+suits_side c Sender (acts.Batch word) is may = is
+suits_side c Sender acts.Resend is may = tt
+suits_side c Sender (acts.Deliver p word) is may = absurd may
+suits_side c Sender acts.Crash is may = tt
+suits_side c Sender acts.Recover is may = tt
+suits_side c Receiver (acts.Put m) is may = absurd may
+suits_side c Receiver acts.Get is may = absurd may
+suits_side c Receiver acts.Ack is may = absurd may
+suits_side c Receiver (acts.Start word) is may = absurd may
+suits_side c Receiver (acts.Batch word) is may = absurd may
+suits_side c Receiver acts.Resend is may = tt
+suits_side c Receiver (acts.Deliver p word) is may = absurd may
+suits_side c Receiver acts.Crash is may = tt
+suits_side c Receiver acts.Recover is may = tt
 
 -- a book that was opened with these sides
 module _ {X : Type 0} where

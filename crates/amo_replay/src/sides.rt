@@ -11,8 +11,8 @@ ghost use Rattle.amo_replay.specs.Transcript.{event_at};
 ghost use Rattle.amo_replay.specs.Stop.{IsRefusal};
 
 use crate::ToolFault;
-use crate::replies::{reply_to_ack, reply_to_get, reply_to_put};
-use amo_book::{Book, Charge, OpenFault, Pass};
+use crate::replies::replied;
+use amo_book::{Book, Charge, OpenFault, Pass, reply_to_ack, reply_to_get, reply_to_put};
 use amo_core::{Act, Reply};
 use amo_object::End;
 use amo_packet::{MAX_PACKET, Message, Packet, STREAMS};
@@ -88,7 +88,7 @@ impl BookSides {
         ensures busy { IfErr result (λ fault. (fault ≡ ToolFault.Busy) × (self.new ≡ self.old)) }
     {
         let answer = self.book.put(&mut self.passes[0], stream, message);
-        reply_to_put(answer)
+        replied(reply_to_put(&answer))
     }
 
     /// A get, at the receiver.
@@ -98,7 +98,7 @@ impl BookSides {
         ensures busy { IfErr result (λ fault. (fault ≡ ToolFault.Busy) × (self.new ≡ self.old)) }
     {
         let answer = self.book.get(&mut self.passes[0], stream);
-        reply_to_get(answer)
+        replied(reply_to_get(answer))
     }
 
     /// A get_ack, at the sender.
@@ -108,7 +108,7 @@ impl BookSides {
         ensures busy { IfErr result (λ fault. (fault ≡ ToolFault.Busy) × (self.new ≡ self.old)) }
     {
         let answer = self.book.get_ack(&mut self.passes[0], stream);
-        reply_to_ack(answer)
+        replied(reply_to_ack(answer))
     }
 
     /// An act of a side's host that is no delivery.
@@ -126,14 +126,8 @@ impl BookSides {
     {
         let pass = &mut self.passes[0];
         let charge = &mut self.charges[place_of(side, stream)];
-        match act {
-            Act::Start(word) => Ok(self.book.start(pass, charge, word, buffer)?.length),
-            Act::Batch(word) => Ok(self.book.start_batch(pass, charge, word, buffer)?.length),
-            Act::Resend => Ok(self.book.resend(pass, charge, buffer)?.length),
-            Act::Crash => Ok(self.book.crash(pass, charge)?.length),
-            Act::Recover => Ok(self.book.recover(pass, charge)?.length),
-            _ => unreachable!(),
-        }
+        let done = self.book.perform(pass, charge, act, buffer)?;
+        Ok(done.length)
     }
 
     /// Delivers a packet to a side of its stream, with the word for an accept.

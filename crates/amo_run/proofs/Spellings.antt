@@ -1,5 +1,5 @@
 -- The events of clients are of the book's sides, and a journal has a line for each.
-use Rattle.std.proofs.Common.{◌≡◌, ℕ, zero, suc, ◌<◌, ◌≤◌, Bool, true, false, List, [], ◌∷◌, ◌++◌, Option, Some, None, Result, Ok, Err, IfSome, IsErrOf, inl, inr, ◌⊎◌, slice_get, refl, ap, ap₂, arith}
+use Rattle.std.proofs.Common.{◌≡◌, ℕ, zero, suc, ◌<◌, ◌≤◌, Bool, true, false, List, [], ◌∷◌, ◌++◌, Option, Some, None, Result, Ok, Err, IfOk, IfSome, IsErrOf, inl, inr, ◌⊎◌, slice_get, refl, ap, ap₂, arith}
 use Rattle.std.proofs.lemmas.Bool.{cases_lt}
 use Rattle.std.proofs.lemmas.List.Elements.{All-append}
 use Rattle.amo_object.specs.declared.step.End.{End}
@@ -79,6 +79,14 @@ put_fits b pass stream m (Err (put_fault.Full n x)) there k = one_fits b.sides p
 put_fits b pass stream m (Err (put_fault.Down n x)) there k = one_fits b.sides pass Sender stream n (act.Put m) reply.Down there k tt
 put_fits b pass stream m (Err (put_fault.Busy x)) there k = fit_none One b.sides
 put_fits b pass stream m (Err (put_fault.NoStream x)) there k = fit_none One b.sides
+
+-- what a get answered has its line, where its message is one
+pub get_replies : (r : Result (List ℕ × ℕ) GetFault) → IfOk r (λ t. IsMessage t.0) → IfSome (get_answer r) (λ k. HasReply act.Get k.0)
+get_replies (Ok (m, n)) k = k
+get_replies (Err (get_fault.Nothing n)) k = tt
+get_replies (Err (get_fault.Down n)) k = tt
+get_replies (Err get_fault.Busy) k = tt
+get_replies (Err get_fault.NoStream) k = tt
 
 pub get_fits : (b : BookState) (pass stream : ℕ) (r : Result (List ℕ × ℕ) GetFault) → ((HasSide b Receiver stream → ⊥) → IsErrOf r get_fault.NoStream) → IfSome (get_answer r) (λ k. HasReply act.Get k.0) → AllFit One b.sides (made_by pass Receiver stream act.Get (get_answer r))
 get_fits b pass stream (Ok (m, n)) there k = one_fits b.sides pass Receiver stream n act.Get (reply.Got m) (λ none. let e = there none in cc) tt k

@@ -7,12 +7,12 @@ ghost use Rattle.amo_core.specs.declared.act.Act.TheVariants.{Get};
 ghost use Rattle.amo_journal.specs.declared.version.Version.{Version};
 ghost use Rattle.amo_journal.specs.Journal.{HasReply};
 ghost use Rattle.amo_world.specs.declared.event.Event.{Event};
-ghost use Rattle.amo_book.specs.Calls.{put_answer, get_answer, ack_answer};
+ghost use Rattle.amo_book.specs.Calls.{get_answer};
 ghost use Rattle.amo_run.specs.Fits.{AllFit};
 ghost use Rattle.amo_run.specs.Told.{Tells, listed, made_by};
 
 use crate::{ClientCall, ClientReply, Script};
-use amo_book::{AckFault, Book, GetFault, Pass, PutFault};
+use amo_book::{Book, GetFault, Pass, reply_to_ack, reply_to_get, reply_to_put};
 use amo_object::End;
 use amo_packet::Message;
 use amo_world::{Act, Event, NoMemory, Reply};
@@ -107,7 +107,7 @@ fn get<S: Script>(book: &Book, pass: &mut Pass, script: &mut S, stream: u32) -> 
     let reply = ClientReply::Get(book.get(pass, stream));
     script.told(&reply);
     let known = match reply {
-        ClientReply::Get(answered) => reply_to_get(answered),
+        ClientReply::Get(answered) => spelt_reply_to_get(answered),
         ClientReply::Put(_answered) => return None,
         ClientReply::Ack(_answered) => return None,
     };
@@ -160,48 +160,16 @@ fn event_of(
     Some((position, event))
 }
 
-/// The reply and the position that a put answered.
-fn reply_to_put(answered: &Result<u64, PutFault>) -> Option<(Reply, u64)>
-    ensures { result ≡ put_answer answered.now }
-{
-    match answered {
-        Ok(position) => Some((Reply::Ok, *position)),
-        Err(PutFault::Full(position, _)) => Some((Reply::Full, *position)),
-        Err(PutFault::Down(position, _)) => Some((Reply::Down, *position)),
-        Err(PutFault::Busy(_)) => None,
-        Err(PutFault::NoStream(_)) => None,
-    }
-}
-
-/// The reply and the position that a get answered.
-fn reply_to_get(answered: Result<(Message, u64), GetFault>) -> Option<(Reply, u64)>
+/// The reply to a get and its event's position, for which a journal has a line.
+#[tactic(auto, using(crate::proofs::Spellings::get_replies))]
+fn spelt_reply_to_get(answered: Result<(Message, u64), GetFault>) -> Option<(Reply, u64)>
     ensures answer { result ≡ get_answer answered }
     ensures reply { IfSome result (λ k. HasReply Get k.0) }
 {
-    match answered {
-        Ok((message, position)) => {
-            is_message(&message);
-            Some((Reply::Got(message), position))
-        }
-        Err(GetFault::Nothing(position)) => Some((Reply::Nothing, position)),
-        Err(GetFault::Down(position)) => Some((Reply::Down, position)),
-        Err(GetFault::Busy) => None,
-        Err(GetFault::NoStream) => None,
+    if let Ok((message, _)) = &answered {
+        is_message(message);
     }
-}
-
-/// The reply and the position that a question for the last put answered.
-fn reply_to_ack(answered: Result<(bool, u64), AckFault>) -> Option<(Reply, u64)>
-    ensures { result ≡ ack_answer answered }
-{
-    match answered {
-        Ok((true, position)) => Some((Reply::Yes, position)),
-        Ok((false, position)) => Some((Reply::No, position)),
-        Err(AckFault::NotYet(position)) => Some((Reply::NotYet, position)),
-        Err(AckFault::Down(position)) => Some((Reply::Down, position)),
-        Err(AckFault::Busy) => None,
-        Err(AckFault::NoStream) => None,
-    }
+    reply_to_get(answered)
 }
 
 /// What a journal asks of a message's bytes, which every message keeps. It does nothing.

@@ -1,5 +1,6 @@
-use Rattle.std.proofs.Common.{◌≡◌, ◌<◌, Some, length, slice_get, refl, sym, subst}
+use Rattle.std.proofs.Common.{◌≡◌, ◌<◌, Some, length, slice_get, refl, sym, ap, subst, ◌∙◌}
 use Rattle.amo_packet.specs.Packet.{packet_of}
+use Rattle.amo_packet.specs.declared.packet.OwnedPacket.{OwnedPacket}
 use Rattle.amo_host.specs.Station.{Station}
 use Rattle.amo_host.proofs.StationLemmas.{for_place, for_charge}
 use Rattle.amo_host.proofs.pump.Pump.turn_with.Goals as goal
@@ -17,4 +18,5 @@ pub perform-requires-clause-suits : goal.perform-requires-clause-suits
 perform-requires-clause-suits g c = λ charge at.
     let s = c.args.self.now in
     let there = subst (λ (t : Station g.row.W.Denot). slice_get t.charges c.in-Some.place ≡ Some charge) c.word_for.ensures.rest at in
-    (for_charge s c.in-Some.ensures.station c.in-Some.place (packet_of c.in-Ok.packet) charge c.in-Some.ensures.found there, c.in-Ok.ensures.fits)
+    ap (λ (p : OwnedPacket). p.stream) c.in-Ok-copied.ensures.ok
+    ∙ for_charge s c.in-Some.ensures.station c.in-Some.place (packet_of c.in-Ok.packet) charge c.in-Some.ensures.found there

@@ -10,7 +10,7 @@ returns-in-Err-clause-begun g c =
     let h : HostState g.row.L.Denot g.row.S.Denot = record { book = c.self.inside.book; pass = c.self.inside.pass; charges = c.self.inside.charges.items; link = c.self.inside.link; outbox = c.self.inside.outbox; journal = c.self.inside.journal } in
     let held : IsNoted g.S.Sink.written h = subst (λ (t : HostState g.row.L.Denot g.row.S.Denot). IsNoted g.S.Sink.written t) (sym c.self.view_is) c.requires in
     let v = c.self.inside.pass in let w = c.get.new.pass in
-    let grown : Grown v w Receiver c.args.stream act.Get c.reply_to_get-known.result = subst (λ (a : Answer). Grown v w Receiver c.args.stream act.Get a) (sym c.reply_to_get-known.ensures.answer) c.get.ensures.grown in
+    let grown : Grown v w Receiver c.args.stream act.Get c.spelt_reply_to_get-known.result = subst (λ (a : Answer). Grown v w Receiver c.args.stream act.Get a) (sym c.spelt_reply_to_get-known.ensures.answer) c.get.ensures.grown in
     c.in-Err.ensures.begun v w (sym c.number-pass.ensures.number) grown held
 
 pub returns-clause-noted : goal.returns-clause-noted
@@ -18,5 +18,5 @@ returns-clause-noted g c =
     let h : HostState g.row.L.Denot g.row.S.Denot = record { book = c.self.inside.book; pass = c.self.inside.pass; charges = c.self.inside.charges.items; link = c.self.inside.link; outbox = c.self.inside.outbox; journal = c.self.inside.journal } in
     let held : IsNoted g.S.Sink.written h = subst (λ (t : HostState g.row.L.Denot g.row.S.Denot). IsNoted g.S.Sink.written t) (sym c.self.view_is) c.requires in
     let v = c.self.inside.pass in let w = c.get.new.pass in
-    let grown : Grown v w Receiver c.args.stream act.Get c.reply_to_get-known.result = subst (λ (a : Answer). Grown v w Receiver c.args.stream act.Get a) (sym c.reply_to_get-known.ensures.answer) c.get.ensures.grown in
+    let grown : Grown v w Receiver c.args.stream act.Get c.spelt_reply_to_get-known.result = subst (λ (a : Answer). Grown v w Receiver c.args.stream act.Get a) (sym c.spelt_reply_to_get-known.ensures.answer) c.get.ensures.grown in
     c.in-Ok.ensures.noted v w (sym c.number-pass.ensures.number) grown held

@@ -3,14 +3,18 @@ use Rattle.amo_object.specs.declared.step.End.TheVariants.{Sender}
 use Rattle.amo_core.specs.declared.act.Act.TheVariants as act
 use Rattle.amo_book.specs.Pass.{Answer, Grown}
 use Rattle.amo_live.specs.Host.{HostState, IsNoted}
+use Rattle.amo_live.proofs.Suiting.{ack_spelt}
 use Rattle.amo_live.proofs.host.Host.get_ack.Goals as goal
+
+pub note_answer-requires-clause-spelt : goal.note_answer-requires-clause-spelt
+note_answer-requires-clause-spelt g c = ack_spelt c.self.inside.journal.version c.args.stream c.get_ack-answer.result c.reply_to_ack-known.result c.reply_to_ack-known.ensures
 
 pub returns-in-Err-clause-begun : goal.returns-in-Err-clause-begun
 returns-in-Err-clause-begun g c =
     let h : HostState g.row.L.Denot g.row.S.Denot = record { book = c.self.inside.book; pass = c.self.inside.pass; charges = c.self.inside.charges.items; link = c.self.inside.link; outbox = c.self.inside.outbox; journal = c.self.inside.journal } in
     let held : IsNoted g.S.Sink.written h = subst (λ (t : HostState g.row.L.Denot g.row.S.Denot). IsNoted g.S.Sink.written t) (sym c.self.view_is) c.requires in
     let v = c.self.inside.pass in let w = c.get_ack-answer.new.pass in
-    let grown : Grown v w Sender c.args.stream act.Ack c.reply_to_ack-known.result = subst (λ (a : Answer). Grown v w Sender c.args.stream act.Ack a) (sym c.reply_to_ack-known.ensures.answer) c.get_ack-answer.ensures.grown in
+    let grown : Grown v w Sender c.args.stream act.Ack c.reply_to_ack-known.result = subst (λ (a : Answer). Grown v w Sender c.args.stream act.Ack a) (sym c.reply_to_ack-known.ensures) c.get_ack-answer.ensures.grown in
     c.in-Err.ensures.begun v w (sym c.number-pass.ensures.number) grown held
 
 pub returns-clause-noted : goal.returns-clause-noted
@@ -18,5 +22,5 @@ returns-clause-noted g c =
     let h : HostState g.row.L.Denot g.row.S.Denot = record { book = c.self.inside.book; pass = c.self.inside.pass; charges = c.self.inside.charges.items; link = c.self.inside.link; outbox = c.self.inside.outbox; journal = c.self.inside.journal } in
     let held : IsNoted g.S.Sink.written h = subst (λ (t : HostState g.row.L.Denot g.row.S.Denot). IsNoted g.S.Sink.written t) (sym c.self.view_is) c.requires in
     let v = c.self.inside.pass in let w = c.get_ack-answer.new.pass in
-    let grown : Grown v w Sender c.args.stream act.Ack c.reply_to_ack-known.result = subst (λ (a : Answer). Grown v w Sender c.args.stream act.Ack a) (sym c.reply_to_ack-known.ensures.answer) c.get_ack-answer.ensures.grown in
+    let grown : Grown v w Sender c.args.stream act.Ack c.reply_to_ack-known.result = subst (λ (a : Answer). Grown v w Sender c.args.stream act.Ack a) (sym c.reply_to_ack-known.ensures) c.get_ack-answer.ensures.grown in
     c.in-Ok.ensures.noted v w (sym c.number-pass.ensures.number) grown held

@@ -8,7 +8,7 @@ use Rattle.amo_live.proofs.Suiting.{put_spelt}
 use Rattle.amo_live.proofs.host.Host.put.Goals as goal
 
 pub note_answer-requires-clause-spelt : goal.note_answer-requires-clause-spelt
-note_answer-requires-clause-spelt g c = put_spelt c.self.inside.journal.version c.args.stream c.args.message c.in-Ok.copy c.reply_to_put-known.result c.is_message.ensures c.in-Ok.ensures.cases c.reply_to_put-known.ensures.reply
+note_answer-requires-clause-spelt g c = put_spelt c.self.inside.journal.version c.args.stream c.args.message c.in-Ok.copy c.put-answer.result c.reply_to_put-known.result c.is_message.ensures c.in-Ok.ensures.cases c.reply_to_put-known.ensures
 
 pub returns-in-Err-clause-begun : goal.returns-in-Err-clause-begun
 returns-in-Err-clause-begun g c =
@@ -16,7 +16,7 @@ returns-in-Err-clause-begun g c =
     let held : IsNoted g.S.Sink.written h = subst (λ (t : HostState g.row.L.Denot g.row.S.Denot). IsNoted g.S.Sink.written t) (sym c.self.view_is) c.requires in
     let v = c.self.inside.pass in let w = c.put-answer.new.pass in
     let same : Grown v w Sender c.args.stream (act.Put c.in-Ok.copy) (put_answer c.put-answer.result) = subst (λ (m : List ℕ). Grown v w Sender c.args.stream (act.Put m) (put_answer c.put-answer.result)) (sym c.in-Ok.ensures.cases) c.put-answer.ensures.grown in
-    let grown : Grown v w Sender c.args.stream (act.Put c.in-Ok.copy) c.reply_to_put-known.result = subst (λ (a : Answer). Grown v w Sender c.args.stream (act.Put c.in-Ok.copy) a) (sym c.reply_to_put-known.ensures.answer) same in
+    let grown : Grown v w Sender c.args.stream (act.Put c.in-Ok.copy) c.reply_to_put-known.result = subst (λ (a : Answer). Grown v w Sender c.args.stream (act.Put c.in-Ok.copy) a) (sym c.reply_to_put-known.ensures) same in
     c.in-Err.ensures.begun v w (sym c.number-pass.ensures.number) grown held
 
 pub returns-clause-noted : goal.returns-clause-noted
@@ -25,5 +25,5 @@ returns-clause-noted g c =
     let held : IsNoted g.S.Sink.written h = subst (λ (t : HostState g.row.L.Denot g.row.S.Denot). IsNoted g.S.Sink.written t) (sym c.self.view_is) c.requires in
     let v = c.self.inside.pass in let w = c.put-answer.new.pass in
     let same : Grown v w Sender c.args.stream (act.Put c.in-Ok.copy) (put_answer c.put-answer.result) = subst (λ (m : List ℕ). Grown v w Sender c.args.stream (act.Put m) (put_answer c.put-answer.result)) (sym c.in-Ok.ensures.cases) c.put-answer.ensures.grown in
-    let grown : Grown v w Sender c.args.stream (act.Put c.in-Ok.copy) c.reply_to_put-known.result = subst (λ (a : Answer). Grown v w Sender c.args.stream (act.Put c.in-Ok.copy) a) (sym c.reply_to_put-known.ensures.answer) same in
+    let grown : Grown v w Sender c.args.stream (act.Put c.in-Ok.copy) c.reply_to_put-known.result = subst (λ (a : Answer). Grown v w Sender c.args.stream (act.Put c.in-Ok.copy) a) (sym c.reply_to_put-known.ensures) same in
     c.in-Ok-note_answer.ensures.noted v w (sym c.number-pass.ensures.number) grown held

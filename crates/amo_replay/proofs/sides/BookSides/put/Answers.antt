@@ -2,14 +2,11 @@ use Rattle.std.proofs.Common.{sym}
 use Rattle.amo_object.specs.declared.step.End.TheVariants.{Sender}
 use Rattle.amo_core.specs.declared.act.Act.TheVariants as act
 use Rattle.amo_book.specs.Calls.{put_answer}
-use Rattle.amo_replay.proofs.Owning.{pass_belongs, has_side, pass_after, grown_same, called_adds, called_busy}
+use Rattle.amo_replay.proofs.Owning.{pass_belongs, pass_after, grown_same, grown_as, called_adds, called_busy}
 use Rattle.amo_replay.proofs.sides.BookSides.put.Goals as goal
 
 pub put-answer-requires : goal.put-answer-requires
 put-answer-requires c = record { book = pass_belongs _ _ _ c.self.invariant _ _ c.index_mut.ensures.value }
-
-pub reply_to_put-requires : goal.reply_to_put-requires
-reply_to_put-requires c = λ none. c.put-answer.ensures.no_stream.0 none (has_side _ _ _ c.self.invariant Sender c.args.stream c.requires)
 
 pub invariant_of-self : goal.invariant_of-self
 invariant_of-self c =
@@ -19,11 +16,11 @@ invariant_of-self c =
 pub returns-clause-added : goal.returns-clause-added
 returns-clause-added c =
     rw (sym c.self.view_is)
-    (called_adds _ _ _ c.self.invariant _ _ _ Sender c.args.stream (act.Put c.args.message) (put_answer c.put-answer.result) c.reply_to_put.result c.index_mut.ensures.value
-    c.put-answer.ensures.grown c.put-answer.ensures.right (c.reply_to_put.ensures.reply, c.reply_to_put.ensures.busy))
+    (called_adds _ _ _ c.self.invariant _ _ _ Sender c.args.stream (act.Put c.args.message) c.reply_to_put.result c.replied.result c.index_mut.ensures.value
+    (grown_as _ _ Sender c.args.stream (act.Put c.args.message) _ _ (sym c.reply_to_put.ensures) c.put-answer.ensures.grown) c.put-answer.ensures.right (c.replied.ensures.reply, c.replied.ensures.busy))
 
 pub returns-clause-busy : goal.returns-clause-busy
 returns-clause-busy c =
     rw (sym c.self.view_is)
-    (called_busy _ _ _ c.self.invariant _ _ _ Sender c.args.stream (act.Put c.args.message) (put_answer c.put-answer.result) c.reply_to_put.result c.index_mut.ensures.value
-    c.put-answer.ensures.grown (c.reply_to_put.ensures.reply, c.reply_to_put.ensures.busy))
+    (called_busy _ _ _ c.self.invariant _ _ _ Sender c.args.stream (act.Put c.args.message) c.reply_to_put.result c.replied.result c.index_mut.ensures.value
+    (grown_as _ _ Sender c.args.stream (act.Put c.args.message) _ _ (sym c.reply_to_put.ensures) c.put-answer.ensures.grown) (c.replied.ensures.reply, c.replied.ensures.busy))

@@ -8,7 +8,8 @@ use Rattle.amo_book.specs.Pass.{PassState}
 use Rattle.amo_book.specs.Charge.{ChargeState}
 use Rattle.amo_book.specs.Drive.{Driven}
 use Rattle.amo_book.specs.Steps.{IsStateOf, holding, pass_of}
-use Rattle.amo_book.proofs.book.Book.drive.Goals as goal
+use Rattle.amo_book.proofs.Replies.{suited_known}
+use Rattle.amo_book.proofs.book.Book.perform.Goals as goal
 
 pub finish-requires-clause-own : goal.finish-requires-clause-own
 finish-requires-clause-own c =
@@ -26,7 +27,7 @@ finish-requires-clause-held c =
       subst (λ (z : ChargeState). c.take_as_held.new.seat.me ≡ holding z.place x m) c.charge.view_is taken.0,
       subst (λ (a : Act). c.step-length.new.self ≡ (row x a).state) told c.step-length.ensures.state,
       subst (λ (a : Act). (row x a).reply ≡ Some reply.Done) told
-          (c.requires.known x (subst (λ (z : ChargeState). IsStateOf z.side z.stream x) c.charge.view_is taken.1)),
+          (suited_known c.args.charge.now c.args.act c.requires.suits x (subst (λ (z : ChargeState). IsStateOf z.side z.stream x) c.charge.view_is taken.1)),
     )
 
 pub returns-clause-driven : goal.returns-clause-driven
