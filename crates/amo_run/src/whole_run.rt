@@ -197,7 +197,7 @@ fn run_over<C: Wire + Send + Drop, R: Threads + Wait + Sync>(
     if settings.split {
         return run_apart(rt, alloc, settings, wires, progress);
     }
-    let Ok(scripts) = workloads(alloc, Part::Both, settings) else {
+    let Ok(scripts) = workloads(rt, alloc, Part::Both, settings) else {
         return Err(RunFault::NoMemory);
     };
     let chronicle = run_scripts(rt, alloc, settings, wires, scripts, progress)?;
@@ -247,10 +247,10 @@ fn run_apart<C: Wire + Send + Drop, R: Threads + Wait + Sync>(
     ensures spelt { IfOk result (HasLines settings.now) }
 {
     let Wires { senders, receivers } = wires;
-    let Ok(putting) = workloads(alloc, Part::Senders, settings) else {
+    let Ok(putting) = workloads(rt, alloc, Part::Senders, settings) else {
         return Err(RunFault::NoMemory);
     };
-    let Ok(getting) = workloads(alloc, Part::Receivers, settings) else {
+    let Ok(getting) = workloads(rt, alloc, Part::Receivers, settings) else {
         return Err(RunFault::NoMemory);
     };
     let senders = Wires {

@@ -3,4 +3,4 @@ use Rattle.amo_run.proofs.workload.workloads.Given as goal
 
 -- so far there are the scripts of these clients
 abbrev pub invariant-clients : goal.invariant-clients
-invariant-clients l = length l.scripts.items ≡ l.place
+invariant-clients g l = length l.scripts.items ≡ l.place
