@@ -15,6 +15,7 @@ use Rattle.amo_run.specs.Engine.{ties}
 use Rattle.amo_run.specs.Fits.{AllFit}
 use Rattle.amo_run.specs.Versions.{version_of}
 use Rattle.amo_run.specs.declared.crew.Crew.{Crew}
+use Rattle.amo_run.specs.declared.crew.Hands.{Hands}
 use Rattle.amo_run.specs.declared.home.Home.{Home}
 use Rattle.amo_run.specs.declared.work.Done.{Done}
 use Rattle.amo_run.specs.declared.work.Pumped.{Pumped}
@@ -95,10 +96,15 @@ pub record IsBack (version : Version) (of : BookState) (charges : List ChargeSta
   pub count : length h.passes.items ≡ of.passes
   pub charges_are : h.is_short ≡ false → ties h.charges.items ≡ ties charges
 
--- No pass made a call yet, and there is one for each pump and each script. The pumps have all charges of the book.
+-- No pass made a call yet, and there is one for each pump and each script. The pumps are this book's, and their events have lines in this version of
+-- journals.
+pub record AreHandsOf {S C : Type 0} (version : Version) (book : BookState) (hands : Hands S C) : Type 0 where
+  pub passes : EachAt (IsNew book) 0 hands.passes.items × (length hands.passes.items ≡ book.passes)
+  pub enough : length hands.jobs.items + length hands.scripts.items ≤ length hands.passes.items
+  pub ours : Each (λ (j : PumpJob C). IsOurs version book j.task.pump) hands.jobs.items
+
+-- The hands are the book's, and the pumps have all its charges.
 pub record IsReady {S C : Type 0} (version : Version) (crew : Crew S C) : Type 0 where
-  pub passes : EachAt (IsNew crew.book) 0 crew.passes.items × (length crew.passes.items ≡ crew.book.passes)
-  pub enough : length crew.jobs.items + length crew.scripts.items ≤ length crew.passes.items
-  pub ours : Each (λ (j : PumpJob C). IsOurs version crew.book j.task.pump) crew.jobs.items
-  pub all : AllCharges (dealt (map (λ (j : PumpJob C). j.task.pump) crew.jobs.items)) (length crew.book.sides)
+  pub hands : AreHandsOf version crew.book crew.hands
+  pub all : AllCharges (dealt (map (λ (j : PumpJob C). j.task.pump) crew.hands.jobs.items)) (length crew.book.sides)
   pub lawful : IsLawful crew.book.sides crew.book.passes

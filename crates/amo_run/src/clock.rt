@@ -1,5 +1,5 @@
 //! The moments at which a pump turns.
-ghost use Rattle.std.specs.Prelude.{◌≡◌, ◌+◌, ◌⊎◌, ◌≢◌, IsTrue};
+ghost use Rattle.std.specs.Prelude.{◌≡◌, ◌↔◌, ◌+◌, ◌⊎◌, ◌≢◌, IsTrue};
 ghost use Rattle.amo_run.specs.Engine.{EndsMoment};
 
 use crate::engine::Turn;
@@ -38,7 +38,7 @@ impl Clock {
 
     /// Whether a datagram may be taken.
     pub fn may_take(&self) -> bool
-        ensures { IsTrue result → self.now.left ≢ 0 }
+        ensures { IsTrue result ↔ (self.now.left ≢ 0) }
     {
         self.left > 0
     }

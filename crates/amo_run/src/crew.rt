@@ -17,13 +17,19 @@ use amo_book::{Book, Charge, Pass};
 use amo_object::End;
 use std::alloc::{AllocError, Global};
 
-/// A book with its passes, the pumps of its hosts, and the scripts of its clients.
+/// The passes of a book, the pumps of its hosts, and the scripts of its clients. A pump and a script take a pass each.
 #[derive(Drop)]
-pub struct Crew<S, C> {
-    pub book: Book,
+pub struct Hands<S, C> {
     pub passes: Vec<Pass>,
     pub jobs: Vec<PumpJob<C>>,
     pub scripts: Vec<S>,
+}
+
+/// A book, and all that is to work at it.
+#[derive(Drop)]
+pub struct Crew<S, C> {
+    pub book: Book,
+    pub hands: Hands<S, C>,
 }
 
 /// What the pumps of each host make their links of. That of the first pump stands last.
@@ -47,6 +53,7 @@ pub fn muster<S: Drop, C: Drop>(
     ensures ready { IfOk result (IsReady (version_for settings.now.batch)) }
     ensures sides { IfOk result (λ crew. crew.book.sides ≡ sides_of part settings.now.streams) }
     ensures passes { IfOk result (λ crew. crew.book.passes ≡ passes_of part (pumps_of settings.now) (length scripts.items)) }
+    ensures scripts { IfOk result (λ crew. crew.hands.scripts ≡ scripts) }
 {
     let passes = (part.hosts() * pumps_of(settings) + scripts.len()).max(2);
     let Opened {
@@ -55,12 +62,12 @@ pub fn muster<S: Drop, C: Drop>(
         charges,
     } = open(alloc, part, settings.streams, passes)?;
     let jobs = jobs_of(alloc, settings, part, &book, charges, wires)?;
-    Ok(Crew {
-        book,
+    let hands = Hands {
         passes,
         jobs,
         scripts,
-    })
+    };
+    Ok(Crew { book, hands })
 }
 
 /// The pumps of these hosts.

@@ -15,6 +15,7 @@ use crate::Progress;
 use crate::clock::Clock;
 use crate::plan::{Fate, Plan};
 use crate::source::Source;
+use crate::workplace::Workplace;
 use amo_book::{Book, Pass};
 use amo_host::{Kind, Pump, PumpFault, Turned};
 use amo_journal::Version;
@@ -265,6 +266,20 @@ fn meet<W: Words + Drop>(
 }
 
 impl Tally {
+    /// Nothing is done yet.
+    pub fn new(alloc: Global) -> Tally
+        ensures none { result.made.items ≡ [] }
+        ensures zero { (result.link_faults ≡ 0) × (result.busy ≡ 0) × (result.untold ≡ 0) × (result.untold_crashes ≡ 0) }
+    {
+        Tally {
+            made: Vec::new(alloc),
+            link_faults: 0,
+            busy: 0,
+            untold: 0,
+            untold_crashes: 0,
+        }
+    }
+
     /// Makes room for an event.
     fn reserve(&mut self) -> Result<(), NoMemory>
         ensures same { self.new.made.items ≡ self.old.made.items }
@@ -328,6 +343,22 @@ impl Tally {
 }
 
 impl<L: Link, W: Words + Drop> Engine<L, W> {
+    /// A pump at its link, before its first turn.
+    pub fn new(pump: Pump<W>, link: L, plan: Plan, source: Source) -> Engine<L, W>
+        ensures parts { (result.pump ≡ pump) × (result.link ≡ link) × (result.plan ≡ plan) × (result.source ≡ source) }
+        ensures first { (result.turns ≡ 0) × (result.clock.moment ≡ 0) × (result.incarnation ≡ 0) }
+    {
+        Engine {
+            pump,
+            link,
+            plan,
+            source,
+            turns: 0,
+            clock: Clock::at(0),
+            incarnation: 0,
+        }
+    }
+
     /// The length of the datagram that has come, if one has and the clock lets it be taken. A failed link brings none, and is counted.
     fn hear(&mut self, buffer: &mut [u8; MAX_DATAGRAM], tally: &mut Tally) -> Option<usize>
         ensures same { (self.new.pump ≡ self.old.pump) × (tally.new.made ≡ tally.old.made) }
@@ -546,28 +577,27 @@ impl<L: Link> Engine<L, ChaChaWords> {
         &mut self,
         rt: &R,
         alloc: Global,
-        version: Version,
-        book: &Book,
+        place: Workplace<'_>,
         pass: &mut Pass,
         streams: &[u32],
-        progress: &Progress,
         tally: &mut Tally,
     ) -> Result<(), NoMemory>
-        requires works { Works book.now pass.old self.old.pump }
-        requires version { version ≡ version_of self.old.pump }
-        ensures { Recorded book.now pass.old pass.new self.old.pump self.new.pump tally.old.made.items tally.new.made.items }
+        requires works { Works place.book.now pass.old self.old.pump }
+        requires version { place.version ≡ version_of self.old.pump }
+        ensures { Recorded place.entry.book.now pass.old pass.new self.old.pump self.new.pump tally.old.made.items tally.new.made.items }
     {
+        let book = place.book;
         let mut room = Room::default();
         'turns: for _ in rt.forever() {
-            if self.plan.is_over() && progress.has_no_clients() {
+            if self.plan.is_over() && place.progress.has_no_clients() {
                 break;
             }
-            self.turn(alloc, version, streams, book, pass, &mut room, tally)?;
+            self.turn(alloc, place.version, streams, book, pass, &mut room, tally)?;
             self.turns = self.turns.saturating_add(1);
             self.follow_plan(rt, book, pass, streams, tally)?;
-            tally.tell(progress, TOLD_AT_ONCE);
+            tally.tell(place.progress, TOLD_AT_ONCE);
         }
-        tally.tell(progress, 0);
+        tally.tell(place.progress, 0);
         Ok(())
     }
 }

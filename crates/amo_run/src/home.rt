@@ -1,5 +1,5 @@
 //! What has come back from the threads of a run.
-ghost use Rattle.std.specs.Prelude.{◌≡◌, ◌+◌, ◌<◌, ◌++◌, true, false, length, vec_len, vec_capacity};
+ghost use Rattle.std.specs.Prelude.{◌≡◌, ◌↔◌, ◌+◌, ◌<◌, ◌++◌, true, false, length, min, vec_len, vec_capacity};
 ghost use Rattle.amo_book.specs.Book.{first_pass};
 ghost use Rattle.amo_run.specs.Crew.{Made, Adds, SoFar};
 
@@ -62,6 +62,8 @@ impl Home {
     /// Adds what a pump counted.
     pub fn count(&mut self, is_cut_off: bool, link_faults: u64, busy: u64)
         ensures same { (self.new.passes ≡ self.old.passes) × (self.new.events ≡ self.old.events) × (self.new.charges ≡ self.old.charges) × (self.new.is_short ≡ self.old.is_short) }
+        ensures cut_off { (self.new.is_cut_off ≡ false) ↔ ((self.old.is_cut_off ≡ false) × (is_cut_off ≡ false)) }
+        ensures counts { (self.new.link_faults ≡ min (self.old.link_faults + link_faults) u64.MAX) × (self.new.busy ≡ min (self.old.busy + busy) u64.MAX) }
     {
         self.is_cut_off = self.is_cut_off || is_cut_off;
         self.link_faults = self.link_faults.saturating_add(link_faults);

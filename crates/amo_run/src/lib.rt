@@ -28,6 +28,7 @@ mod whole_run;
 mod wire;
 mod work;
 mod workload;
+mod workplace;
 
 pub use amo_settings::{LinkKind, RunSettings};
 pub use amo_world::NoMemory;

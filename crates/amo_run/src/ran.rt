@@ -1,5 +1,5 @@
 //! What a run answers.
-ghost use Rattle.std.specs.Prelude.{◌≡◌, [], Some};
+ghost use Rattle.std.specs.Prelude.{◌≡◌, ◌+◌, [], Some, min};
 
 use crate::report::Chronicle;
 use amo_book::Closed;
@@ -28,6 +28,7 @@ impl Ran {
     pub(crate) fn of_one(alloc: Global, book: Chronicle) -> Ran
         ensures events { (result.events ≡ book.events) × (result.closed ≡ book.closed) }
         ensures none { result.receivers.items ≡ [] }
+        ensures counts { (result.link_faults ≡ book.link_faults) × (result.busy ≡ book.busy) }
     {
         Ran {
             events: book.events,
@@ -43,6 +44,7 @@ impl Ran {
     pub(crate) fn of_two(senders: Chronicle, receivers: Chronicle) -> Ran
         ensures senders { (result.events ≡ senders.events) × (result.closed ≡ senders.closed) }
         ensures receivers { (result.receivers ≡ receivers.events) × (result.receivers_closed ≡ Some receivers.closed) }
+        ensures counts { (result.link_faults ≡ min (senders.link_faults + receivers.link_faults) u64.MAX) × (result.busy ≡ min (senders.busy + receivers.busy) u64.MAX) }
     {
         Ran {
             events: senders.events,

@@ -1,5 +1,5 @@
 //! The end of a run.
-ghost use Rattle.std.specs.Prelude.{◌≡◌, All, IfOk, map};
+ghost use Rattle.std.specs.Prelude.{◌≡◌, All, IfOk, IsErrOf, IsTrue, map};
 ghost use Rattle.amo_book.specs.Book.{IsLawful};
 ghost use Rattle.amo_journal.specs.Journal.{CanSpell};
 ghost use Rattle.amo_run.specs.Whole.{Ends, IsWhole};
@@ -33,12 +33,14 @@ pub fn settle(
     requires lawful { IsLawful book.sides book.passes }
     ensures whole { IfOk result (λ r. IsWhole book.sides book.passes r.closed r.events.items) }
     ensures spelt { IfOk result (λ r. All (CanSpell version) r.events.items) }
+    ensures counts { IfOk result (λ r. (r.link_faults ≡ home.link_faults) × (r.busy ≡ home.busy)) }
+    ensures cut_off { IsTrue home.is_cut_off → IsErrOf result RunFault.Device }
 {
     let _ = version;
     let Home {
         passes,
         charges,
-        events,
+        mut events,
         is_short,
         is_cut_off,
         link_faults,
@@ -53,7 +55,6 @@ pub fn settle(
     let Ok(closed) = book.close(passes, charges) else {
         unreachable!()
     };
-    let mut events = events;
     let Ok(()) = events.sort_by_key(|one: &(u64, Event)| one.0) else {
         return Err(RunFault::NoMemory);
     };

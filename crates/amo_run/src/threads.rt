@@ -1,16 +1,18 @@
 //! Pumps and clients at work at once.
-ghost use Rattle.std.specs.Prelude.{◌≡◌, ◌+◌, ◌++◌, ◌<◌, ◌≤◌, [], false, length, map, vec_len, vec_capacity, reverse, IfOk, IfSome, IfNone};
+ghost use Rattle.std.specs.Prelude.{◌≡◌, ◌+◌, ◌++◌, ◌<◌, ◌≤◌, [], false, length, map, vec_len, vec_capacity, reverse, IfOk, IfSome, IfNone, OnOk};
 ghost use Rattle.amo_book.specs.Book.{Each, first_pass};
 ghost use Rattle.amo_run.specs.Engine.{Works, ties};
-ghost use Rattle.amo_run.specs.Crew.{Made, Returned, Did, EachAt, IsNew, IsOurs, IsClient, IsPump, IsBack, SoFar, dealt, lent};
+ghost use Rattle.amo_run.specs.Crew.{AreHandsOf, Made, Returned, Did, EachAt, IsNew, IsOurs, IsClient, IsPump, IsBack, SoFar, dealt, lent};
 ghost use Rattle.amo_run.specs.Versions.{version_of};
 
+use crate::crew::Hands;
 use crate::home::Home;
 use crate::wire::Wire;
 use crate::work::{
     ClientPromise, ClientThread, Done, PumpJob, PumpPromise, PumpThread, Pumped, follow_script,
     follow_task,
 };
+use crate::workplace::Workplace;
 use crate::{Progress, RunFault, Script};
 use amo_book::{Book, Pass};
 use amo_journal::Version;
@@ -18,7 +20,7 @@ use std::alloc::Global;
 use std::snapshot::Snapshot;
 use std::sync::Wait;
 use std::thread;
-use std::thread::Threads;
+use std::thread::{Scope, Threads};
 
 /// The last of the passes that have made no call.
 #[tactic(auto, using(crate::proofs::Crews::at_less))]
@@ -51,6 +53,7 @@ fn last_job<C>(jobs: &mut Vec<PumpJob<C>>, version: Version, book: &Book) -> Opt
 /// The last of the scripts that wait for their threads.
 fn last_script<S>(scripts: &mut Vec<S>) -> Option<S>
     ensures last { IfSome result (λ s. length scripts.old.items ≡ length scripts.new.items + 1) }
+    ensures none { IfNone result (length scripts.old.items ≡ 0) }
 {
     scripts.pop()
 }
@@ -204,127 +207,182 @@ fn refused(progress: &Progress) -> RunFault {
 }
 
 /// Runs each pump and each script of a book on a thread of its own. The pumps go on until all clients are done: those of this book,
-/// and those of another one, if that is at work. Each event has a line in a journal of this version.
+/// and those of another one, if that is at work.
 ///
-/// Where a thread is refused, the clients of this book count as done, and the scope joins each thread that started.
+/// Where memory or a thread is refused, the clients of this book count as done, and the scope joins each thread that started.
 pub fn at_once<S: Script + Send + Drop, C: Wire + Send + Drop, R: Threads + Wait + Sync>(
     rt: &R,
     alloc: Global,
-    version: Version,
-    book: &Book,
-    passes: Vec<Pass>,
-    jobs: Vec<PumpJob<C>>,
-    scripts: Vec<S>,
-    progress: &Progress,
+    place: Workplace<'_>,
+    hands: Hands<S, C>,
 ) -> Result<Home, RunFault>
-    requires passes { EachAt (IsNew book.now) 0 passes.items × (length passes.items ≡ book.now.passes) }
-    requires enough { length jobs.items + length scripts.items ≤ length passes.items }
-    requires ours { Each (λ j. IsOurs version book.now j.task.pump) jobs.items }
-    ensures { IfOk result (λ h. IsBack version book.now (dealt (map (λ j. j.task.pump) jobs.items)) h) }
-{
-    let Ok(pump_room) = Vec::with_capacity(alloc, jobs.len()) else {
-        return Err(refused(progress));
-    };
-    let Ok(client_room) = Vec::with_capacity(alloc, scripts.len()) else {
-        return Err(refused(progress));
-    };
-    in_rooms(
-        rt,
-        alloc,
-        version,
-        book,
-        passes,
-        jobs,
-        scripts,
-        pump_room,
-        client_room,
-        progress,
-    )
-}
-
-/// The same, with room for the threads that start.
-fn in_rooms<S: Script + Send + Drop, C: Wire + Send + Drop, R: Threads + Wait + Sync>(
-    rt: &R,
-    alloc: Global,
-    version: Version,
-    book: &Book,
-    passes: Vec<Pass>,
-    jobs: Vec<PumpJob<C>>,
-    scripts: Vec<S>,
-    pump_room: Vec<PumpThread>,
-    client_room: Vec<ClientThread>,
-    progress: &Progress,
-) -> Result<Home, RunFault>
-    requires passes { EachAt (IsNew book.now) 0 passes.items × (length passes.items ≡ book.now.passes) }
-    requires enough { length jobs.items + length scripts.items ≤ length passes.items }
-    requires ours { Each (λ j. IsOurs version book.now j.task.pump) jobs.items }
-    requires pump_room { (pump_room.items ≡ []) × (length jobs.items ≤ vec_capacity pump_room) }
-    requires client_room { (client_room.items ≡ []) × (length scripts.items ≤ vec_capacity client_room) }
-    ensures { IfOk result (λ h. IsBack version book.now (dealt (map (λ j. j.task.pump) jobs.items)) h) }
+    requires hands { AreHandsOf place.version place.book.now hands }
+    ensures { IfOk result (λ h. IsBack place.entry.version place.entry.book.now (dealt (map (λ j. j.task.pump) hands.jobs.items)) h) }
 {
     thread::scope(
         thread::scope_env(),
         rt,
         |scope| -> Result<Home, RunFault>
-            requires passes { EachAt (IsNew book.now) 0 passes.items × (length passes.items ≡ book.now.passes) }
-            requires enough { length jobs.items + length scripts.items ≤ length passes.items }
-            requires ours { Each (λ j. IsOurs version book.now j.task.pump) jobs.items }
-            requires pump_room { (pump_room.items ≡ []) × (length jobs.items ≤ vec_capacity pump_room) }
-            requires client_room { (client_room.items ≡ []) × (length scripts.items ≤ vec_capacity client_room) }
-            ensures { IfOk result (λ h. IsBack version book.entry.now (dealt (map (λ j. j.task.pump) jobs.items)) h) }
-        {
-            let (mut passes, mut jobs, mut scripts) = (passes, jobs, scripts);
-            let (mut pumps, mut clients) = (pump_room, client_room);
-            'pumps: while let Some(job) = last_job(&mut jobs, version, book) {
-                let Some(pass) = last_pass(&mut passes, book) else {
-                    unreachable!()
-                };
-                let promise = PumpPromise {
-                    book: Snapshot::of(book),
-                    pass: Snapshot::of(&pass),
-                    pump: Snapshot::of(&job.task.pump),
-                };
-                let thread = scope.spawn_with(
-                    promise,
-                    move || -> Pumped
-                        requires works { Works book.now pass job.task.pump }
-                        requires version { version ≡ version_of job.task.pump }
-                        ensures { Returned book.entry.now pass job.task.pump result }
-                    { follow_task(rt, alloc, version, book, pass, job, progress) },
-                );
-                let Ok(thread) = thread else {
-                    return Err(refused(progress));
-                };
-                let thread = PumpThread { thread };
-                started_pump(&mut pumps, thread, version, book, passes.len());
-            }
-            let pumps = pumps;
-            'clients: while let Some(script) = last_script(&mut scripts) {
-                let Some(pass) = last_pass(&mut passes, book) else {
-                    unreachable!()
-                };
-                let promise = ClientPromise {
-                    book: Snapshot::of(book),
-                    pass: Snapshot::of(&pass),
-                };
-                let thread = scope.spawn_with(
-                    promise,
-                    move || -> Done
-                        requires { pass.book ≡ book.now.id }
-                        ensures { Did book.entry.now pass result }
-                    { follow_script(rt, alloc, book, pass, script, progress) },
-                );
-                let Ok(thread) = thread else {
-                    return Err(refused(progress));
-                };
-                started_client(&mut clients, ClientThread { thread }, book, passes.len());
-            }
-            let home = home_of(alloc, version, book, passes);
-            let home = join_clients(rt, version, book, clients, home);
-            progress.end_of_clients();
-            Ok(join_pumps(rt, version, book, pumps, home))
-        },
+            requires { AreHandsOf place.version place.book.now hands }
+            ensures { IfOk result (λ h. IsBack place.entry.version place.entry.book.now (dealt (map (λ j. j.task.pump) hands.jobs.items)) h) }
+        { in_scope(scope, rt, alloc, place, hands) },
     )
+}
+
+/// The same, in the scope that joins the threads.
+fn in_scope<
+    's,
+    E,
+    S: Script + Send + Drop + 's,
+    C: Wire + Send + Drop + 's,
+    R: Threads + Wait + Sync,
+>(
+    scope: &Scope<'s, E>,
+    rt: &'s R,
+    alloc: Global,
+    place: Workplace<'s>,
+    hands: Hands<S, C>,
+) -> Result<Home, RunFault>
+    requires { AreHandsOf place.version place.book.now hands }
+    ensures { IfOk result (λ h. IsBack place.entry.version place.entry.book.now (dealt (map (λ j. j.task.pump) hands.jobs.items)) h) }
+{
+    let Hands {
+        mut passes,
+        jobs,
+        scripts,
+    } = hands;
+    let pumps = start_pumps(scope, rt, alloc, place, &mut passes, jobs)?;
+    let clients = start_clients(scope, rt, alloc, place, &mut passes, scripts)?;
+    let home = home_of(alloc, place.version, place.book, passes);
+    let home = join_clients(rt, place.version, place.book, clients, home);
+    place.progress.end_of_clients();
+    Ok(join_pumps(rt, place.version, place.book, pumps, home))
+}
+
+/// Starts the threads of the pumps. Each takes the last of the passes that are left.
+fn start_pumps<'s, E, C: Wire + Send + Drop + 's, R: Wait + Sync>(
+    scope: &Scope<'s, E>,
+    rt: &'s R,
+    alloc: Global,
+    place: Workplace<'s>,
+    passes: &mut Vec<Pass>,
+    jobs: Vec<PumpJob<C>>,
+) -> Result<Vec<PumpThread>, RunFault>
+    requires passes { EachAt (IsNew place.book.now) 0 passes.old.items }
+    requires enough { length jobs.items ≤ length passes.old.items }
+    requires ours { Each (λ j. IsOurs place.version place.book.now j.task.pump) jobs.items }
+    ensures passes { OnOk result (EachAt (IsNew place.entry.book.now) 0 passes.new.items) }
+    ensures threads { IfOk result (λ pumps. EachAt (IsPump place.entry.version place.entry.book.now) (length passes.new.items) (reverse pumps.items)) }
+    ensures count { IfOk result (λ pumps. (length pumps.items ≡ length jobs.items) × (length pumps.items + length passes.new.items ≡ length passes.old.items)) }
+    ensures lent { IfOk result (λ pumps. lent (reverse pumps.items) ≡ dealt (map (λ j. j.task.pump) jobs.items)) }
+    ensures room { OnOk result (vec_capacity passes.new ≡ vec_capacity passes.old) }
+{
+    let Ok(mut pumps) = Vec::with_capacity(alloc, jobs.len()) else {
+        return Err(refused(place.progress));
+    };
+    let mut jobs = jobs;
+    'pumps: while let Some(job) = last_job(&mut jobs, place.version, place.book) {
+        let Some(pass) = last_pass(passes, place.book) else {
+            unreachable!()
+        };
+        let thread = start_pump(scope, rt, alloc, place, pass, job)?;
+        started_pump(&mut pumps, thread, place.version, place.book, passes.len());
+    }
+    Ok(pumps)
+}
+
+/// Starts the thread of a pump.
+fn start_pump<'s, E, C: Wire + Send + Drop + 's, R: Wait + Sync>(
+    scope: &Scope<'s, E>,
+    rt: &'s R,
+    alloc: Global,
+    place: Workplace<'s>,
+    pass: Pass,
+    job: PumpJob<C>,
+) -> Result<PumpThread, RunFault>
+    requires works { Works place.book.now pass job.task.pump }
+    requires version { place.version ≡ version_of job.task.pump }
+    ensures book { IfOk result (λ t. t.thread.promise.book.value ≡ place.entry.book.now) }
+    ensures pass { IfOk result (λ t. t.thread.promise.pass.value ≡ pass) }
+    ensures pump { IfOk result (λ t. t.thread.promise.pump.value ≡ job.task.pump) }
+{
+    let promise = PumpPromise {
+        book: Snapshot::of(place.book),
+        pass: Snapshot::of(&pass),
+        pump: Snapshot::of(&job.task.pump),
+    };
+    let thread = scope.spawn_with(
+        promise,
+        move || -> Pumped
+            requires works { Works place.book.now pass job.task.pump }
+            requires version { place.version ≡ version_of job.task.pump }
+            ensures { Returned place.entry.book.now pass job.task.pump result }
+        { follow_task(rt, alloc, place, pass, job) },
+    );
+    let Ok(thread) = thread else {
+        return Err(refused(place.progress));
+    };
+    Ok(PumpThread { thread })
+}
+
+/// Starts the threads of the clients. Each takes the last of the passes that are left.
+fn start_clients<'s, E, S: Script + Send + Drop + 's, R: Wait + Sync>(
+    scope: &Scope<'s, E>,
+    rt: &'s R,
+    alloc: Global,
+    place: Workplace<'s>,
+    passes: &mut Vec<Pass>,
+    scripts: Vec<S>,
+) -> Result<Vec<ClientThread>, RunFault>
+    requires passes { EachAt (IsNew place.book.now) 0 passes.old.items }
+    requires enough { length scripts.items ≤ length passes.old.items }
+    ensures passes { OnOk result (EachAt (IsNew place.entry.book.now) 0 passes.new.items) }
+    ensures threads { IfOk result (λ clients. EachAt (IsClient place.entry.book.now) (length passes.new.items) (reverse clients.items)) }
+    ensures count { IfOk result (λ clients. (length clients.items ≡ length scripts.items) × (length clients.items + length passes.new.items ≡ length passes.old.items)) }
+    ensures room { OnOk result (vec_capacity passes.new ≡ vec_capacity passes.old) }
+{
+    let Ok(mut clients) = Vec::with_capacity(alloc, scripts.len()) else {
+        return Err(refused(place.progress));
+    };
+    let mut scripts = scripts;
+    'clients: while let Some(script) = last_script(&mut scripts) {
+        let Some(pass) = last_pass(passes, place.book) else {
+            unreachable!()
+        };
+        let thread = start_client(scope, rt, alloc, place, pass, script)?;
+        started_client(&mut clients, thread, place.book, passes.len());
+    }
+    Ok(clients)
+}
+
+/// Starts the thread of a client.
+fn start_client<'s, E, S: Script + Send + Drop + 's, R: Wait + Sync>(
+    scope: &Scope<'s, E>,
+    rt: &'s R,
+    alloc: Global,
+    place: Workplace<'s>,
+    pass: Pass,
+    script: S,
+) -> Result<ClientThread, RunFault>
+    requires { pass.book ≡ place.book.now.id }
+    ensures book { IfOk result (λ t. t.thread.promise.book.value ≡ place.entry.book.now) }
+    ensures pass { IfOk result (λ t. t.thread.promise.pass.value ≡ pass) }
+{
+    let promise = ClientPromise {
+        book: Snapshot::of(place.book),
+        pass: Snapshot::of(&pass),
+    };
+    let thread = scope.spawn_with(
+        promise,
+        move || -> Done
+            requires { pass.book ≡ place.book.now.id }
+            ensures { Did place.entry.book.now pass result }
+        { follow_script(rt, alloc, place, pass, script) },
+    );
+    let Ok(thread) = thread else {
+        return Err(refused(place.progress));
+    };
+    Ok(ClientThread { thread })
 }
 
 /// The passes that are left are at home, and made no event.

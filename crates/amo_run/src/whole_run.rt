@@ -18,6 +18,7 @@ use crate::two_books::both_at_once;
 use crate::version::version_of;
 use crate::wire::{Socket, Wire};
 use crate::workload::workloads;
+use crate::workplace::Workplace;
 use crate::{LinkKind, Progress, Ran, RunFault, RunSettings, Script};
 use amo_net::{LinkFault, Lossy, LossyEnd, UdpPort};
 use amo_object::End;
@@ -221,14 +222,14 @@ pub fn run_scripts<S: Script + Send + Drop, C: Wire + Send + Drop, R: Threads + 
     ensures whole { IfOk result (λ r. IsWhole (sides_of Both settings.now.streams) (passes_of Both (pumps_of settings.now) (length scripts.items)) r.closed r.events.items) }
 {
     let version = version_of(settings);
-    let Crew {
-        book,
-        passes,
-        jobs,
-        scripts,
-    } = muster(alloc, settings, Part::Both, wires, scripts)?;
+    let Crew { book, hands } = muster(alloc, settings, Part::Both, wires, scripts)?;
     progress.begin(1);
-    let home = at_once(rt, alloc, version, &book, passes, jobs, scripts, progress)?;
+    let place = Workplace {
+        version,
+        book: &book,
+        progress,
+    };
+    let home = at_once(rt, alloc, place, hands)?;
     settle(alloc, version, book, home)
 }
 

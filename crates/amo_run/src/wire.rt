@@ -4,10 +4,9 @@ ghost use Rattle.amo_run.specs.Crew.{Returned};
 ghost use Rattle.amo_run.specs.Engine.{Works};
 ghost use Rattle.amo_run.specs.Versions.{version_of};
 
-use crate::Progress;
 use crate::work::{Pumped, Task, cut_off, drive};
-use amo_book::{Book, Pass};
-use amo_journal::Version;
+use crate::workplace::Workplace;
+use amo_book::Pass;
 use amo_net::{Lossy, LossyEnd, UdpPort};
 use amo_word::ChaChaWords;
 use std::alloc::Global;
@@ -27,15 +26,13 @@ pub trait Wire {
         self,
         rt: &R,
         alloc: Global,
-        version: Version,
-        book: &Book,
+        place: Workplace<'_>,
         pass: Pass,
         task: Task,
-        progress: &Progress,
     ) -> Pumped
-        requires works { Works book.now pass task.pump }
-        requires version { version ≡ version_of task.pump }
-        ensures { Returned book.now pass task.pump result };
+        requires works { Works place.book.now pass task.pump }
+        requires version { place.version ≡ version_of task.pump }
+        ensures { Returned place.entry.book.now pass task.pump result };
 }
 
 impl<'a, W: Wait> Wire for LossyEnd<'a, ChaChaWords, W> {
@@ -43,13 +40,11 @@ impl<'a, W: Wait> Wire for LossyEnd<'a, ChaChaWords, W> {
         self,
         rt: &R,
         alloc: Global,
-        version: Version,
-        book: &Book,
+        place: Workplace<'_>,
         pass: Pass,
         task: Task,
-        progress: &Progress,
     ) -> Pumped {
-        drive(rt, alloc, version, book, pass, task, self, progress)
+        drive(rt, alloc, place, pass, task, self)
     }
 }
 
@@ -65,23 +60,11 @@ impl Wire for Socket {
         self,
         rt: &R,
         alloc: Global,
-        version: Version,
-        book: &Book,
+        place: Workplace<'_>,
         pass: Pass,
         task: Task,
-        progress: &Progress,
     ) -> Pumped {
-        drive_socket::<R, Brand>(
-            rt,
-            alloc,
-            version,
-            book,
-            pass,
-            task,
-            self,
-            progress,
-            Blank::new(1),
-        )
+        drive_socket::<R, Brand>(rt, alloc, place, pass, task, self, Blank::new(1))
     }
 }
 
@@ -89,24 +72,22 @@ impl Wire for Socket {
 fn drive_socket<R: Wait, L: Ledger>(
     rt: &R,
     alloc: Global,
-    version: Version,
-    book: &Book,
+    place: Workplace<'_>,
     pass: Pass,
     task: Task,
     socket: Socket,
-    progress: &Progress,
     blank: Blank,
 ) -> Pumped
     requires name { blank.name ≡ L.name }
     requires parts { blank.parts ≡ L.parts }
     requires some { 0 < L.parts }
-    requires together { Works book.now pass task.pump }
-    requires version { version ≡ version_of task.pump }
-    ensures { Returned book.now pass task.pump result }
+    requires together { Works place.book.now pass task.pump }
+    requires version { place.version ≡ version_of task.pump }
+    ensures { Returned place.entry.book.now pass task.pump result }
 {
     let Socket { port, peer } = socket;
     match port.connect::<L>(peer, blank) {
-        Ok(link) => drive(rt, alloc, version, book, pass, task, link, progress),
-        Err(fault) => cut_off(alloc, book, pass, task, fault),
+        Ok(link) => drive(rt, alloc, place, pass, task, link),
+        Err(fault) => cut_off(alloc, place.book, pass, task, fault),
     }
 }

@@ -4,16 +4,15 @@ ghost use Rattle.amo_run.specs.Crew.{Did, Returned};
 ghost use Rattle.amo_run.specs.Engine.{Works};
 ghost use Rattle.amo_run.specs.Versions.{version_of};
 
-use crate::clock::Clock;
 use crate::engine::{Engine, Tally};
 use crate::plan::Plan;
 use crate::progress::Counted;
 use crate::source::Source;
 use crate::wire::Wire;
-use crate::{Progress, Script, client};
+use crate::workplace::Workplace;
+use crate::{Script, client};
 use amo_book::{Book, Charge, Pass};
 use amo_host::Pump;
-use amo_journal::Version;
 use amo_net::{Link, LinkFault};
 use amo_word::ChaChaWords;
 use amo_world::{Event, NoMemory};
@@ -101,16 +100,19 @@ pub struct PumpThread {
 pub fn follow_script<S: Script + Drop, R: Wait>(
     rt: &R,
     alloc: Global,
-    book: &Book,
+    place: Workplace<'_>,
     pass: Pass,
     script: S,
-    progress: &Progress,
 ) -> Done
-    requires { pass.book ≡ book.now.id }
-    ensures { Did book.now pass result }
+    requires { pass.book ≡ place.book.now.id }
+    ensures { Did place.entry.book.now pass result }
 {
-    let (mut pass, mut script) = (pass, Counted { script, progress });
-    let made = client(rt, alloc, book, &mut pass, &mut script);
+    let mut pass = pass;
+    let mut script = Counted {
+        script,
+        progress: place.progress,
+    };
+    let made = client(rt, alloc, place.book, &mut pass, &mut script);
     Done { pass, made }
 }
 
@@ -118,18 +120,16 @@ pub fn follow_script<S: Script + Drop, R: Wait>(
 pub fn follow_task<C: Wire + Drop, R: Wait>(
     rt: &R,
     alloc: Global,
-    version: Version,
-    book: &Book,
+    place: Workplace<'_>,
     pass: Pass,
     job: PumpJob<C>,
-    progress: &Progress,
 ) -> Pumped
-    requires works { Works book.now pass job.task.pump }
-    requires version { version ≡ version_of job.task.pump }
-    ensures { Returned book.now pass job.task.pump result }
+    requires works { Works place.book.now pass job.task.pump }
+    requires version { place.version ≡ version_of job.task.pump }
+    ensures { Returned place.entry.book.now pass job.task.pump result }
 {
     let PumpJob { task, wire } = job;
-    wire.drive(rt, alloc, version, book, pass, task, progress)
+    wire.drive(rt, alloc, place, pass, task)
 }
 
 /// Drives a pump over its link.
@@ -137,16 +137,14 @@ pub fn follow_task<C: Wire + Drop, R: Wait>(
 pub fn drive<L: Link + Drop, R: Wait>(
     rt: &R,
     alloc: Global,
-    version: Version,
-    book: &Book,
+    place: Workplace<'_>,
     pass: Pass,
     task: Task,
     link: L,
-    progress: &Progress,
 ) -> Pumped
-    requires works { Works book.now pass task.pump }
-    requires version { version ≡ version_of task.pump }
-    ensures { Returned book.now pass task.pump result }
+    requires works { Works place.book.now pass task.pump }
+    requires version { place.version ≡ version_of task.pump }
+    ensures { Returned place.entry.book.now pass task.pump result }
 {
     let Task {
         pump,
@@ -154,33 +152,9 @@ pub fn drive<L: Link + Drop, R: Wait>(
         source,
         streams,
     } = task;
-    let mut engine = Engine {
-        pump,
-        link,
-        plan,
-        source,
-        turns: 0,
-        clock: Clock::at(0),
-        incarnation: 0,
-    };
-    let mut pass = pass;
-    let mut tally = Tally {
-        made: Vec::new(alloc),
-        link_faults: 0,
-        busy: 0,
-        untold: 0,
-        untold_crashes: 0,
-    };
-    let worked = engine.work(
-        rt,
-        alloc,
-        version,
-        book,
-        &mut pass,
-        streams.as_slice(),
-        progress,
-        &mut tally,
-    );
+    let mut engine = Engine::new(pump, link, plan, source);
+    let (mut pass, mut tally) = (pass, Tally::new(alloc));
+    let worked = engine.work(rt, alloc, place, &mut pass, streams.as_slice(), &mut tally);
     let Tally {
         made,
         link_faults,

@@ -11,9 +11,11 @@ returns-clause-ready g c =
     let most = le-max_left (c.hosts.result * c.pumps_of.result + c.len.result) 2 in
     let count = c.in_ok-jobs.ensures.count in let chosen = c.max-passes.ensures in let scripts = c.len.ensures in let long = o.numbered_are.0 in
     record {
-      passes = (new_passes c.in_ok-book.field-0.book _ c.in_ok-book.field-0.passes.items o.numbered_are, o.numbered_are.0 ∙ sym o.passes_are);
-      enough = omega arith;
-      ours = c.in_ok-jobs.ensures.ours;
+      hands = record {
+        passes = (new_passes c.in_ok-book.field-0.book _ c.in_ok-book.field-0.passes.items o.numbered_are, o.numbered_are.0 ∙ sym o.passes_are);
+        enough = omega arith;
+        ours = c.in_ok-jobs.ensures.ours;
+      };
       all = c.in_ok-jobs.ensures.all;
       lawful = c.in_ok-book.ensures.lawful;
     }
