@@ -1,3 +1,4 @@
+pub mod Addresses
 pub mod ChosenRun
 pub mod Described
 pub mod Matched

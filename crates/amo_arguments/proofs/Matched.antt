@@ -13,6 +13,15 @@ use Rattle.amo_arguments.specs.Chosen.{Matches, Met, OfArguments}
 pub first_text : (found : Found) (name : Text) (o : Option (Bor Text)) (text : Option Text) → option_map (λ s. s.now) o ≡ first_value found name → option_map (λ s. s.now) o ≡ text → first_of name (rows_of found) ≡ text
 first_text found name o text given is = sym (first_value-rows found name) ∙ (sym given ∙ is)
 
+-- the first value is that text, or there is none
+pub text_found : (found : Found) (name : Text) (o : Option (Bor Text)) → option_map (λ s. s.now) o ≡ first_value found name → IfSome o (λ text. first_of name (rows_of found) ≡ Some text.now)
+text_found found name None given = tt
+text_found found name (Some text) given = first_text found name (Some text) (Some text.now) given refl
+
+pub no_text_found : (found : Found) (name : Text) (o : Option (Bor Text)) → option_map (λ s. s.now) o ≡ first_value found name → IfNone o (first_of name (rows_of found) ≡ None)
+no_text_found found name None given = first_text found name None None given refl
+no_text_found found name (Some text) given = tt
+
 -- a value was read from a text
 pub read_one : {A E : Type 0} (G : Text → Result A E → Type 0) (o : Option Text) (r : Option A) (x : A) → (o ≡ None → r ≡ None) → ((t : Text) → o ≡ Some t → ReadsOne G t r) → r ≡ Some x → (t : Text) × (o ≡ Some t) × G t (Ok x)
 read_one G None r x none value is = let e : None ≡ Some x = sym (none refl) ∙ is in absurd (search rules)

@@ -20,7 +20,7 @@ blamed arguments kinds e are (inr among) = inr (kinds, are, among)
 -- what `clap` takes may choose nothing all the same
 pub unfit_of : (arguments : List Text) (u : Unfit) → AreTaken arguments → IsRefusalOf arguments (refusal.Unfit u)
 unfit_of arguments unfit.Absent taken = taken
-unfit_of arguments (unfit.Address advice) taken = taken
+unfit_of arguments (unfit.Value advice) taken = taken
 unfit_of arguments unfit.EachAndBatch taken = taken
 unfit_of arguments unfit.NoMemory taken = tt
 
@@ -31,7 +31,7 @@ told_of arguments (refusal.ByParser e) (fault.Text text status) (inr faulty) tol
 told_of arguments (refusal.ByParser e) fault.Seed by told = absurd told
 told_of arguments (refusal.ByParser e) fault.NoMemory by told = tt
 told_of arguments (refusal.Unfit unfit.Absent) (fault.Text text status) taken told = inr (taken, told)
-told_of arguments (refusal.Unfit (unfit.Address advice)) (fault.Text text status) taken told = inr (taken, told)
+told_of arguments (refusal.Unfit (unfit.Value advice)) (fault.Text text status) taken told = inr (taken, told)
 told_of arguments (refusal.Unfit unfit.EachAndBatch) (fault.Text text status) taken told = inr (taken, told)
 told_of arguments (refusal.Unfit unfit.NoMemory) (fault.Text text status) taken told = absurd told
 told_of arguments (refusal.Unfit u) fault.Seed taken told = absurd told

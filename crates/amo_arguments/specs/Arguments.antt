@@ -8,6 +8,7 @@ use Rattle.amo_arguments.specs.declared.fault.ArgumentsFault.{ArgumentsFault}
 use Rattle.amo_arguments.specs.declared.fault.ArgumentsFault.TheVariants as fault
 use Rattle.amo_arguments.specs.declared.refusal.Refusal.{Refusal}
 use Rattle.amo_arguments.specs.declared.refusal.Refusal.TheVariants as refusal
+use Rattle.amo_arguments.specs.declared.refusal.Unfit.{Unfit}
 use Rattle.amo_arguments.specs.declared.refusal.Unfit.TheVariants as unfit
 
 -- what `clap` finds wrong with the arguments, or shows where they ask for it: kinds of which one is told, and none where it takes them
@@ -26,7 +27,8 @@ status_of DisplayHelp = 0
 status_of DisplayVersion = 0
 status_of _ = 2
 
--- what is told of the arguments has the status of their fault; where they have none, two flags contradict each other, or there is no seed
+-- what is told of the arguments has the status of their fault; where they have none, a value does not do, two of them contradict each other, or
+-- there is no seed
 abbrev pub IsToldOf : List Text → ArgumentsFault → Type 0
 IsToldOf arguments (fault.Text text status) = ((kind : ErrorKind) × IsFaultOf arguments kind × (status ≡ status_of kind)) ⊎ (AreTaken arguments × (status ≡ 2))
 IsToldOf arguments fault.Seed = AreTaken arguments
@@ -54,3 +56,9 @@ IsToldAs (refusal.Unfit unfit.NoMemory) (fault.Text text status) = ⊥
 IsToldAs (refusal.Unfit _) (fault.Text text status) = status ≡ 2
 IsToldAs _ fault.Seed = ⊥
 IsToldAs _ fault.NoMemory = Unit {0}
+
+-- a value is blamed only for this reason, and nothing else is but want of memory
+abbrev pub BlamesIf : Type 0 → Unfit → Type 0
+BlamesIf reason (unfit.Value text) = reason
+BlamesIf reason unfit.NoMemory = Unit {0}
+BlamesIf reason _ = ⊥

@@ -1,7 +1,7 @@
 -- What the program's arguments choose.
-use Rattle.std.specs.Prelude.{◌≡◌, ℕ, ◌≤◌, Bool, false, ◌&&◌, if◌then◌else◌, List, Option, Some, None, IfSome, codes, length, option_map, string_bytes}
+use Rattle.std.specs.Prelude.{◌≡◌, ◌≢◌, ℕ, ◌≤◌, Bool, false, ◌&&◌, if◌then◌else◌, List, [], ◌∷◌, ◌++◌, Option, Some, None, IfSome, codes, length, option_map, string_bytes}
 use Rattle.hex.specs.Hex.{IsBytes}
-use Rattle.std.specs.Str.Parse.{digits_value, without_leading_plus}
+use Rattle.std.specs.Fmt.{decimal}
 use Rattle.clap.specs.Words.{Row, Text, first_of, one_of, subcommand_of, subcommand_rows_of}
 use Rattle.clap.specs.declared.parser.matches.ArgMatches.{ArgMatches}
 use Rattle.amo_text.specs.Hexadecimal.{hex}
@@ -38,14 +38,26 @@ HasText rows name text = first_of name rows ≡ Some text
 abbrev pub HasTextOrNone : List Row → Text → Option Text → Type 0
 HasTextOrNone rows name text = first_of name rows ≡ text
 
--- the value of an argument of this name, read as a number
+-- the first value of an argument of this name, which is a number's decimal: it has no sign and no leading zero
 abbrev pub HasNumber : List Row → Text → ℕ → Type 0
-HasNumber rows name number = (text : Text) × (one_of name rows ≡ Some text) × (digits_value 10 (without_leading_plus text) ≡ number)
+HasNumber rows name number = HasText rows name (decimal number)
 
 -- the same of an option that may be absent
 abbrev pub HasNumberOrNone : List Row → Text → Option ℕ → Type 0
 HasNumberOrNone rows name None = first_of name rows ≡ None
 HasNumberOrNone rows name (Some number) = HasNumber rows name number
+
+-- a host, a colon, and a port from `least` on
+abbrev pub IsAddress : ℕ → Text → Type 0
+IsAddress least text = (host : Text) × (port : ℕ) × (text ≡ host ++ 58 ∷ decimal port) × (host ≢ []) × (least ≤ port) × (port ≤ 65535)
+
+-- the first value of an argument of this name, which is an address
+abbrev pub HasAddress : List Row → Text → ℕ → Text → Type 0
+HasAddress rows name least text = HasText rows name text × IsAddress least text
+
+-- the journal's file, which has a name
+abbrev pub HasJournal : List Row → Text → Type 0
+HasJournal rows file = HasText rows (codes "journal") file × (file ≢ [])
 
 -- whether the flag of this name is there
 abbrev pub HasFlag : List Row → Text → Bool → Type 0
@@ -74,19 +86,21 @@ pub record HasSettings (rows : List Row) (settings : RunSettings) : Type 0 where
 
 -- the matches of `run` have the values of these settings
 abbrev pub ChoosesRun : List Row → Settings → Type 0
-ChoosesRun rows (Run settings file) = HasSettings rows settings × HasText rows (codes "journal") (string_bytes file)
+ChoosesRun rows (Run settings file) = HasSettings rows settings × HasJournal rows (string_bytes file)
 ChoosesRun rows _ = ⊥
 
 -- the matches of `run` have no seed: its text spells no 32 bytes
 abbrev pub HasNoSeed : List Row → Type 0
 HasNoSeed rows = (seed : List ℕ) → IsBytes seed → length seed ≡ 32 → HasText rows (codes "seed") (hex seed) → ⊥
 
--- the matches of `send` or of `receive` have these values, each within its limits
+-- the matches of `send` or of `receive` have these values, each within its limits. The system may choose the host's own port, and not its
+-- peer's; and a host is not its own peer
 pub record HasHost (rows : List Row) (host : HostSettings) : Type 0 where
-  pub listen : HasText rows (codes "listen") (string_bytes host.listen)
-  pub peer : HasText rows (codes "peer") (string_bytes host.peer)
+  pub listen : HasAddress rows (codes "listen") 0 (string_bytes host.listen)
+  pub peer : HasAddress rows (codes "peer") 1 (string_bytes host.peer)
+  pub apart : string_bytes host.listen ≢ string_bytes host.peer
   pub streams : HasNumber rows (codes "streams") host.streams
-  pub journal : HasText rows (codes "journal") (string_bytes host.journal)
+  pub journal : HasJournal rows (string_bytes host.journal)
   pub tick : HasNumber rows (codes "tick") host.tick
   pub json : HasFlag rows (codes "json") host.json
   pub sync : HasFlag rows (codes "sync") host.sync

@@ -86,7 +86,7 @@ abbrev pub send : App
 send = with_rule (with_rule (with_rule (host (codes "send")) (flag (codes "each"))) (flag (codes "batch"))) (flag (codes "hex"))
 
 abbrev pub receive : App
-receive = with_rule (host (codes "receive")) (optional_number (codes "count") 1 18446744073709551615)
+receive = with_rule (host (codes "receive")) (optional_number (codes "count") 0 18446744073709551615)
 
 abbrev pub audit : App
 audit = with_rule (with_rule (new_app (codes "audit")) file) second_file

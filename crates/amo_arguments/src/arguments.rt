@@ -1,14 +1,15 @@
 //! Reads the program's arguments.
-ghost use Rattle.std.specs.Prelude.{◌≤◌, codes, IfErr, IfNone, IfOk, IfSome, IsErrOf, MatchResult, map, option_map, string_bytes};
-ghost use Rattle.clap.specs.Words.{found_of, rows_of, subcommand_rows_of};
+ghost use Rattle.std.specs.Prelude.{◌≡◌, ◌≤◌, codes, None, IfErr, IfNone, IfOk, IfSome, IsErrOf, MatchResult, map, option_map, string_bytes};
+ghost use Rattle.clap.specs.Words.{first_of, found_of, rows_of, subcommand_rows_of};
 ghost use Rattle.amo_text.specs.Hexadecimal.{hex};
 ghost use Rattle.amo_settings.specs.Limits.{IsWithin};
 ghost use Rattle.amo_arguments.specs.Arguments.{AreTaken, IsRefusalOf, IsToldOf};
-ghost use Rattle.amo_arguments.specs.Chosen.{Chooses, ChoosesBy, ChoosesRun, HasFlag, HasHost, HasNoSeed, HasNumber, HasNumberOrNone, HasReceive, HasSend, HasText, HasTextOrNone, LacksSeed, Matches, MeetsSeedless, link_name, shell_name};
+ghost use Rattle.amo_arguments.specs.Chosen.{Chooses, ChoosesBy, ChoosesRun, HasAddress, HasFlag, HasHost, HasJournal, HasNoSeed, HasNumber, HasNumberOrNone, HasReceive, HasSend, HasText, HasTextOrNone, LacksSeed, Matches, MeetsSeedless, link_name, shell_name};
 
 use crate::ArgumentsFault;
 use crate::commands::{CLIENTS, CRASHES, PUMPS, STREAMS, TICK, WAIT, command};
 use crate::refusal::{Refusal, Unfit, told};
+use crate::values::{check_address, check_apart, number_in};
 use amo_settings::{
     HostSettings, LinkKind, ReceiveSettings, RunSettings, SendSettings, Settings, Shell,
 };
@@ -106,7 +107,7 @@ fn parse_run(alloc: Global, matches: &ArgMatches<'_>) -> Result<Option<Settings>
     let clients = number_of(alloc, matches, "clients", 1, CLIENTS)?;
     let crashes = number_of(alloc, matches, "crashes", 0, CRASHES)?;
     let link = link_of(alloc, matches)?;
-    let journal = text_of(alloc, matches, "journal")?;
+    let journal = journal_of(alloc, matches)?;
     let pumps = number_of(alloc, matches, "pumps", 1, PUMPS)?;
     let split = flag_of(alloc, matches, "split")?;
     let batch = flag_of(alloc, matches, "batch")?;
@@ -158,10 +159,11 @@ fn parse_receive(alloc: Global, matches: &ArgMatches<'_>) -> Result<ReceiveSetti
 fn parse_host(alloc: Global, matches: &ArgMatches<'_>) -> Result<HostSettings, Unfit>
     ensures { IfOk result (HasHost (rows_of (found_of matches.now))) }
 {
-    let listen = address_of(alloc, matches, "listen", "0.0.0.0")?;
-    let peer = address_of(alloc, matches, "peer", "127.0.0.1")?;
+    let listen = address_of(alloc, matches, "listen", "0.0.0.0", 0)?;
+    let peer = address_of(alloc, matches, "peer", "127.0.0.1", 1)?;
+    check_apart(alloc, listen.as_str(), peer.as_str())?;
     let streams = number_of(alloc, matches, "streams", 1, STREAMS)?;
-    let journal = text_of(alloc, matches, "journal")?;
+    let journal = journal_of(alloc, matches)?;
     let tick = number_of(alloc, matches, "tick", 1, TICK)?;
     let json = flag_of(alloc, matches, "json")?;
     let sync = flag_of(alloc, matches, "sync")?;
@@ -188,27 +190,31 @@ fn text_of(alloc: Global, matches: &ArgMatches<'_>, name: &str) -> Result<String
     }
 }
 
-/// The text of an argument that is an address, HOST:PORT. Where it lacks its host or its port it is refused with what to give: such a host
-/// may be this one.
+/// The text of an argument that is an address, HOST:PORT, with a port of `least` at least. Where it lacks its host, `host` may be given.
 fn address_of(
     alloc: Global,
     matches: &ArgMatches<'_>,
     name: &str,
     host: &str,
+    least: u64,
 ) -> Result<String, Unfit>
-    ensures { IfOk result (λ text. HasText (rows_of (found_of matches.now)) name.now (string_bytes text)) }
+    ensures { IfOk result (λ text. HasAddress (rows_of (found_of matches.now)) name.now least (string_bytes text)) }
 {
     let text = text_of(alloc, matches, name)?;
-    let advice = match text.as_bytes() {
-        [b':', port @ ..] if !port.contains(&b':') => {
-            format!(in alloc; "--{name} {text}: give a host, as {host}{text}")?
-        }
-        address if !address.contains(&b':') => {
-            format!(in alloc; "--{name} {text}: give a port, as {text}:4800")?
-        }
-        _ => return Ok(text),
-    };
-    Err(Unfit::Address(advice))
+    check_address(alloc, name, text.as_str(), host, least)?;
+    Ok(text)
+}
+
+/// The name of the journal's file.
+fn journal_of(alloc: Global, matches: &ArgMatches<'_>) -> Result<String, Unfit>
+    ensures { IfOk result (λ file. HasJournal (rows_of (found_of matches.now)) (string_bytes file)) }
+{
+    let file = text_of(alloc, matches, "journal")?;
+    if file.as_str().is_empty() {
+        let advice = String::from_str(alloc, "--journal has no text: give the name of a file")?;
+        return Err(Unfit::Value(advice));
+    }
+    Ok(file)
 }
 
 /// The second file, where there is one.
@@ -231,10 +237,11 @@ fn number_of(
 ) -> Result<u32, Unfit>
     ensures { IfOk result (λ number. HasNumber (rows_of (found_of matches.now)) name.now number × (low ≤ number) × (number ≤ high)) }
 {
-    match matches.get_one::<u32>(name) {
-        Some(number) if low <= number && number <= high => Ok(number),
-        _ => Err(Unfit::Absent),
-    }
+    let Some(text) = value_of(matches, name) else {
+        return Err(Unfit::Absent);
+    };
+    let number = number_in(alloc, name, text, u64::from(low), u64::from(high))?;
+    Ok(number as u32)
 }
 
 /// The number of an option that may be absent, from `low` to `high`.
@@ -248,13 +255,19 @@ fn number_or_none_of(
     ensures number { IfOk result (HasNumberOrNone (rows_of (found_of matches.now)) name.now) }
     ensures within { IfOk result (λ number. IfSome number (λ n. (low ≤ n) × (n ≤ high))) }
 {
-    let Some(_text) = matches.get_str(name) else {
+    let Some(text) = value_of(matches, name) else {
         return Ok(None);
     };
-    match matches.get_one::<u64>(name) {
-        Some(number) if low <= number && number <= high => Ok(Some(number)),
-        _ => Err(Unfit::Absent),
-    }
+    let number = number_in(alloc, name, text, low, high)?;
+    Ok(Some(number))
+}
+
+/// The text of an argument, if it is there.
+fn value_of<'a>(matches: &ArgMatches<'a>, name: &str) -> Option<&'a str>
+    ensures found { IfSome result (λ text. HasText (rows_of (found_of matches.now)) name.now text.now) }
+    ensures none { IfNone result (first_of name.now (rows_of (found_of matches.now)) ≡ None) }
+{
+    matches.get_str(name)
 }
 
 /// The seed of a run; none where its text spells no 32 bytes.

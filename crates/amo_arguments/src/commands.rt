@@ -160,7 +160,8 @@ fn receive<'a>(alloc: Global) -> Result<Command<'a>, AllocError>
         alloc,
         "count",
         "N",
-        1,
+        // From 1 on, of which the settings see to it: `clap` would tell of the limits without the greatest.
+        0,
         u64::MAX,
         "Ends once it got N messages, and the rest of their batch",
     ))

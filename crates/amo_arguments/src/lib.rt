@@ -10,6 +10,7 @@ mod commands;
 mod fault;
 mod refusal;
 mod texts;
+mod values;
 mod version;
 
 pub use arguments::settings;

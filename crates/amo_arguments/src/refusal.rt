@@ -26,8 +26,8 @@ pub(crate) enum Refusal {
 pub(crate) enum Unfit {
     /// A command or a value is not there, or not within its limits, which `clap` has seen to.
     Absent,
-    /// An address has no host or no port: what to give in its place.
-    Address(String),
+    /// A value does not do: which, and what to give in its place.
+    Value(String),
     /// `--each` and `--batch` of `send` contradict each other.
     EachAndBatch,
     /// Memory was refused.
@@ -55,7 +55,7 @@ pub(crate) fn told(alloc: Global, refusal: &Refusal) -> ArgumentsFault
         }
         Refusal::ByParser(error) => text(alloc, error, status_of(error.kind())),
         Refusal::Unfit(Unfit::Absent) => absent(alloc),
-        Refusal::Unfit(Unfit::Address(advice)) => unfit_value(alloc, advice.as_str()),
+        Refusal::Unfit(Unfit::Value(advice)) => unfit_value(alloc, advice.as_str()),
         Refusal::Unfit(Unfit::EachAndBatch) => each_and_batch(alloc),
         Refusal::Unfit(Unfit::NoMemory) => ArgumentsFault::NoMemory,
     }

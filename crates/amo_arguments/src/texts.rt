@@ -25,8 +25,8 @@ Status:
      written; of a host also an address that is none, or a journal that it cannot go on with
   5  a host waited as long as it was told, and something was still on its way
 
-Faults go to standard error. `amo: device` is a file, a socket or standard output that failed,
-also where there is no such file.";
+Faults go to standard error. `amo: device` is a file, a socket or standard output that failed, also
+where there is no such file; a second line says what failed and, but for a socket, the cause.";
 
 pub(crate) const REPLAY_ABOUT: &str = "Replays a schedule, and prints a line for each event";
 
@@ -140,7 +140,7 @@ Status:
   0  all is answered
   2  arguments that do not parse; or all is answered, and the last line had no end
   4  `amo: out of memory`
-     `amo: no address: ADDR`
+     `amo: no address: ADDR: CAUSE`, `amo: cannot look up ADDR: CAUSE`
      `amo: cannot listen on ADDR: CAUSE`, `amo: no way to ADDR: CAUSE`: the socket cannot be opened;
      later faults of it lose packets and no more
      `amo: FILE: another process has it in use`

@@ -7,5 +7,5 @@ use Rattle.amo_arguments.proofs.commands.receive.Goals as goal
 
 pub returns : goal.returns
 returns c =
-    let count : rule_of c.optional_number.result ≡ optional_number (codes "count") 1 18446744073709551615 = search rules in
+    let count : rule_of c.optional_number.result ≡ optional_number (codes "count") 0 18446744073709551615 = search rules in
     IfOk-weaker c.arg.result _ _ (λ m h. with_argument h count c.optional_number.ensures.local c.in_ok-host.ensures) c.arg.ensures
