@@ -1,4 +1,8 @@
 //! Why the program fails.
+ghost use Rattle.std.specs.Prelude.{◌≡◌, ◌≢◌, IsNone, IsSome};
+ghost use Rattle.std.specs.IoError.{error_kind, raw_os_error};
+ghost use Rattle.amo_tool.specs.Failure.{IsOfFile, IsOfOutput, IsOfUnknown, IsOfUntold, output_failure, replay_failure, report_failure};
+
 use amo_journal::JournalFault;
 use amo_live::{Cause, LiveFault, OpenFault, ProcessFault, ServeFault, SocketFault};
 use amo_replay::ToolFault;
@@ -17,12 +21,24 @@ pub(crate) enum Failure {
     /// Another call was at work at a side of the book.
     #[error("amo: busy")]
     Busy,
-    /// A file, a socket or standard output failed.
+    /// A file or standard output failed, and there is no more to tell.
     #[error("amo: device")]
     Device,
-    /// A text is the address of no socket, or a name that is not known.
-    #[error("amo: no address: {0}")]
-    NoAddress(String),
+    /// The file of this name failed, for this cause.
+    #[error("amo: device\namo: {0}: {1}")]
+    File(String, Cause),
+    /// Standard output failed, for this cause.
+    #[error("amo: device\namo: standard output: {0}")]
+    Output(Cause),
+    /// A socket of a run could not be opened or connected.
+    #[error("amo: device\namo: a socket on 127.0.0.1 could not be opened or connected")]
+    Socket,
+    /// A text is the address of no socket, or has a name that is not known.
+    #[error("amo: no address: {0}: {1}")]
+    NoAddress(String, io::Error),
+    /// A call of the system failed while the name of an address was looked up.
+    #[error("amo: cannot look up {0}: {1}")]
+    Lookup(String, Cause),
     /// Standard input is closed, and a host was to read it.
     #[error("amo: standard input is closed")]
     InputClosed,
@@ -38,7 +54,7 @@ pub(crate) enum Failure {
     /// A host cannot go on with the journal in this file.
     #[error("amo: {0}: {1}")]
     Journal(String, OpenFault),
-    /// The file of a host's journal failed while it was written.
+    /// A file of a host failed, as that of its journal while it was written.
     #[error("amo: {0}: {1}")]
     Disk(String, Cause),
     /// A host in this process cannot go on.
@@ -47,6 +63,106 @@ pub(crate) enum Failure {
 }
 
 impl Failure {
+    /// The file of this name failed so.
+    pub(crate) fn of_file(alloc: Global, file: &str, error: io::Error) -> Failure
+        ensures memory { error_kind error ≡ ErrorKind.OutOfMemory → result ≡ Failure.NoMemory }
+        ensures other { error_kind error ≢ ErrorKind.OutOfMemory → IsOfFile file.now result }
+    {
+        match error.kind() {
+            ErrorKind::OutOfMemory => Failure::NoMemory,
+            _ => Failure::named(alloc, file, Cause::from(error)),
+        }
+    }
+
+    /// The file of this name failed, for this cause. Without memory for the name it is not told.
+    fn named(alloc: Global, file: &str, cause: Cause) -> Failure
+        ensures { IsOfFile file.now result }
+    {
+        match String::from_str(alloc, file) {
+            Ok(file) => Failure::File(file, cause),
+            Err(AllocError) => Failure::Device,
+        }
+    }
+
+    /// A journal was not written into the file of this name. If a call on the file failed, this is why.
+    pub(crate) fn of_kept(
+        alloc: Global,
+        file: &str,
+        fault: JournalFault,
+        cause: Option<Cause>,
+    ) -> Failure
+        ensures memory { fault ≡ JournalFault.NoMemory → result ≡ Failure.NoMemory }
+        ensures other { fault ≢ JournalFault.NoMemory → IsOfFile file.now result }
+    {
+        match fault {
+            JournalFault::NoMemory => Failure::NoMemory,
+            _ => match cause {
+                Some(cause) => Failure::named(alloc, file, cause),
+                None => Failure::Device,
+            },
+        }
+    }
+
+    /// Standard output failed so.
+    pub(crate) fn of_output(error: io::Error) -> Failure
+        ensures memory { error_kind error ≡ ErrorKind.OutOfMemory → result ≡ Failure.NoMemory }
+        ensures other { error_kind error ≢ ErrorKind.OutOfMemory → IsOfOutput result }
+    {
+        match error.kind() {
+            ErrorKind::OutOfMemory => Failure::NoMemory,
+            _ => Failure::Output(Cause::from(error)),
+        }
+    }
+
+    /// A write on standard output failed. If it told why, this is it.
+    fn of_write(cause: Option<Cause>) -> Failure
+        ensures { result ≡ output_failure cause }
+    {
+        match cause {
+            Some(cause) => Failure::Output(cause),
+            None => Failure::Device,
+        }
+    }
+
+    /// A replay stopped before its end. If a write on standard output failed, this is why.
+    pub(crate) fn of_replay(fault: ToolFault, cause: Option<Cause>) -> Failure
+        ensures { result ≡ replay_failure fault cause }
+    {
+        match fault {
+            ToolFault::NoMemory => Failure::NoMemory,
+            ToolFault::Busy => Failure::Busy,
+            ToolFault::Device => Failure::of_write(cause),
+        }
+    }
+
+    /// A journal was not told of. If a write on standard output failed, this is why.
+    pub(crate) fn of_report(fault: JournalFault, cause: Option<Cause>) -> Failure
+        ensures { result ≡ report_failure fault cause }
+    {
+        match fault {
+            JournalFault::NoMemory => Failure::NoMemory,
+            _ => Failure::of_write(cause),
+        }
+    }
+
+    /// The addresses that this text stands for were not found, or were not looked up to the end.
+    pub(crate) fn of_address(alloc: Global, address: &str, error: io::Error) -> Failure
+        ensures memory { error_kind error ≡ ErrorKind.OutOfMemory → result ≡ Failure.NoMemory }
+        ensures failed { error_kind error ≢ ErrorKind.OutOfMemory → IsSome (raw_os_error error) → IsOfUntold address.now result }
+        ensures none { error_kind error ≢ ErrorKind.OutOfMemory → IsNone (raw_os_error error) → IsOfUnknown address.now result }
+    {
+        if error.kind() == ErrorKind::OutOfMemory {
+            return Failure::NoMemory;
+        }
+        let Ok(address) = String::from_str(alloc, address) else {
+            return Failure::NoMemory;
+        };
+        match error.raw_os_error() {
+            Some(_code) => Failure::Lookup(address, Cause::from(error)),
+            None => Failure::NoAddress(address, error),
+        }
+    }
+
     /// A socket that was to be at one address, and connected to another, did not open.
     pub(crate) fn of_socket(
         alloc: Global,
@@ -74,6 +190,14 @@ impl Failure {
         }
     }
 
+    /// A file of a host failed, for this cause.
+    pub(crate) fn of_disk(alloc: Global, path: &str, cause: Cause) -> Failure {
+        match String::from_str(alloc, path) {
+            Ok(path) => Failure::Disk(path, cause),
+            Err(_) => Failure::NoMemory,
+        }
+    }
+
     /// A host with a journal in this file cannot go on. If a call on the file failed, this is why.
     pub(crate) fn of_host(
         alloc: Global,
@@ -84,41 +208,9 @@ impl Failure {
         match (fault, cause) {
             (ProcessFault::Open(fault), _) => Failure::of_journal(alloc, path, fault),
             (ProcessFault::Serve(ServeFault::Host(LiveFault::Journal)), Some(cause)) => {
-                match String::from_str(alloc, path) {
-                    Ok(path) => Failure::Disk(path, cause),
-                    Err(_) => Failure::NoMemory,
-                }
+                Failure::of_disk(alloc, path, cause)
             }
             _ => Failure::Host(fault),
-        }
-    }
-}
-
-impl From<ToolFault> for Failure {
-    ghost use Rattle.std.specs.Prelude.{◌≡◌};
-    ghost use Rattle.amo_tool.specs.Failure.{replay_failure};
-
-    ghost from_gives = { λ fault failure. failure ≡ replay_failure fault };
-
-    fn from(fault: ToolFault) -> Failure {
-        match fault {
-            ToolFault::NoMemory => Failure::NoMemory,
-            ToolFault::Busy => Failure::Busy,
-            ToolFault::Device => Failure::Device,
-        }
-    }
-}
-
-impl From<JournalFault> for Failure {
-    ghost use Rattle.std.specs.Prelude.{◌≡◌};
-    ghost use Rattle.amo_tool.specs.Failure.{journal_failure};
-
-    ghost from_gives = { λ fault failure. failure ≡ journal_failure fault };
-
-    fn from(fault: JournalFault) -> Failure {
-        match fault {
-            JournalFault::NoMemory => Failure::NoMemory,
-            _ => Failure::Device,
         }
     }
 }
@@ -132,7 +224,7 @@ impl From<RunFault> for Failure {
     fn from(fault: RunFault) -> Failure {
         match fault {
             RunFault::NoMemory => Failure::NoMemory,
-            RunFault::Device => Failure::Device,
+            RunFault::Device => Failure::Socket,
         }
     }
 }
@@ -145,14 +237,5 @@ impl From<AllocError> for Failure {
 
     fn from(_: AllocError) -> Failure {
         Failure::NoMemory
-    }
-}
-
-impl From<io::Error> for Failure {
-    fn from(error: io::Error) -> Failure {
-        match error.kind() {
-            ErrorKind::OutOfMemory => Failure::NoMemory,
-            _ => Failure::Device,
-        }
     }
 }

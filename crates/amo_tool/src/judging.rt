@@ -2,9 +2,11 @@
 ghost use Rattle.std.specs.Prelude.{◌≡◌, ◌<◌};
 
 use crate::failure::Failure;
+use crate::watched::Watched;
 use amo_audit::{Verdict, explain, report, tell};
 use amo_journal::JournalFault;
 use amo_text::Out;
+use std::cell::Cell;
 use std::io::{BufWriter, Printer, Write};
 use std::marker::Brand;
 use std::rt::Files;
@@ -17,13 +19,21 @@ pub(crate) fn audit_files<R: AllocGlobal + Files + Print>(
     file: &str,
     second: Option<&str>,
 ) -> Result<u8, Failure> {
-    let first = fs::read(rt, file)?;
+    let first = read_journal(rt, file)?;
     let second = match second {
-        Some(file) => Some(fs::read(rt, file)?),
+        Some(file) => Some(read_journal(rt, file)?),
         None => None,
     };
     let second = second.as_ref().map(|bytes| bytes.as_slice());
     audit_bytes::<R, Brand>(rt, first.as_slice(), second, Blank::new(1))
+}
+
+/// The bytes of the journal in a file.
+fn read_journal<R: AllocGlobal + Files>(rt: &R, file: &str) -> Result<Vec<u8>, Failure> {
+    match fs::read(rt, file) {
+        Ok(bytes) => Ok(bytes),
+        Err(error) => Err(Failure::of_file(rt.alloc(), file, error)),
+    }
 }
 
 /// Tells the verdict on the bytes of one journal, or of two, on standard output. What was written has left when it answers.
@@ -37,10 +47,15 @@ fn audit_bytes<R: AllocGlobal + Print, L: Ledger>(
     requires parts { blank.parts ≡ L.parts }
     requires some { 0 < L.parts }
 {
-    let mut out = Out::<Printer<'_, R>, L>::new(io::writer(rt), blank);
-    let status = report(rt.alloc(), first, second, &mut out)?;
-    out.into_inner().flush()?;
-    Ok(status)
+    let cause = Cell::new(None);
+    let watched = Watched::new(io::writer(rt), &cause);
+    let mut out = Out::<Watched<'_, Printer<'_, R>>, L>::new(watched, blank);
+    let told = report(rt.alloc(), first, second, &mut out);
+    out.into_inner().flush().map_err(Failure::of_output)?;
+    match told {
+        Ok(status) => Ok(status),
+        Err(fault) => Err(Failure::of_report(fault, cause.get())),
+    }
 }
 
 /// Explains the journal in a file on standard output, and answers the status to end with. Of what is audited other than yes,
@@ -50,7 +65,7 @@ pub(crate) fn explain_file<R: AllocGlobal + Files + Print, E: Write + Drop>(
     file: &str,
     errors: E,
 ) -> Result<u8, Failure> {
-    let bytes = fs::read(rt, file)?;
+    let bytes = read_journal(rt, file)?;
     let verdict = explain_bytes::<R, Brand>(rt, bytes.as_slice(), Blank::new(1))?;
     match verdict {
         Verdict::Yes => Ok(verdict.status()),
@@ -68,11 +83,16 @@ fn explain_bytes<R: AllocGlobal + Print, L: Ledger>(
     requires parts { blank.parts ≡ L.parts }
     requires some { 0 < L.parts }
 {
-    let buffered = BufWriter::new(rt.alloc(), io::writer(rt))?;
-    let mut out = Out::<BufWriter<Printer<'_, R>>, L>::new(buffered, blank);
-    let verdict = explain(rt.alloc(), bytes, &mut out);
-    out.into_inner().flush()?;
-    Ok(verdict?)
+    let cause = Cell::new(None);
+    let watched = Watched::new(io::writer(rt), &cause);
+    let buffered = BufWriter::new(rt.alloc(), watched).map_err(Failure::of_output)?;
+    let mut out = Out::<BufWriter<Watched<'_, Printer<'_, R>>>, L>::new(buffered, blank);
+    let explained = explain(rt.alloc(), bytes, &mut out);
+    out.into_inner().flush().map_err(Failure::of_output)?;
+    match explained {
+        Ok(verdict) => Ok(verdict),
+        Err(fault) => Err(Failure::of_report(fault, cause.get())),
+    }
 }
 
 /// Tells a verdict, and answers the status to end with, which stays where standard error does not take it.
@@ -88,7 +108,8 @@ fn tell_verdict<R: AllocGlobal, E: Write + Drop, L: Ledger>(
 {
     let mut out = Out::<E, L>::new(errors, blank);
     match tell(rt.alloc(), verdict, &mut out) {
+        Ok(status) => Ok(status),
         Err(JournalFault::Device) => Ok(verdict.status()),
-        status => Ok(status?),
+        Err(fault) => Err(Failure::of_report(fault, None)),
     }
 }

@@ -3,15 +3,15 @@ ghost use Rattle.std.specs.Prelude.{◌≡◌, ◌<◌, ◌≤◌};
 ghost use Rattle.amo_settings.specs.Limits.{IsHostWithin};
 
 use crate::failure::Failure;
-use amo_live::{Disk, Ended, Opened, Plan, Socket, run_process};
+use amo_live::{Cause, Disk, Ended, Opened, Plan, Socket, run_process};
 use amo_object::End;
 use amo_settings::{HostSettings, ReceiveSettings, SendSettings};
 use std::cell::Cell;
 use std::fs;
 use std::fs::File;
-use std::io::{Read, Write};
+use std::io::{ErrorKind, Read, Write};
 use std::marker::Brand;
-use std::net::{Net, SocketAddr, ToSocketAddrs};
+use std::net::{Net, ToSocketAddrs};
 use std::os::fd::AsRawFd;
 use std::random::RandomSource;
 use std::rt::{Clock, Files};
@@ -28,6 +28,9 @@ const STANDARD_INPUT: i32 = 0;
 
 /// The number of standard output.
 const STANDARD_OUTPUT: i32 = 1;
+
+/// A file that is there, and has nothing.
+const NOTHING: &str = "/dev/null";
 
 /// Puts the messages that come, and tells what became of each. Answers the status to end with.
 pub(crate) fn send_lines<
@@ -84,19 +87,22 @@ fn run_host<
     }
 }
 
-/// Refuses a text that is no address, and a name that nobody knows.
+/// Refuses a text that is no address, and a name that nobody knows or that cannot be looked up.
 fn check_address<R: AllocGlobal + Net>(rt: &R, address: &str) -> Result<(), Failure> {
     match address.to_socket_addrs(rt) {
         Ok(_) => Ok(()),
-        Err(_) => Err(Failure::NoAddress(String::from_str(rt.alloc(), address)?)),
+        Err(error) => Err(Failure::of_address(rt.alloc(), address, error)),
     }
 }
 
 /// Opens two files, to be held open. What is opened behind them has the number of no standard stream: where one is closed, a socket or a
 /// journal could have its number, and would get what is meant for a client. Refused where standard output is closed, or standard input at a
 /// host that reads it.
-fn hold_numbers<R: Files<File = File>>(rt: &R, side: End) -> Result<(File, File), Failure> {
-    let held = (fs::open(rt, "/dev/null")?, fs::open(rt, "/dev/null")?);
+fn hold_numbers<R: AllocGlobal + Files<File = File>>(
+    rt: &R,
+    side: End,
+) -> Result<(File, File), Failure> {
+    let held = (open_nothing(rt)?, open_nothing(rt)?);
     let numbers = [held.0.as_raw_fd(), held.1.as_raw_fd()];
     let lacks_input = side == End::Sender && numbers[0] == STANDARD_INPUT;
     if lacks_input {
@@ -106,6 +112,15 @@ fn hold_numbers<R: Files<File = File>>(rt: &R, side: End) -> Result<(File, File)
         return Err(Failure::OutputClosed);
     }
     Ok(held)
+}
+
+/// Opens a file that has nothing.
+fn open_nothing<R: AllocGlobal + Files<File = File>>(rt: &R) -> Result<File, Failure> {
+    match fs::open(rt, NOTHING) {
+        Ok(file) => Ok(file),
+        Err(error) if error.kind() == ErrorKind::OutOfMemory => Err(Failure::NoMemory),
+        Err(error) => Err(Failure::of_disk(rt.alloc(), NOTHING, Cause::from(error))),
+    }
 }
 
 /// Opens the socket, then the journal, and runs the host with both. The blanks become the ledgers in which contracts count their
@@ -131,7 +146,7 @@ fn run_opened<
 {
     let alloc = rt.alloc();
     let path = host.journal.as_str();
-    let (socket, address) = open_socket::<R, L>(rt, host, link)?;
+    let (socket, port) = open_socket::<R, L>(rt, host, link)?;
     let cause = Cell::new(None);
     let opened = match Disk::<File, M>::open(rt, alloc, path, &plan, &cause, lines) {
         Ok(opened) => opened,
@@ -139,7 +154,7 @@ fn run_opened<
     };
     let Opened { disk, scan, zeros } = opened;
     tell_of_zeros(rt, path, zeros);
-    tell_of_start(rt, &address, path, scan.lines());
+    tell_of_start(rt, host.listen.as_str(), port, path, scan.lines());
     let number = socket.number();
     match run_process(rt, plan, input, output, socket, number, disk, scan) {
         Ok(ended) => Ok(ended),
@@ -147,12 +162,12 @@ fn run_opened<
     }
 }
 
-/// Opens the socket. Answers where it listens, too.
+/// Opens the socket. Answers its port, too.
 fn open_socket<R: AllocGlobal + Net, L: Ledger>(
     rt: &R,
     host: &HostSettings,
     blank: Blank,
-) -> Result<(Socket<L>, SocketAddr), Failure>
+) -> Result<(Socket<L>, u16), Failure>
     requires { (blank.name ≡ L.name) × (blank.parts ≡ L.parts) × (0 < L.parts) }
 {
     let (listen, peer) = (host.listen.as_str(), host.peer.as_str());
@@ -160,7 +175,7 @@ fn open_socket<R: AllocGlobal + Net, L: Ledger>(
         Ok(socket) => {
             let address = socket.address();
             match address {
-                Ok(address) => return Ok((socket, address)),
+                Ok(address) => return Ok((socket, address.port())),
                 Err(fault) => fault,
             }
         }
@@ -178,7 +193,17 @@ fn tell_of_zeros<R: Eprint>(rt: &R, path: &str, zeros: u64) {
     }
 }
 
-/// Tells where a host listens, and how many lines of events came back of its journal.
-fn tell_of_start<R: Eprint>(rt: &R, address: &SocketAddr, journal: &str, lines: u64) {
-    let _ = eprintln!(rt; "amo: listens on {address}, behind {lines} lines of {journal}");
+/// Tells where a host listens, with the port that it has got, and how many lines of events came back of its journal. Of a socket that has a
+/// peer the system tells the one address that leads there, also where it listens on each that this machine has.
+fn tell_of_start<R: Eprint>(rt: &R, listen: &str, port: u16, journal: &str, lines: u64) {
+    let host = host_of(listen);
+    let _ = eprintln!(rt; "amo: listens on {host}:{port}, behind {lines} lines of {journal}");
+}
+
+/// What stands in front of the port of an address.
+fn host_of(address: &str) -> &str {
+    match address.rsplit_once(':') {
+        Some((host, _port)) => host,
+        None => address,
+    }
 }

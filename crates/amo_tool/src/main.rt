@@ -3,7 +3,7 @@
 //! explains journals.
 //!
 //! `amo_arguments` reads the program's arguments, and answers as `amo_settings` what they choose. `replaying`, `running`, `live` and
-//! `judging` do it, `progress` shows how far a run is, and `failure` is why they cannot.
+//! `judging` do it, `progress` shows how far a run is, `failure` is why they cannot, and `watched` keeps why a write failed.
 #![tactic(auto)]
 
 ghost use Rattle.std.specs.Prelude.{IfOk};
@@ -15,6 +15,7 @@ mod live;
 mod progress;
 mod replaying;
 mod running;
+mod watched;
 
 use crate::failure::Failure;
 use crate::judging::{audit_files, explain_file};
@@ -108,14 +109,14 @@ fn choose<R: AllocGlobal + Env>(rt: &R) -> Result<Settings, ArgumentsFault>
 
 /// Shows a page on standard output. It is made whole before, so that of one for which there is no memory nothing is shown.
 fn show_page<R: Print>(rt: &R, page: Result<String, AllocError>) -> Result<u8, Failure> {
-    rt.print(page?)?;
+    rt.print(page?).map_err(Failure::of_output)?;
     Ok(0)
 }
 
 /// Shows a text about the program's arguments: asked-for help on standard output, all else on standard error.
 fn show<R: Print + Eprint>(rt: &R, text: &str, status: u8) -> Result<u8, Failure> {
     if status == 0 {
-        rt.print(text)?;
+        rt.print(text).map_err(Failure::of_output)?;
     } else {
         let _ = rt.eprint(text);
     }

@@ -5,8 +5,10 @@ ghost use Rattle.amo_replay.specs.Transcript.{IsTranscript};
 ghost use Rattle.amo_replay.specs.declared.endings.Ending.{Ending};
 
 use crate::failure::Failure;
+use crate::watched::Watched;
 use amo_replay::{Ending, ToolFault, ending, replay};
 use amo_text::Out;
+use std::cell::Cell;
 use std::io::{BufWriter, Printer, Write};
 use std::marker::Brand;
 use std::rt::Files;
@@ -19,7 +21,10 @@ pub(crate) fn replay_file<R: AllocGlobal + Files + Print, E: Write + Drop>(
     file: &str,
     errors: E,
 ) -> Result<u8, Failure> {
-    let bytes = fs::read(rt, file)?;
+    let bytes = match fs::read(rt, file) {
+        Ok(bytes) => bytes,
+        Err(error) => return Err(Failure::of_file(rt.alloc(), file, error)),
+    };
     replay_and_tell::<R, E, Brand, Brand>(
         rt,
         bytes.as_slice(),
@@ -56,11 +61,16 @@ fn replay_bytes<R: AllocGlobal + Print, L: Ledger>(
     requires some { 0 < L.parts }
     ensures { IfOk result (λ ending. (texts : List (List ℕ)) × IsTranscript bytes.now texts ending) }
 {
-    let buffered = BufWriter::new(rt.alloc(), io::writer(rt))?;
-    let mut out = Out::<BufWriter<Printer<'_, R>>, L>::new(buffered, blank);
+    let cause = Cell::new(None);
+    let watched = Watched::new(io::writer(rt), &cause);
+    let buffered = BufWriter::new(rt.alloc(), watched).map_err(Failure::of_output)?;
+    let mut out = Out::<BufWriter<Watched<'_, Printer<'_, R>>>, L>::new(buffered, blank);
     let how = replay(rt.alloc(), bytes, &mut out);
-    out.into_inner().flush()?;
-    Ok(how?)
+    out.into_inner().flush().map_err(Failure::of_output)?;
+    match how {
+        Ok(ending) => Ok(ending),
+        Err(fault) => Err(Failure::of_replay(fault, cause.get())),
+    }
 }
 
 /// Tells how a replay ended, and answers the status to end with, which stays where standard error does not take it.
@@ -77,7 +87,8 @@ fn tell_ending<R: AllocGlobal, E: Write + Drop, L: Ledger>(
 {
     let mut out = Out::<E, L>::new(errors, blank);
     match ending(rt.alloc(), how, &mut out) {
+        Ok(status) => Ok(status),
         Err(ToolFault::Device) => Ok(how.status()),
-        status => Ok(status?),
+        Err(fault) => Err(Failure::of_replay(fault, None)),
     }
 }

@@ -6,12 +6,14 @@ ghost use Rattle.amo_settings.specs.Limits.{AreWithin};
 
 use crate::failure::Failure;
 use crate::progress::run_shown;
-use amo_journal::{Out, Version, write_journal, write_journal_2};
+use crate::watched::Watched;
+use amo_journal::{JournalFault, Out, Version, write_journal, write_journal_2};
 use amo_run::{RunSettings, version_of};
 use amo_world::Event;
 use std::alloc::{AllocError, Global};
+use std::cell::Cell;
 use std::fs;
-use std::io::{BufWriter, IsTerminal, Write};
+use std::io::{BufWriter, ErrorKind, IsTerminal, Write};
 use std::marker::Brand;
 use std::net::Net;
 use std::rt::Files;
@@ -48,8 +50,10 @@ pub(crate) fn run_to_file<
         keep(rt, version, file, ran.events.as_slice())?;
     }
     let events = ran.events.len().saturating_add(ran.receivers.len());
-    println!(rt; "events {events}, link faults {}", ran.link_faults)?;
-    Ok(0)
+    match println!(rt; "events {events}, link faults {}", ran.link_faults) {
+        Ok(()) => Ok(0),
+        Err(error) => Err(Failure::of_output(error)),
+    }
 }
 
 /// The name of a file with an ending added.
@@ -68,8 +72,22 @@ fn keep<R: AllocGlobal + Files>(
 ) -> Result<(), Failure>
     requires spelt { All (CanSpell version) events.now }
 {
-    let writer = fs::create(rt, file)?;
-    keep_through::<R::File, Brand>(rt.alloc(), version, writer, events, Blank::new(1))
+    let writer = match fs::create(rt, file) {
+        Ok(writer) => writer,
+        Err(error) => return Err(Failure::of_file(rt.alloc(), file, error)),
+    };
+    let cause = Cell::new(None);
+    let watched = Watched::new(writer, &cause);
+    match keep_through::<Watched<'_, R::File>, Brand>(
+        rt.alloc(),
+        version,
+        watched,
+        events,
+        Blank::new(1),
+    ) {
+        Ok(()) => Ok(()),
+        Err(fault) => Err(Failure::of_kept(rt.alloc(), file, fault, cause.get())),
+    }
 }
 
 /// Writes the journal of this version of these events, line after line, so that its text never lies in memory whole.
@@ -79,17 +97,23 @@ fn keep_through<W: Write + Drop, L: Ledger>(
     writer: W,
     events: &[Event],
     blank: Blank,
-) -> Result<(), Failure>
+) -> Result<(), JournalFault>
     requires name { blank.name ≡ L.name }
     requires parts { blank.parts ≡ L.parts }
     requires some { 0 < L.parts }
     requires spelt { All (CanSpell version) events.now }
 {
-    let mut out = Out::<BufWriter<W>, L>::new(BufWriter::new(alloc, writer)?, blank);
+    let Ok(buffered) = BufWriter::new(alloc, writer) else {
+        return Err(JournalFault::NoMemory);
+    };
+    let mut out = Out::<BufWriter<W>, L>::new(buffered, blank);
     let written = match version {
         Version::One => write_journal(alloc, events, &mut out),
         Version::Two => write_journal_2(alloc, events, &mut out),
     };
-    out.into_inner().flush()?;
-    Ok(written?)
+    match out.into_inner().flush() {
+        Ok(()) => written,
+        Err(error) if error.kind() == ErrorKind::OutOfMemory => Err(JournalFault::NoMemory),
+        Err(_) => Err(JournalFault::Device),
+    }
 }
