@@ -16,9 +16,11 @@ use Rattle.amo_book.specs.declared.view.View.{View}
 use Rattle.amo_book.specs.Pass.{GrownBy, automaton_after, event}
 use Rattle.amo_book.specs.Charge.{ChargeState}
 use Rattle.amo_book.specs.Drive.{Driven}
+use Rattle.amo_book.specs.declared.foresee.Foreseen.{Foreseen}
+use Rattle.amo_book.specs.Foresee.{Foresees, Tells}
 use Rattle.amo_book.specs.Rule.{Slot, share, Has, slot_of}
-use Rattle.amo_book.specs.Plays.{Sat, IsAtRest, view, taken, Counts, Looks, witness, joined}
-use Rattle.amo_book.specs.Steps.{IsPass, Made, pass_of, holding, released}
+use Rattle.amo_book.specs.Plays.{Sat, IsAtRest, view, taken, Counts, Looks, Sees, witness, joined}
+use Rattle.amo_book.specs.Steps.{IsPass, Made, Studied, pass_of, holding, released}
 use Rattle.amo_book.proofs.Histories.{emission-row, automaton-here}
 use Rattle.amo_book.proofs.Seats.{held_at}
 
@@ -124,6 +126,40 @@ sees p r m w n h l =
       l.2,
       still,
     )
+
+-- a pass that holds a side, and looks, has seen what left the side as it is
+pub studied : (p r : ℕ) (side : End) (stream k : ℕ) (x : Automaton) (m held n : Sat) → IsPass p m → held ≡ holding k x m → Sees side stream held n r
+    → Studied p side stream k x m n
+studied p r side stream k x m held n pass is sees =
+    let made : List Event = events_of p m.0.seen in
+    let l = sees.0 in
+    let still : events_of p n.0.seen ≡ made = l.4 p made (subst (λ s. Has s p made) (sym (ap (λ (z : Sat). z.0.shares) is ∙ pass.own)) (inl refl)) in record {
+      home = ap (λ (z : Sat). z.1) l.0 ∙ ap (λ (z : Sat). z.1) is;
+      held = ap (λ (z : Sat). z.0.held) l.0 ∙ ap (λ (z : Sat). z.0.held) is;
+      pass = record {
+        home = refl;
+        held = refl;
+        own = ap (λ (z : Sat). z.0.shares) l.0 ∙ (ap (λ (z : Sat). z.0.shares) is ∙ (pass.own ∙ ap (λ m. share p m ∷ []) (sym still)));
+        right = l.3;
+      };
+      extends = subst (λ (z : Sat). Extends n.0.seen z.0.seen) is l.1;
+      found = sees.1 k x (ap (λ (z : Sat). z.0.held) is);
+      mine_stays = still;
+    }
+
+-- what an act would do
+pub foreseen_by : (id id' : TableId) (p : ℕ) (m n o : Sat) (cid : TableId) (place : ℕ) (side : End) (stream : ℕ) (held : Mode) (act : Act) (x : Automaton)
+    (old new : List ℕ) (foreseen : Foreseen) → id' ≡ id → Studied p side stream place x m n → o ≡ released n.0
+    → Tells (row x act) x old new foreseen → (side ≡ Sender → mode_of x ≡ held)
+    → Foresees (pass_of id p m) (pass_of id' p o) (charge_of cid place side stream held) act old new foreseen
+foreseen_by id id' p m n o cid place side stream held act x old new foreseen same studied back tells found =
+    let seen : o.0.seen ≡ n.0.seen = ap (λ (z : Sat). z.0.seen) back in
+    let is : x ≡ automaton_after side stream o.0.seen = studied.found ∙ ap (automaton_after side stream) (sym seen) in record {
+      same = record { book = same; number = refl; mine_stays = ap (events_of p) seen ∙ studied.mine_stays };
+      extends = subst (λ (h : List Event). Extends h m.0.seen) (sym seen) studied.extends;
+      tells = subst (λ (y : Automaton). Tells (row y act) y old new foreseen) is tells;
+      found = λ sender. ap mode_of (sym is) ∙ found sender;
+    }
 
 -- a pass that was dealt has seen nothing
 pub new_pass : (p : ℕ) (m : Sat) → m ≡ (view [] [] (share p [] ∷ []) None, []) → IsPass p m

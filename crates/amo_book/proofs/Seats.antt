@@ -7,13 +7,15 @@ use native.Mathlib.Decide.{ℕ_discrete}
 use lib.ListN.{get_elem?}
 use Rattle.atomic_table.specs.Table.{State, step, keeps, Allows}
 use Rattle.atomic_table.proofs.Lists.{at_set, set_here, set_else}
+use Rattle.amo_object.specs.declared.step.End.{End}
 use Rattle.amo_core.specs.declared.automaton.Automaton.{Automaton}
 use Rattle.amo_world.specs.declared.event.Event.{Event}
 use Rattle.amo_world.proofs.Extensions.{itself}
 use Rattle.amo_book.specs.declared.view.View.{View}
 use Rattle.amo_book.specs.declared.view.Share.{Share}
 use Rattle.amo_book.specs.Rule.{Slot, share, Has, Knows, Kept, gate_of}
-use Rattle.amo_book.specs.Plays.{Sat, view, looked}
+use Rattle.amo_book.specs.Pass.{automaton_after}
+use Rattle.amo_book.specs.Plays.{Sat, view, looked, saw}
 
 abbrev pub Whole : Type 0
 Whole = State Slot View
@@ -97,4 +99,23 @@ module _ (places passes : ℕ) (replay : ℕ → List Event → Automaton) where
         unmoved s r id v w at refl (record { seen = itself r.log; met = k.met; owns = k.owns; holds = k.holds; named = k.named })
             (set s.words 0 (get_or s.words 0 0)) (set_same s.words 0),
         (refl, k.seen, k.met, r.right, (λ p m h. (k.owns p m h).2), r.count),
+      )
+
+  -- the same of a seat that holds the side at a place: the side is as that history leaves it
+  pub sees : (slots id k : ℕ) (me : Sat) (x : Automaton) (side : End) (stream : ℕ) → me.0.held ≡ held_at k x
+      → ((log : List Event) → replay k log ≡ automaton_after side stream log)
+      → Allows Rule slots id me 0 (λ n. n) (saw side stream (step slots 0 0 0 mathlib.Core.Option.none) me)
+  sees slots id k me x side stream held is_side s r _ at _ =
+      let v : View = me.0 in
+      let known = r.each id v at in
+      let w : View = view r.log v.met v.shares v.held in (
+        w,
+        keeps,
+        tt,
+        unmoved s r id v w at refl (record { seen = itself r.log; met = known.met; owns = known.owns; holds = known.holds; named = known.named })
+            (set s.words 0 (get_or s.words 0 0)) (set_same s.words 0),
+        (
+          (refl, known.seen, known.met, r.right, (λ p m h. (known.owns p m h).2), r.count),
+          λ j y e. (known.holds j y e).3 ∙ (ap (λ i. replay i r.log) (sym (same_place k j x y (sym held ∙ e))) ∙ is_side r.log),
+        ),
       )

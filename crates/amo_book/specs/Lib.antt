@@ -4,6 +4,7 @@ pub mod Charge
 pub mod Closed
 pub mod Drive
 pub mod Fault
+pub mod Foresee
 pub mod Gathering
 pub mod Index
 pub mod Pass

@@ -35,6 +35,14 @@ Looks m n r = (n ≡ (view n.0.seen m.0.met m.0.shares m.0.held, m.1)) × Extend
 abbrev pub looked : Step Slot → Sat → ℕ → Sat → Type 0
 looked st m r n = Looks m n r
 
+-- The same of a seat that holds this side of the stream: it is as the history left it that was seen.
+abbrev pub Sees : End → ℕ → Sat → Sat → ℕ → Type 0
+Sees side stream m n r = Looks m n r × ((k : ℕ) (x : Automaton) → m.0.held ≡ Some (k, x) → x ≡ automaton_after side stream n.0.seen)
+
+-- the load of the count by such a seat
+abbrev pub saw : End → ℕ → Step Slot → Sat → ℕ → Sat → Type 0
+saw side stream st m r n = Sees side stream m n r
+
 -- the seat has taken the slot of the place k, in which x lies
 abbrev pub taken : ℕ → Automaton → Sat → Sat
 taken k x m = (view m.0.seen m.0.met m.0.shares (Some (k, x)), (slot_of k, Some x) ∷ [])

@@ -46,3 +46,12 @@ pub record Made (p : ℕ) (m n : Sat) (e : Event) (x : Automaton) (position : �
   pub found : x ≡ automaton_after e.side e.stream earlier
   pub mine_grew : events_of p n.0.seen ≡ e ∷ events_of p m.0.seen
   pub counted : (position + 1) % 2 ^ 64 ≡ length n.0.seen % 2 ^ 64
+
+-- The seat holds the state x still, and has seen the history that left it so. Given home, it is the pass's, with the same events of its own.
+pub record Studied (p : ℕ) (side : End) (stream k : ℕ) (x : Automaton) (m n : Sat) : Type 0 where
+  pub home : n.1 ≡ (slot_of k, None) ∷ []
+  pub held : n.0.held ≡ Some (k, x)
+  pub pass : IsPass p (released n.0)
+  pub extends : Extends n.0.seen m.0.seen
+  pub found : x ≡ automaton_after side stream n.0.seen
+  pub mine_stays : events_of p n.0.seen ≡ events_of p m.0.seen

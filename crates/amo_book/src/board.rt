@@ -7,12 +7,12 @@ ghost use Rattle.amo_object.specs.declared.step.End.TheVariants as end_of;
 ghost use Rattle.amo_world.specs.declared.event.Event.{Event};
 ghost use Rattle.amo_book.specs.Pass.{event};
 ghost use Rattle.amo_book.specs.Rule.{share, gate_of, slot_of};
-ghost use Rattle.amo_book.specs.Plays.{Sat, IsAtRest, Took, Looks, Counts, view, witness, joined};
-ghost use Rattle.amo_book.specs.Steps.{IsSame, IsPass, IsStateOf, Made, holding, released};
+ghost use Rattle.amo_book.specs.Plays.{Sat, IsAtRest, Took, Looks, Sees, Counts, view, witness, joined};
+ghost use Rattle.amo_book.specs.Steps.{IsSame, IsPass, IsStateOf, Made, Studied, holding, released};
 ghost use Rattle.amo_book.specs.Book.{Apart};
 ghost use Rattle.amo_book.specs.Site.{IsSite};
 
-use crate::plays::{Count, Counted, Free, Gather, Law, Look, Tried, Try, Witness};
+use crate::plays::{Count, Counted, Free, Gather, Law, Look, See, Tried, Try, Witness};
 use crate::site::Site;
 use crate::slot::Housed;
 use crate::stride::{self, COUNT};
@@ -41,7 +41,7 @@ pub struct Board {
     pub ghost apart: { Apart setup.sides.items },
 }
 
-// The six kinds of atomic step.
+// The seven kinds of atomic step.
 impl Board {
     /// Loads the count: the seat has then seen all that it had met.
     pub fn look(&self, seat: &mut Chair) -> u64
@@ -50,6 +50,18 @@ impl Board {
         ensures looks { Looks seat.old.me seat.new.me result }
     {
         self.table.shared.load::<Look>(seat, COUNT)
+    }
+
+    /// Loads the count while a side is held: the seat has then seen the history that left the side as it is.
+    fn see<E: Tried>(&self, seat: &mut Chair, site: Site) -> u64
+        requires own { seat.old.table_id ≡ self.now.table.shared.table_id }
+        requires place { IsSite self.now.setup.sides.items site }
+        requires side { (E.side ≡ site.side) × (E.stream ≡ site.stream) }
+        requires held { (x : Automaton) × (seat.old.me.0.held ≡ Some (site.place, x)) }
+        ensures same { IsSame seat.old seat.new }
+        ensures sees { Sees E.side E.stream seat.old.me seat.new.me result }
+    {
+        self.table.shared.load::<See<E>>(seat, COUNT)
     }
 
     /// Tries the gate of a side once.
@@ -165,6 +177,17 @@ impl Board {
             return None;
         }
         Some(automaton)
+    }
+
+    /// Looks at the automaton of a side that is held: all that has happened to it was seen then.
+    pub fn study(&self, seat: &mut Chair, pass: usize, site: Site)
+        requires own { seat.old.table_id ≡ self.now.table.shared.table_id }
+        requires place { IsSite self.now.setup.sides.items site }
+        requires held { (x : Automaton) × (m : Sat) × IsPass pass m × (seat.old.me ≡ holding site.place x m) }
+        ensures same { IsSame seat.old seat.new }
+        ensures studied { (x : Automaton) (m : Sat) → IsPass pass m → seat.old.me ≡ holding site.place x m → Studied pass site.side site.stream site.place x m seat.new.me }
+    {
+        self.see::<Brand>(seat, site);
     }
 
     /// Gives the automaton home, and opens the gate.

@@ -22,7 +22,8 @@
 //!
 //! A call tries the gate of its side once. It moves the automaton out of its slot, lets it act, adds 1 to the count, which
 //! is where the event takes its place, moves the automaton home and opens the gate. Where the gate is held it answers
-//! Busy, and nothing has happened. Calls on two sides never find each other's gate held.
+//! Busy, and nothing has happened. Calls on two sides never find each other's gate held. [`Book::foresee`] opens the gate again with no
+//! event: it tells what an act would do, for a host that has to know before.
 //!
 //! Histories are newest first, as in `amo_world`.
 #![tactic(auto)]
@@ -35,6 +36,7 @@ mod client;
 mod closed;
 mod drive;
 mod fault;
+mod foresee;
 mod index;
 mod pass;
 mod plays;
@@ -50,4 +52,5 @@ pub use charge::Charge;
 pub use closed::{CloseFault, Closed};
 pub use drive::Done;
 pub use fault::{AckFault, DriveFault, GetFault, OpenFault, PutFault};
+pub use foresee::Foreseen;
 pub use pass::Pass;

@@ -1,7 +1,7 @@
 //! The rule of the table, and what each kind of step tells.
 ghost use Rattle.std.specs.Prelude.{length};
 ghost use Rattle.amo_book.specs.Rule.{Kept, first_view, state_at};
-ghost use Rattle.amo_book.specs.Plays.{looked, tried, freed, counted, first_share, other_shares, joined, bare, witness, same_view};
+ghost use Rattle.amo_book.specs.Plays.{looked, saw, tried, freed, counted, first_share, other_shares, joined, bare, witness, same_view};
 
 use crate::slot::Housed;
 use crate::view::{Setup, View};
@@ -24,7 +24,7 @@ impl Play<Option<Housed>, View> for Look {
     ghost then = { looked };
 }
 
-/// The side of a stream whose gate is tried.
+/// The side of a stream whose gate is tried, or that is held.
 pub trait Tried {
     ghost use Rattle.std.specs.Prelude.{ℕ};
     ghost use Rattle.amo_object.specs.declared.step.End.{End};
@@ -40,6 +40,15 @@ impl Tried for Brand {
     ghost side = { Sender };
 
     ghost stream = { 0 };
+}
+
+/// The load of the count by a seat that holds a side.
+pub struct See<E> {
+    side: PhantomData<E>,
+}
+
+impl<E: Tried> Play<Option<Housed>, View> for See<E> {
+    ghost then = { saw E.side E.stream };
 }
 
 /// The compare-exchange of a gate.

@@ -1,7 +1,9 @@
 //! What lies in a slot.
 ghost use Rattle.std.specs.Prelude.{◌≡◌, IfOk};
 ghost use Rattle.amo_core.specs.Automaton.{row, mode_of, handed_back, Writes};
+ghost use Rattle.amo_book.specs.Foresee.{Tells};
 
+use crate::Foreseen;
 use amo_core::{Act, Advanced, Automaton, Mode, Outcome};
 use amo_packet::MAX_PACKET;
 use std::alloc::{AllocError, Global};
@@ -51,6 +53,17 @@ impl Housed {
         ensures handed_back { result.handed_back ≡ handed_back act result.reply }
     {
         self.automaton.advance(act)
+    }
+
+    /// What the act would do. What it would emit stands at the front of the buffer where it would change nothing.
+    pub fn foresee(&self, act: &Act, buffer: &mut [u8; MAX_PACKET]) -> Foreseen
+        ensures { Tells (row self.now act.now) self.now buffer.old buffer.new result }
+    {
+        if self.automaton.is_changed_by(act) {
+            Foreseen::Changes
+        } else {
+            Foreseen::Keeps(self.automaton.write_emission(act, buffer))
+        }
     }
 
     /// As [`Automaton::mode`].

@@ -1,5 +1,5 @@
 //! Either automaton of a stream, with one step over both tables.
-ghost use Rattle.std.specs.Prelude.{◌≡◌, ◌↔◌, Some, IsTrue};
+ghost use Rattle.std.specs.Prelude.{◌≡◌, ◌↔◌, Some, IsTrue, false};
 ghost use Rattle.std.specs.Option.{option_map, ForSome};
 ghost use Rattle.amo_packet.specs.Packet.{packet_of, body_of};
 ghost use Rattle.amo_packet.specs.Grammar.{CanBeWritten};
@@ -26,7 +26,7 @@ impl Automaton {
         ensures handed_back { result.handed_back ≡ handed_back act result.reply }
         ensures emitted { Writes (row self.old act).emitted buffer.old buffer.new result.length }
     {
-        let length = write_emission(self.emission(&act), buffer);
+        let length = self.write_emission(&act, buffer);
         Outcome::new(self.advance(act), length)
     }
 
@@ -56,6 +56,13 @@ impl Automaton {
         }
     }
 
+    /// Writes the packet that the act would emit at the front of the buffer, and answers its length. Nothing changes.
+    pub fn write_emission(&self, act: &Act, buffer: &mut [u8; MAX_PACKET]) -> Option<usize>
+        ensures { Writes (row self.now act.now).emitted buffer.old buffer.new result }
+    {
+        write_emission(self.emission(act), buffer)
+    }
+
     /// Whether this is the reply of the act's row. A reply to an act that the side does not have never is.
     pub fn replies(&self, act: &Act, reply: &Reply) -> bool
         ensures { IsTrue result ↔ ((row self.now act.now).reply ≡ Some reply.now) }
@@ -63,6 +70,16 @@ impl Automaton {
         match self {
             Automaton::Sender(sender) => sender.replies(act, reply),
             Automaton::Receiver(receiver) => receiver.replies(act, reply),
+        }
+    }
+
+    /// Whether the act would leave another state than this one.
+    pub fn is_changed_by(&self, act: &Act) -> bool
+        ensures { (result ≡ false) ↔ ((row self.now act.now).state ≡ self.now) }
+    {
+        match self {
+            Automaton::Sender(sender) => sender.is_changed_by(act),
+            Automaton::Receiver(receiver) => receiver.is_changed_by(act),
         }
     }
 

@@ -1,5 +1,5 @@
-//! What a receiver would reply, and which word it would use up: looked up, with nothing changed.
-ghost use Rattle.std.specs.Prelude.{◌≡◌, ◌↔◌, Some, IsTrue};
+//! What a receiver would reply, whether it would change, and which word it would use up: looked up, with nothing changed.
+ghost use Rattle.std.specs.Prelude.{◌≡◌, ◌↔◌, ℕ, Some, IsTrue, false};
 ghost use Rattle.amo_core.specs.Receiver as table;
 ghost use Rattle.amo_core.specs.declared.act.Act.TheVariants as act;
 
@@ -33,6 +33,34 @@ impl Receiver {
             (ReceiverMode::Down, Reply::Down) => true,
             (ReceiverMode::Down, _) => false,
             (_, Reply::Nothing) => true,
+            _ => false,
+        }
+    }
+
+    /// Whether the act would leave another state than this one.
+    pub fn is_changed_by(&self, act: &Act) -> bool
+        ensures { (result ≡ false) ↔ ((table.row self.now act.now).state ≡ self.now) }
+    {
+        match act {
+            Act::Get => matches!(self.mode, ReceiverMode::Rcvd(_, _)),
+            Act::Deliver(packet, _) => self.is_moved_by(&packet.body),
+            Act::Crash => !matches!(self.mode, ReceiverMode::Down),
+            Act::Recover => matches!(self.mode, ReceiverMode::Down),
+            Act::Put(_) | Act::Ack | Act::Start(_) | Act::Batch(_) | Act::Resend => false,
+        }
+    }
+
+    /// Whether a delivery would: of a needuid at rest, of what is sent under the accepted identifier, or of the cleanup of one that is
+    /// accepted or acknowledged.
+    fn is_moved_by(&self, body: &OwnedBody) -> bool
+        ensures { (word : ℕ) → (result ≡ false) ↔ ((table.deliver self.now body.now word).state ≡ self.now) }
+    {
+        match (body, &self.mode) {
+            (OwnedBody::NeedUid(_), ReceiverMode::Idle) => true,
+            (OwnedBody::Send(id, _) | OwnedBody::Batch(id, _), ReceiverMode::Accept(_, accepted)) =>
+                accepted == id,
+            (OwnedBody::Cleanup(id), ReceiverMode::Accept(_, under) | ReceiverMode::Ack(under)) =>
+                under == id,
             _ => false,
         }
     }

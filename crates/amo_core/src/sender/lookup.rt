@@ -1,11 +1,12 @@
-//! What a sender would reply, and which word it would use up: looked up, with nothing changed.
-ghost use Rattle.std.specs.Prelude.{◌≡◌, ◌↔◌, ℕ, List, Some, IsTrue};
+//! What a sender would reply, whether it would change, and which word it would use up: looked up, with nothing changed.
+ghost use Rattle.std.specs.Prelude.{◌≡◌, ◌↔◌, ℕ, List, Some, IsTrue, false};
 ghost use Rattle.amo_core.specs.Sender as table;
 ghost use Rattle.amo_core.specs.Sender.{is_down};
 ghost use Rattle.amo_core.specs.declared.act.Act.TheVariants as act;
 
 use crate::sender::{Sender, SenderMode};
 use crate::{AckReply, Act, Reply};
+use amo_packet::OwnedBody;
 
 impl Sender {
     /// Whether this is the reply of the act's row. It never is where the act is none of a sender's.
@@ -50,6 +51,31 @@ impl Sender {
             (AckReply::No, Reply::No) => true,
             (AckReply::NotYet, Reply::NotYet) => true,
             (AckReply::Down, Reply::Down) => true,
+            _ => false,
+        }
+    }
+
+    /// Whether the act would leave another state than this one.
+    pub fn is_changed_by(&self, act: &Act) -> bool
+        ensures { (result ≡ false) ↔ ((table.row self.now act.now).state ≡ self.now) }
+    {
+        match act {
+            Act::Put(_) => !self.is_down() && !self.waiting.is_full(),
+            Act::Start(_) | Act::Batch(_) => self.used_word(act).is_some(),
+            Act::Deliver(packet, _) => self.is_moved_by(&packet.body),
+            Act::Crash => !self.is_down() || !self.waiting.is_empty(),
+            Act::Recover => self.is_down(),
+            Act::Get | Act::Ack | Act::Resend => false,
+        }
+    }
+
+    /// Whether a delivery would: of the accept that the sender asked for, or of an ack of what it sends.
+    fn is_moved_by(&self, body: &OwnedBody) -> bool
+        ensures { (result ≡ false) ↔ ((table.deliver self.now body.now).state ≡ self.now) }
+    {
+        match (body, &self.mode) {
+            (OwnedBody::Accept(jd, _), SenderMode::NeedId(asked, _)) => asked == jd,
+            (OwnedBody::Ack(id, _), SenderMode::Send(under, _)) => under == id,
             _ => false,
         }
     }
