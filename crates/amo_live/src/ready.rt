@@ -1,11 +1,15 @@
 //! Waiting for what comes first.
 use libc::net;
 use libc::types::pollfd;
+use std::rt::Clock;
 use std::thread;
+use std::time::{Duration, Instant};
 
-/// How often a host looks whether something has come before it sleeps: for some 50 microseconds. A peer that answers at once does so
-/// sooner than a sleeper wakes.
+/// How often a host looks whether something has come before it sleeps. A peer that answers at once does so sooner than a sleeper wakes.
 const LOOKS: u32 = 64;
+
+/// How long it looks at most, in microseconds. On a busy machine each look lets others run first, and so could take as long as a sleep.
+const LOOKING: u64 = 50;
 
 /// What a host waits for, by the numbers that the system has for them. A negative number is not waited for.
 #[derive(Clone, Copy, Debug)]
@@ -28,21 +32,34 @@ pub struct Ready {
 }
 
 /// Waits until something has come or the output is gone, or for so many milliseconds; without a limit where that is negative.
-pub fn wait(what: Waited, limit: i32) -> Ready {
+pub fn wait<C: Clock>(rt: &C, what: Waited, limit: i32) -> Ready {
     let mut waited = [
         watched(what.lines, net::POLLIN),
         watched(what.socket, net::POLLIN),
         watched(what.output, 0),
     ];
-    let looks = if limit == 0 { 0 } else { LOOKS };
-    for _look in 0..looks {
-        if net::poll(&mut waited, 0) != 0 {
-            return found_in(&waited);
-        }
-        thread::yield_now();
+    if limit == 0 || !comes_soon(rt, &mut waited) {
+        net::poll(&mut waited, limit);
     }
-    net::poll(&mut waited, limit);
     found_in(&waited)
+}
+
+/// Whether something comes while the host looks.
+fn comes_soon<C: Clock>(rt: &C, waited: &mut [pollfd; 3]) -> bool {
+    let Ok(since) = Instant::now(rt) else {
+        return false;
+    };
+    let limit = Duration::from_micros(LOOKING);
+    for _look in 0..LOOKS {
+        if net::poll(waited, 0) != 0 {
+            return true;
+        }
+        match since.elapsed(rt) {
+            Ok(looked) if looked < limit => thread::yield_now(),
+            _ => return false,
+        }
+    }
+    false
 }
 
 /// That number, for these events and for faults.

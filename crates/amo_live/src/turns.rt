@@ -3,8 +3,9 @@ ghost use Rattle.std.specs.Prelude.{◌≡◌, ◌≢◌, ℕ, List, [], ◌∷�
 ghost use Rattle.std.specs.Io.KnownBytes.{Appends, Consumes};
 ghost use Rattle.amo_live.specs.Client.{Moves, Serves, Waits, is_torn, message_of, moment};
 ghost use Rattle.amo_live.specs.Host.{IsNoted};
-ghost use Rattle.amo_live.specs.Service.{shown_by, spelling_of, streams_of};
+ghost use Rattle.amo_live.specs.Service.{shown_by, spelling_of, streams_of, words_of};
 ghost use Rattle.amo_live.specs.Shown.{IsShown, ShowsMore};
+ghost use Rattle.amo_live.specs.Words.{BearsNew};
 ghost use Rattle.amo_live.specs.declared.turns.Ended.TheVariants.{AtRest};
 
 use crate::lines::LineFault;
@@ -90,6 +91,8 @@ pub fn serve<C: Clock + Eprint, L: Link, S: Durable, W: Words, I: Read, O: Write
     // What clients are shown are the replies of the host's events, in the order in which they happened.
     ensures shown { OnOk result (IsShown (spelling_of service.old) service.old.host.pass service.new.host.pass (shown_by service.old) (shown_by service.new)
         (O.contents desk.old.output) (O.contents desk.new.output)) }
+    // No word that was used up before is borne by an event, nor one twice.
+    ensures words { OnOk result (BearsNew (words_of service.old) (words_of service.new) service.old.host.pass service.new.host.pass) }
     // It does not end at rest where the last line was not taken, as it had no end.
     ensures whole { IfOk result (λ ended. is_torn desk.new.input ≡ true → ended ≢ AtRest) }
     ensures unread { OnOk result (desk.old.puts ≡ false → desk.new.reader ≡ desk.old.reader) }
@@ -142,12 +145,13 @@ fn turn<C: Clock + Eprint, L: Link, S: Durable, W: Words, I: Read, O: Write>(
     ensures streams { streams_of service.new ≡ streams_of service.old }
     ensures shown { OnOk result (IsShown (spelling_of service.old) service.old.host.pass service.new.host.pass (shown_by service.old) (shown_by service.new)
         (O.contents desk.old.output) (O.contents desk.new.output)) }
+    ensures words { OnOk result (BearsNew (words_of service.old) (words_of service.new) service.old.host.pass service.new.host.pass) }
     ensures spells { spelling_of service.new ≡ spelling_of service.old }
     ensures spelling { desk.new.spelling ≡ desk.old.spelling }
     ensures puts { desk.new.puts ≡ desk.old.puts }
     ensures unread { OnOk result (desk.old.puts ≡ false → desk.new.reader ≡ desk.old.reader) }
 {
-    desk.wait(limit)?;
+    desk.wait(rt, limit)?;
     let now = microseconds(rt, start)?;
     service.hear(now)?;
     service.resend(now)?;
@@ -175,6 +179,7 @@ fn take_lines<C: Eprint, L: Link, S: Durable, W: Words, I: Read, O: Write>(
         (moment desk.old.input desk.old.kept service.old.host.pass) (moment desk.new.input desk.new.kept service.new.host.pass)) }
     ensures streams { streams_of service.new ≡ streams_of service.old }
     ensures shown { OnOk result (ShowsMore (spelling_of service.old) service.old.host.pass service.new.host.pass (shown_by service.old) (shown_by service.new)) }
+    ensures words { OnOk result (BearsNew (words_of service.old) (words_of service.new) service.old.host.pass service.new.host.pass) }
     ensures spells { spelling_of service.new ≡ spelling_of service.old }
     ensures same { desk.new ≡ record desk.old { input = desk.new.input; kept = desk.new.kept } }
 {
@@ -192,6 +197,7 @@ fn take_lines<C: Eprint, L: Link, S: Durable, W: Words, I: Read, O: Write>(
 }
 
 /// Puts the message that was kept, if there is one.
+#[tactic(auto, using(crate::proofs::Fresh::bears_none))]
 fn put_kept<L: Link, S: Durable, W: Words, I: Read, O: Write>(
     service: &mut Service<L, S, W>,
     desk: &mut Desk<I, O>,
@@ -202,6 +208,7 @@ fn put_kept<L: Link, S: Durable, W: Words, I: Read, O: Write>(
     ensures moves { OnOk result (Moves [] desk.old.kept desk.new.kept service.old.host.pass service.new.host.pass) }
     ensures streams { streams_of service.new ≡ streams_of service.old }
     ensures shown { OnOk result (ShowsMore (spelling_of service.old) service.old.host.pass service.new.host.pass (shown_by service.old) (shown_by service.new)) }
+    ensures words { OnOk result (BearsNew (words_of service.old) (words_of service.new) service.old.host.pass service.new.host.pass) }
     ensures spells { spelling_of service.new ≡ spelling_of service.old }
     ensures same { desk.new ≡ record desk.old { kept = desk.new.kept } }
 {
@@ -212,6 +219,7 @@ fn put_kept<L: Link, S: Durable, W: Words, I: Read, O: Write>(
 }
 
 /// Puts the message of a line, if it is one for a stream of this host.
+#[tactic(auto, using(crate::proofs::Fresh::bears_none))]
 fn put_line<C: Eprint, L: Link, S: Durable, W: Words, I: Read, O: Write>(
     rt: &C,
     service: &mut Service<L, S, W>,
@@ -225,6 +233,7 @@ fn put_line<C: Eprint, L: Link, S: Durable, W: Words, I: Read, O: Write>(
     ensures moves { OnOk result (Moves (message_of desk.old.puts (streams_of service.old) line) None desk.new.kept service.old.host.pass service.new.host.pass) }
     ensures streams { streams_of service.new ≡ streams_of service.old }
     ensures shown { OnOk result (ShowsMore (spelling_of service.old) service.old.host.pass service.new.host.pass (shown_by service.old) (shown_by service.new)) }
+    ensures words { OnOk result (BearsNew (words_of service.old) (words_of service.new) service.old.host.pass service.new.host.pass) }
     ensures spells { spelling_of service.new ≡ spelling_of service.old }
     ensures same { desk.new ≡ record desk.old { kept = desk.new.kept } }
 {
@@ -253,6 +262,7 @@ fn put_or_keep<L: Link, S: Durable, W: Words>(
     ensures moves { IfOk result (λ kept. Moves ((stream, message) ∷ []) None kept service.old.host.pass service.new.host.pass) }
     ensures streams { streams_of service.new ≡ streams_of service.old }
     ensures shown { OnOk result (ShowsMore (spelling_of service.old) service.old.host.pass service.new.host.pass (shown_by service.old) (shown_by service.new)) }
+    ensures words { OnOk result (BearsNew (words_of service.old) (words_of service.new) service.old.host.pass service.new.host.pass) }
     ensures spells { spelling_of service.new ≡ spelling_of service.old }
 {
     match service.put(stream, message, now)? {
@@ -304,13 +314,13 @@ impl<I: Read, O: Write> Desk<I, O> {
 
     /// Waits, and reads lines once where some have come. While a message waits to be put again, lines wait too. A host that puts none reads nothing,
     /// and ends where nobody reads its messages any more.
-    fn wait(&mut self, limit: i32) -> Result<(), ServeFault>
+    fn wait<C: Clock>(&mut self, rt: &C, limit: i32) -> Result<(), ServeFault>
         ensures unread { OnOk result (self.old.puts ≡ false → self.new.reader ≡ self.old.reader) }
         ensures waits { OnOk result ((bytes : List ℕ) × Consumes (I.remaining self.old.reader) (I.remaining self.new.reader) bytes × Waits self.old.input self.new.input bytes) }
         ensures same { self.new ≡ record self.old { reader = self.new.reader; input = self.new.input } }
     {
         let reads = self.reads();
-        let ready = wait(self.waited(reads), limit);
+        let ready = wait(rt, self.waited(reads), limit);
         if ready.is_gone {
             return Err(ServeFault::Gone);
         }

@@ -1,8 +1,9 @@
 use Rattle.std.proofs.Common.{[], ◌++◌, refl, ◌∙◌}
 use Rattle.amo_live.specs.Client.{moment}
-use Rattle.amo_live.specs.Service.{shown_by, spelling_of, streams_of}
+use Rattle.amo_live.specs.Service.{shown_by, spelling_of, streams_of, words_of}
 use Rattle.amo_live.proofs.Showing.{shown_none, shown_after}
 use Rattle.amo_live.proofs.Conserving.{none_moved, serves_as, serves_none, serves_on}
+use Rattle.amo_live.proofs.Fresh.{bears_none, bears_on}
 use Rattle.amo_live.proofs.Readers.{more_taken, none_taken}
 use Rattle.amo_live.proofs.turns.serve.Goals as goal
 
@@ -16,6 +17,7 @@ turns-init g c =
       serves = serves_none c.args.desk.now.spelling c.args.desk.now.puts (streams_of c.args.service.now) first first refl (none_moved c.args.desk.now.kept c.args.desk.now.kept c.args.service.now.host.pass c.args.service.now.host.pass refl refl);
       streams = refl;
       shown = shown_none (spelling_of c.args.service.now) c.args.service.now.host.pass (shown_by c.args.service.now) (g.O.Write.contents c.args.desk.now.output);
+      words = bears_none (words_of c.args.service.now) (words_of c.args.service.now) c.args.service.now.host.pass c.args.service.now.host.pass refl refl;
       spells = refl;
       spelling = refl;
       puts = refl;
@@ -38,6 +40,7 @@ turns-preserved g c =
       shown = shown_after (spelling_of c.args.service.now) (spelling_of c.turns.service) c.args.service.now.host.pass c.turns.service.host.pass c.turn.new.service.host.pass
           (shown_by c.args.service.now) (shown_by c.turns.service) (shown_by c.turn.new.service) (g.O.Write.contents c.args.desk.now.output) (g.O.Write.contents c.turns.desk.output) (g.O.Write.contents c.turn.new.desk.output)
           so_far.spells so_far.shown c.in_ok-turn.ensures.shown;
+      words = bears_on (words_of c.args.service.now) (words_of c.turns.service) (words_of c.turn.new.service) c.args.service.now.host.pass c.turns.service.host.pass c.turn.new.service.host.pass so_far.words c.in_ok-turn.ensures.words;
       spells = c.in_ok-turn.ensures.spells ∙ so_far.spells;
       spelling = c.in_ok-turn.ensures.spelling ∙ so_far.spelling;
       puts = c.in_ok-turn.ensures.puts ∙ so_far.puts;

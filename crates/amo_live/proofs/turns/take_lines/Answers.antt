@@ -1,6 +1,7 @@
 use Rattle.std.proofs.Common.{◌≡◌, false, is_some, rules, ◌∙◌}
 use Rattle.amo_live.specs.Client.{moment}
-use Rattle.amo_live.specs.Service.{shown_by, spelling_of, streams_of}
+use Rattle.amo_live.specs.Service.{shown_by, spelling_of, streams_of, words_of}
+use Rattle.amo_live.proofs.Fresh.{bears_on}
 use Rattle.amo_live.proofs.Showing.{shows_after}
 use Rattle.amo_live.proofs.Conserving.{line_over, none_kept, none_over, serves_none}
 use Rattle.amo_live.proofs.turns.take_lines.Goals as goal
@@ -14,6 +15,7 @@ lines-init g c =
           input c.in_ok-put_kept.ensures.moves;
       streams = c.in_ok-put_kept.ensures.streams;
       shown = c.in_ok-put_kept.ensures.shown;
+      words = c.in_ok-put_kept.ensures.words;
       spells = c.in_ok-put_kept.ensures.spells;
       same = search rules;
     }
@@ -32,6 +34,7 @@ lines-preserved g c =
       streams = c.in_ok-put_line.ensures.streams ∙ c.lines.invariant.streams;
       shown = shows_after (spelling_of c.args.service.now) (spelling_of c.lines.service) c.args.service.now.host.pass c.lines.service.host.pass c.put_line.new.service.host.pass
           (shown_by c.args.service.now) (shown_by c.lines.service) (shown_by c.put_line.new.service) c.lines.invariant.spells c.lines.invariant.shown c.in_ok-put_line.ensures.shown;
+      words = bears_on (words_of c.args.service.now) (words_of c.lines.service) (words_of c.put_line.new.service) c.args.service.now.host.pass c.lines.service.host.pass c.put_line.new.service.host.pass c.lines.invariant.words c.in_ok-put_line.ensures.words;
       spells = c.in_ok-put_line.ensures.spells ∙ c.lines.invariant.spells;
       same = search rules;
     }

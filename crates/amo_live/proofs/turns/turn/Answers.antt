@@ -1,7 +1,8 @@
-use Rattle.std.proofs.Common.{◌≡◌, ◌∙◌, [], rules}
+use Rattle.std.proofs.Common.{◌≡◌, ◌∙◌, [], refl, rules}
 use Rattle.std.specs.Io.KnownBytes.{Appends}
 use Rattle.amo_live.specs.Client.{moment}
-use Rattle.amo_live.specs.Service.{shown_by, spelling_of, streams_of}
+use Rattle.amo_live.specs.Service.{shown_by, spelling_of, streams_of, words_of}
+use Rattle.amo_live.proofs.Fresh.{bears_as, bears_on}
 use Rattle.amo_live.proofs.Showing.{shown_whole, shows_after}
 use Rattle.amo_live.proofs.Conserving.{serves_as, turn_over}
 use Rattle.amo_live.proofs.turns.turn.Goals as goal
@@ -45,6 +46,17 @@ returns-clause-shown g c =
     let appends : Appends (g.O.Write.contents c.args.desk.now.output) (g.O.Write.contents c.show.new.self.output) taken = search rules in
     shown_whole spelling v c.take_lines.new.service.host.pass c.send.new.self.pass old taken (shown_by c.clear_shown.new.self) (g.O.Write.contents c.args.desk.now.output) (g.O.Write.contents c.show.new.self.output)
     (sent ∙ synced) to_lines appends c.clear_shown.ensures.shown
+
+pub returns-clause-words : goal.returns-clause-words
+returns-clause-words g c =
+    let first = words_of c.args.service.now in let v = c.args.service.now.host.pass in
+    let heard = words_of c.hear.new.self in let resent = words_of c.resend.new.self in let taken = words_of c.take_lines.new.service in
+    let to_resend = bears_on first heard resent v c.hear.new.self.host.pass c.resend.new.self.host.pass c.in_ok-hear.ensures.words c.in_ok-resend.ensures.words in
+    let to_lines = bears_on first resent taken v c.resend.new.self.host.pass c.take_lines.new.service.host.pass to_resend c.in_ok-take_lines.ensures.words in
+    let synced : c.if-sync.service.host.pass ≡ c.take_lines.new.service.host.pass = elim c.if-sync.branch [ then-sync+in_ok-sync w ↦ search rules | else-sync w ↦ search rules ] in
+    let kept : words_of c.if-sync.service ≡ taken = elim c.if-sync.branch [ then-sync+in_ok-sync w ↦ search rules | else-sync w ↦ search rules ] in
+    let sent : c.send.new.self.pass ≡ c.if-sync.service.host.pass = search rules in
+    bears_as first taken first (words_of c.clear_shown.new.self) v c.take_lines.new.service.host.pass v c.send.new.self.pass refl (c.clear_shown.ensures.words ∙ kept) refl (sent ∙ synced) to_lines
 
 pub returns-clause-unread : goal.returns-clause-unread
 returns-clause-unread g c =
