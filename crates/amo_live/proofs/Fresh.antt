@@ -16,8 +16,9 @@ use Rattle.amo_book.specs.Pass.{PassState, Answer, Grown, mine}
 use Rattle.amo_journal.specs.declared.version.Version.{Version}
 use Rattle.amo_journal.specs.declared.version.Version.TheVariants.{One, Two}
 use Rattle.amo_journal.specs.Version.{newest}
-use Rattle.amo_live.specs.Host.{HostState, Did, Delivered}
+use Rattle.amo_live.specs.Host.{HostState, Did, Delivered, Looks}
 use Rattle.amo_live.specs.Service.{start_of}
+use Rattle.amo_live.proofs.Repeating.{looks_still, none_still}
 use Rattle.amo_live.specs.Words.{AreNew, BearsNew, IsNew, StaysUsed, WordSet, word_by, word_of_delivery, words_in}
 
 -- no word was borne
@@ -99,4 +100,8 @@ delivery_bears h g bytes p word stream mode spelt (q, spells, is, (side, happens
     ap words_in happens.grown.mine_grew ∙ ap (λ (r : OwnedPacket). word_of_delivery r.body word ++ words_in (mine h.pass)) (Spells-unique (newest h.journal.version) (newest h.journal.version) bytes q p spells spelt)
 
 pub none_delivered : {L S : Type 0} (h g : HostState L S) (bytes : List ℕ) (word : ℕ) → Delivered h g bytes word None → words_in (mine g.pass) ≡ words_in (mine h.pass)
-none_delivered h g bytes word idle = ap (λ (p : PassState). words_in (mine p)) idle.0
+none_delivered h g bytes word none = ap words_in (none_still h g bytes word none)
+
+-- what is repeated bears no word
+pub look_bears : {L S : Type 0} (h g : HostState L S) (stream : ℕ) (a : Act) (known : Bool) → Looks h g stream a known → words_in (mine g.pass) ≡ words_in (mine h.pass)
+look_bears h g stream a known looks = ap words_in (looks_still h g stream a known looks)

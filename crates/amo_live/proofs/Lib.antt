@@ -2,12 +2,14 @@ pub mod Beginnings
 pub mod Clients
 pub mod Longest
 pub mod Conserving
+pub mod Emissions
 pub mod Showing
 pub mod Onwards
 pub mod Opens
 pub mod Scans
 pub mod Suiting
 pub mod Readers
+pub mod Repeating
 pub mod Returning
 pub mod Putting
 pub mod UsedUp

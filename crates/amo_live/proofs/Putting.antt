@@ -1,6 +1,7 @@
 -- Which messages were put.
 use Rattle.std.proofs.Common.{◌≡◌, ℕ, Bool, true, false, List, ◌∷◌, Option, Some, None, Ok, Err, ap}
 use Rattle.amo_object.specs.declared.step.End.TheVariants.{Sender}
+use Rattle.amo_core.specs.declared.act.Act.{Act}
 use Rattle.amo_core.specs.declared.act.Act.TheVariants as act
 use Rattle.amo_core.specs.declared.mode.Mode.{Mode}
 use Rattle.amo_book.specs.declared.fault.PutFault.{PutFault}
@@ -10,8 +11,9 @@ use Rattle.amo_book.specs.Pass.{PassState, Grown, mine}
 use Rattle.amo_journal.specs.declared.version.Version.{Version}
 use Rattle.amo_journal.specs.declared.version.Version.TheVariants.{One, Two}
 use Rattle.amo_journal.specs.Version.{HasBatches}
-use Rattle.amo_live.specs.Host.{HostState, Did, puts_in}
+use Rattle.amo_live.specs.Host.{HostState, Delivered, Did, Looks, puts_in}
 use Rattle.amo_live.specs.Service.{start_of, starts_batches}
+use Rattle.amo_live.proofs.Repeating.{looks_still, none_still}
 
 -- a put that was answered with Ok put its message
 pub was_put : (v w : PassState) (stream : ℕ) (m : List ℕ) (position : ℕ) → Grown v w Sender stream (act.Put m) (put_answer (Ok position)) → puts_in (mine w) ≡ (stream, m) ∷ puts_in (mine v)
@@ -42,3 +44,11 @@ pub start_puts : {L S : Type 0} (h g : HostState L S) (stream word : ℕ) (batch
 start_puts h g stream word batch One mode did = start_one h g stream word mode did
 start_puts h g stream word false Two mode did = start_one h g stream word mode did
 start_puts h g stream word true Two mode did = start_batch h g stream word mode did
+
+-- a delivery puts nothing, nor does a look at an act
+pub delivery_puts : {L S : Type 0} (h g : HostState L S) (bytes : List ℕ) (word : ℕ) (did : Option (ℕ × Mode)) → Delivered h g bytes word did → puts_in (mine g.pass) ≡ puts_in (mine h.pass)
+delivery_puts h g bytes word None none = ap puts_in (none_still h g bytes word none)
+delivery_puts h g bytes word (Some (stream, mode)) (p, spells, is, (side, happens)) = ap puts_in happens.grown.mine_grew
+
+pub look_puts : {L S : Type 0} (h g : HostState L S) (stream : ℕ) (a : Act) (known : Bool) → Looks h g stream a known → puts_in (mine g.pass) ≡ puts_in (mine h.pass)
+look_puts h g stream a known looks = ap puts_in (looks_still h g stream a known looks)

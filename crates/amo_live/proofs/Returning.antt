@@ -10,7 +10,8 @@ use Rattle.amo_book.specs.Book.{BookState}
 use Rattle.amo_book.specs.Charge.{ChargeState, IsChargeOf}
 use Rattle.amo_book.specs.Pass.{PassState, mine}
 use Rattle.amo_host.proofs.ChargeLemmas.{each_at, each_set}
-use Rattle.std.proofs.lemmas.List.{length-map}
+use Rattle.std.proofs.lemmas.List.{length-map, length-set}
+use Rattle.amo_live.specs.Emitted.{OutboxState, AreEmitted}
 use Rattle.amo_live.specs.Host.{HostState, IsHost, IsOpened, Stays, comes_back, done, first_events, side_of, sides_from}
 use Rattle.amo_live.specs.Noted.{JournalState}
 use Rattle.amo_live.proofs.Onwards.{same_on}
@@ -23,15 +24,18 @@ stays_in_order (x ∷ xs) zero c d at same = ap (λ s. s ∷ map side_of xs) (sa
 stays_in_order (x ∷ xs) (suc place) c d at same = ap (λ l. side_of x ∷ l) (stays_in_order xs place c d at same)
 
 -- a host, one of whose charges was driven by its pass
-pub host_after : {L S : Type 0} (book : BookState) (charges : List ChargeState) (place : ℕ) (c d : ChargeState) (mode : Mode) (v w : PassState) (link : L) (outbox more : List (List ℕ)) (j k : JournalState S)
+pub host_after : {L S : Type 0} (book : BookState) (charges : List ChargeState) (place : ℕ) (c d : ChargeState) (mode : Mode) (v w : PassState) (link : L) (outbox more : OutboxState) (j k : JournalState S)
     → IsHost (record { book = book; pass = v; charges = charges; link = link; outbox = outbox; journal = j }) → slice_get charges place ≡ Some c → d ≡ record c { mode = mode } → w.book ≡ v.book → w.number ≡ v.number
+    → AreEmitted w more × (length more.recent ≡ length outbox.recent)
     → IsHost (record { book = book; pass = w; charges = set charges place d; link = link; outbox = more; journal = k })
-host_after book charges place c d mode v w link outbox more j k is at driven same number =
+host_after book charges place c d mode v w link outbox more j k is at driven same number (emitted, places) =
     let was = is.number in record {
       pass = same ∙ is.pass;
       charges = each_set (IsChargeOf book.id book.sides) charges place d is.charges (subst (IsChargeOf book.id book.sides) (sym driven) (each_at (IsChargeOf book.id book.sides) charges place c is.charges at));
       order = stays_in_order charges place c d at (ap side_of driven) ∙ is.order;
       number = omega arith;
+      places = places ∙ is.places ∙ sym (length-set charges place d);
+      emitted = emitted;
     }
 
 -- the side in a place

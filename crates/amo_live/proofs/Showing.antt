@@ -22,8 +22,9 @@ use Rattle.amo_journal.specs.declared.version.Version.TheVariants.{One, Two}
 use Rattle.amo_live.specs.declared.fault.LiveFault.{LiveFault}
 use Rattle.amo_live.specs.declared.lines.Spelling.{Spelling}
 use Rattle.amo_live.specs.declared.lines.Word.TheVariants as word
-use Rattle.amo_live.specs.Host.{HostState, Did, Delivered, message_in}
+use Rattle.amo_live.specs.Host.{HostState, Did, Delivered, Looks, message_in}
 use Rattle.amo_live.specs.Service.{start_of}
+use Rattle.amo_live.proofs.Repeating.{looks_still, none_still}
 use Rattle.amo_live.specs.Shown.{IsShown, Shows, ShowsMore, Tells, message_line, word_line}
 
 -- no event, or one that shows nothing, or one that shows a line
@@ -75,8 +76,12 @@ start_shows h g spelling stream word true Two mode old new = did_shows h g spell
 pub resend_shows : {L S : Type 0} (h g : HostState L S) (spelling : Spelling) (stream : ℕ) (mode : Option Mode) (old new : List ℕ) → Did h g stream act.Resend mode → new ≡ old → ShowsMore spelling h.pass g.pass old new
 resend_shows h g spelling stream mode old new = did_shows h g spelling stream act.Resend mode old new (λ side. refl)
 
+-- a look at an act shows nothing
+pub look_shows : {L S : Type 0} (h g : HostState L S) (spelling : Spelling) (stream : ℕ) (a : Act) (known : Bool) (old new : List ℕ) → Looks h g stream a known → new ≡ old → ShowsMore spelling h.pass g.pass old new
+look_shows h g spelling stream a known old new looks same = shows_none spelling h.pass g.pass old new (looks_still h g stream a known looks) same
+
 pub delivery_shows : {L S : Type 0} (h g : HostState L S) (spelling : Spelling) (bytes : List ℕ) (word : ℕ) (did : Option (ℕ × Mode)) (old new : List ℕ) → Delivered h g bytes word did → new ≡ old → ShowsMore spelling h.pass g.pass old new
-delivery_shows h g spelling bytes word None old new idle same = shows_none spelling h.pass g.pass old new (ap mine idle.0) same
+delivery_shows h g spelling bytes word None old new none same = shows_none spelling h.pass g.pass old new (none_still h g bytes word none) same
 delivery_shows h g spelling bytes word (Some (stream, mode)) old new (p, spells, is, (side, happens)) same =
     shows_quiet spelling h.pass g.pass old new (event h.pass.number side stream (act.Deliver p word) reply.Done) happens.grown.mine_grew refl same
 

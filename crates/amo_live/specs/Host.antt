@@ -1,5 +1,5 @@
 -- A live host: one side of its streams, a link, and a journal that is ahead of all that leaves.
-use Rattle.std.specs.Prelude.{◌≡◌, ℕ, zero, suc, ◌<◌, Option, Some, None, List, [], ◌∷◌, ◌++◌, take, map}
+use Rattle.std.specs.Prelude.{◌≡◌, ℕ, zero, suc, ◌<◌, ◌⊎◌, Bool, true, false, Option, Some, None, List, [], ◌∷◌, ◌++◌, length, map}
 use Rattle.amo_object.specs.declared.step.End.{End}
 use Rattle.amo_packet.specs.declared.packet.OwnedPacket.{OwnedPacket}
 use Rattle.amo_packet.specs.Grammar.{Spells}
@@ -20,26 +20,30 @@ use Rattle.amo_journal.specs.declared.version.Version.{Version}
 use Rattle.amo_journal.specs.Version.{newest}
 use Rattle.amo_journal.specs.Journal.{HasAct}
 use Rattle.amo_live.specs.Noted.{JournalState, IsSameJournal, Holds, Begins}
+use Rattle.amo_live.specs.Emitted.{OutboxState, AreEmitted, OnlySees, IsRepetition, packet_in}
 
--- its book, with one pass and the charges of one side; its link, the packets that are to leave, and its journal
+-- its book, with one pass and the charges of one side; its link, the packets that are to leave, now or again, and its journal
 pub record HostState (L S : Type 0) : Type 0 where
   pub book : BookState
   pub pass : PassState
   pub charges : List ChargeState
   pub link : L
-  pub outbox : List (List ℕ)
+  pub outbox : OutboxState
   pub journal : JournalState S
 
 -- the side that a charge is for
 abbrev pub side_of : ChargeState → End × ℕ
 side_of c = (c.side, c.stream)
 
--- the pass and the charges are the book's, the charges in the order of its sides; and a journal has a line for the pass
+-- The pass and the charges are the book's, the charges in the order of its sides; and a journal has a line for the pass. Each packet that is to leave,
+-- now or again, is one that an event of the pass emitted.
 pub record IsHost {L S : Type 0} (h : HostState L S) : Type 0 where
   pub pass : h.pass.book ≡ h.book.id
   pub charges : Each (IsChargeOf h.book.id h.book.sides) h.charges
   pub order : map side_of h.charges ≡ h.book.sides
   pub number : h.pass.number < 64
+  pub places : length h.outbox.recent ≡ length h.charges
+  pub emitted : AreEmitted h.pass h.outbox
 
 -- no call but that of `send` touches the link, and none the book's name, what the charges are for, or how the journal was opened
 pub record Stays {L S : Type 0} (h g : HostState L S) : Type 0 where
@@ -49,11 +53,6 @@ pub record Stays {L S : Type 0} (h g : HostState L S) : Type 0 where
   pub link : g.link ≡ h.link
   pub journal : IsSameJournal h.journal g.journal
 
--- the packet at the front of a buffer, if there is one
-abbrev pub packet_in : List ℕ → Option ℕ → List (List ℕ)
-packet_in buffer None = []
-packet_in buffer (Some n) = take n buffer ∷ []
-
 -- one event more of the host's own: this act at this side of this stream, which left it in this mode. What its row emits is to leave.
 pub record Happens {L S : Type 0} (h g : HostState L S) (side : End) (stream : ℕ) (a : Act) (mode : Mode) : Type 0 where
   pub grown : GrownBy h.pass g.pass (event h.pass.number side stream a Done)
@@ -62,11 +61,33 @@ pub record Happens {L S : Type 0} (h g : HostState L S) (side : End) (stream : �
   pub buffer : List ℕ
   pub length : Option ℕ
   pub emitted : Writes (emission_of (stream_after stream grown.earlier) side a) before buffer length
-  pub outbox : g.outbox ≡ h.outbox ++ packet_in buffer length
+  pub leaving : g.outbox.leaving ≡ h.outbox.leaving ++ packet_in buffer length
 
 -- nothing happened
 abbrev pub IsIdle : {L S : Type 0} → HostState L S → HostState L S → Type 0
 IsIdle h g = (g.pass ≡ h.pass) × (g.outbox ≡ h.outbox)
+
+-- nothing happened, though the pass may have seen what others did
+abbrev pub Looked : {L S : Type 0} → HostState L S → HostState L S → Type 0
+Looked h g = OnlySees h.pass g.pass × (g.outbox ≡ h.outbox)
+
+-- An act was no event: at this side of this stream it keeps the state, and the packet that it emits, if any, was emitted before and leaves again.
+pub record Repeats {L S : Type 0} (h g : HostState L S) (side : End) (stream : ℕ) (a : Act) : Type 0 where
+  pub sees : OnlySees h.pass g.pass
+  pub again : List (List ℕ)
+  pub repetition : IsRepetition g.pass side stream a again
+  pub leaving : g.outbox.leaving ≡ h.outbox.leaving ++ again
+  pub recent : g.outbox.recent ≡ h.outbox.recent
+
+-- what came of a look at an act at this side of this stream: it is a repetition, or it may be none and nothing happened
+abbrev pub LooksAt : {L S : Type 0} → HostState L S → HostState L S → End → ℕ → Act → Bool → Type 0
+LooksAt h g side stream a true = Repeats h g side stream a
+LooksAt h g side stream a false = Looked h g
+
+-- the same, at a side of this stream
+abbrev pub Looks : {L S : Type 0} → HostState L S → HostState L S → ℕ → Act → Bool → Type 0
+Looks h g stream a true = (side : End) × Repeats h g side stream a
+Looks h g stream a false = Looked h g
 
 -- what came of an act at this side of this stream: that event, or none
 abbrev pub DidAt : {L S : Type 0} → HostState L S → HostState L S → End → ℕ → Act → Option Mode → Type 0
@@ -77,6 +98,11 @@ DidAt h g side stream a (Some mode) = Happens h g side stream a mode
 abbrev pub Did : {L S : Type 0} → HostState L S → HostState L S → ℕ → Act → Option Mode → Type 0
 Did h g stream a None = IsIdle h g
 Did h g stream a (Some mode) = (side : End) × Happens h g side stream a mode
+
+-- what came of an act at this side of this stream that may have been a repetition: that event, or none
+abbrev pub TriedAt : {L S : Type 0} → HostState L S → HostState L S → End → ℕ → Act → Option Mode → Type 0
+TriedAt h g side stream a None = Repeats h g side stream a ⊎ Looked h g
+TriedAt h g side stream a (Some mode) = Happens h g side stream a mode
 
 -- the acts of a host
 abbrev pub IsHostAct : Act → Type 0
@@ -99,7 +125,7 @@ pub record IsOpened {L S : Type 0} (side : End) (streams : ℕ) (link : L) (jour
   pub sides : h.book.sides ≡ sides_from side 1 streams
   pub seen : h.pass.seen ≡ []
   pub link_is : h.link ≡ link
-  pub outbox : h.outbox ≡ []
+  pub outbox : h.outbox.leaving ≡ []
   pub journal_is : h.journal ≡ journal
 
 -- the event of an act of a host's
@@ -116,10 +142,14 @@ abbrev pub first_events : ℕ → List (End × ℕ) → ℕ → List Event
 first_events pass sides zero = []
 first_events pass sides (suc n) = comes_back pass sides []
 
--- what came of a datagram with this word: the packet that it spells, and for which the journal has a line, was delivered on its stream, or nothing
--- happened
+-- the delivery of the packet that these bytes spell, for which the journal has a line, is no event
+abbrev pub IsRepeated : {L S : Type 0} → HostState L S → HostState L S → List ℕ → ℕ → Type 0
+IsRepeated h g bytes word = (p : OwnedPacket) × Spells (newest h.journal.version) bytes p × ((side : End) × Repeats h g side p.stream (act.Deliver p word))
+
+-- what came of a datagram with this word: the packet that it spells, and for which the journal has a line, was delivered on its stream; or that was a
+-- repetition, or nothing happened
 abbrev pub Delivered : {L S : Type 0} → HostState L S → HostState L S → List ℕ → ℕ → Option (ℕ × Mode) → Type 0
-Delivered h g bytes word None = IsIdle h g
+Delivered h g bytes word None = IsRepeated h g bytes word ⊎ Looked h g
 Delivered h g bytes word (Some (stream, mode)) =
     (p : OwnedPacket) × Spells (newest h.journal.version) bytes p × (p.stream ≡ stream) × ((side : End) × Happens h g side stream (act.Deliver p word) mode)
 

@@ -1,5 +1,6 @@
 pub use Rattle.amo_settings.specs.Limits
 pub mod Client
+pub mod Emitted
 pub mod Fault
 pub mod Host
 pub mod Noted

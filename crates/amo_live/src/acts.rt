@@ -6,11 +6,11 @@ ghost use Rattle.amo_journal.specs.Version.{HasBatches};
 ghost use Rattle.amo_book.specs.Charge.{ChargeState, IsChargeOf};
 ghost use Rattle.amo_book.specs.Drive.{Driven, Unchanged};
 ghost use Rattle.amo_book.specs.Pass.{mine};
-ghost use Rattle.amo_live.specs.Host.{Delivered, Did, DidAt, IsBegun, IsHostAct, IsNoted, Stays, Suits, comes_back, done};
+ghost use Rattle.amo_live.specs.Host.{Delivered, Did, DidAt, IsBegun, IsHostAct, IsNoted, LooksAt, Looks, Stays, Suits, TriedAt, comes_back, done};
 
 use crate::noting::note_answer;
 use crate::{Host, LiveFault};
-use amo_book::{Book, Charge, Done, DriveFault, Pass};
+use amo_book::{Book, Charge, Done, DriveFault, Foreseen, Pass};
 use amo_core::{Act, Mode, Reply};
 use amo_net::Link;
 use amo_object::End;
@@ -52,6 +52,20 @@ impl<L: Link, S: Sink> Host<L, S> {
                 self.perform(place, Act::Batch(word))
             }
             _ => Ok(None),
+        }
+    }
+
+    /// Lets the packet of a stream's mode leave again, where it was emitted before; or nothing, where the mode has none. That is no event. Answers
+    /// whether it was so: otherwise [`Host::resend`] does it by one.
+    pub fn repeat(&mut self, stream: u32) -> Result<bool, LiveFault>
+        requires { IsNoted S.written self.old }
+        ensures looks { IfOk result (Looks self.old self.new stream act.Resend) }
+        ensures noted { IsNoted S.written self.new }
+        ensures stays { Stays self.old self.new }
+    {
+        match self.place_of(stream) {
+            Some(place) => self.is_repetition(place, &Act::Resend),
+            None => Ok(false),
         }
     }
 
@@ -101,7 +115,8 @@ impl<L: Link, S: Sink> Host<L, S> {
     }
 
     /// Delivers the packet that a datagram is, with this word for an accept, if it is one for a side of this host, and the journal has a line for
-    /// that. Answers its stream, and the kind of the side's mode then.
+    /// that. Answers its stream, and the kind of the side's mode then. A delivery that would change nothing, and emit nothing or only a packet that
+    /// was emitted of late, is no event: the network lost that packet, and repeated the other.
     pub fn deliver(&mut self, bytes: &[u8], word: u64) -> Result<Option<(u32, Mode)>, LiveFault>
         requires { IsNoted S.written self.old }
         ensures delivered { IfOk result (Delivered self.old self.new bytes.now word) }
@@ -122,7 +137,7 @@ impl<L: Link, S: Sink> Host<L, S> {
         let Ok(packet) = packet.copied(self.alloc) else {
             return Err(LiveFault::NoMemory);
         };
-        match self.perform(place, Act::Deliver(packet, word)) {
+        match self.attempt(place, Act::Deliver(packet, word)) {
             Ok(Some(mode)) => Ok(Some((stream, mode))),
             Ok(None) => Ok(None),
             Err(fault) => Err(fault),
@@ -161,6 +176,48 @@ impl<L: Link, S: Sink> Host<L, S> {
         }
     }
 
+    /// Does this act at the charge in this place, unless it is a repetition.
+    fn attempt(&mut self, place: usize, act: Act) -> Result<Option<Mode>, LiveFault>
+        requires noted { IsNoted S.written self.old }
+        requires place { place < length self.old.charges }
+        requires suits { (c : ChargeState) → slice_get self.old.charges place ≡ Some c → Suits self.old.journal.version c act }
+        ensures tried { IfOk result (λ mode. (c : ChargeState) → slice_get self.old.charges place ≡ Some c → TriedAt self.old self.new c.side c.stream act mode) }
+        ensures noted { OnOk result (IsNoted S.written self.new) }
+        ensures begun { OnErr result (IsBegun S.written self.new) }
+        ensures stays { Stays self.old self.new }
+    {
+        match self.is_repetition(place, &act) {
+            Ok(false) => self.perform(place, act),
+            Ok(true) => Ok(None),
+            Err(fault) => Err(fault),
+        }
+    }
+
+    /// Whether this act at the charge in this place would change nothing, and emit nothing or only a packet that was emitted of late. That packet is
+    /// to leave again then.
+    fn is_repetition(&mut self, place: usize, act: &Act) -> Result<bool, LiveFault>
+        requires noted { IsNoted S.written self.old }
+        requires place { place < length self.old.charges }
+        ensures looks { IfOk result (λ known. (c : ChargeState) → slice_get self.old.charges place ≡ Some c → LooksAt self.old self.new c.side c.stream act.now known) }
+        ensures noted { IsNoted S.written self.new }
+        ensures stays { Stays self.old self.new × (self.new.charges ≡ self.old.charges) }
+    {
+        let charge = &self.charges[place];
+        match self
+            .book
+            .foresee(&mut self.pass, charge, act, &mut self.room)
+        {
+            Ok(Foreseen::Keeps(None)) => Ok(true),
+            Ok(Foreseen::Keeps(Some(count))) => {
+                let Ok(known) = self.outbox.repeat(place, &self.room, count) else {
+                    return Err(LiveFault::NoMemory);
+                };
+                Ok(known)
+            }
+            Ok(Foreseen::Changes) | Err(_) => Ok(false),
+        }
+    }
+
     /// Does this act at the charge in this place, notes it, and keeps what it emitted for [`Host::send`].
     fn perform(&mut self, place: usize, act: Act) -> Result<Option<Mode>, LiveFault>
         requires noted { IsNoted S.written self.old }
@@ -175,6 +232,8 @@ impl<L: Link, S: Sink> Host<L, S> {
         let charge = &mut self.charges[place];
         let side = charge.side();
         let stream = charge.stream();
+        let before = charge.mode();
+        let delivered = is_delivery(&act);
         let done = match drive(
             self.alloc,
             &self.book,
@@ -192,11 +251,22 @@ impl<L: Link, S: Sink> Host<L, S> {
             Ok(_) => (),
             Err(fault) => return Err(fault),
         }
-        let Ok(()) = self.outbox.push(&self.room, done.length) else {
+        let is_answer = is_answer(delivered, before, done.mode);
+        let Ok(()) = self.outbox.push(place, is_answer, &self.room, done.length) else {
             return Err(LiveFault::NoMemory);
         };
         Ok(Some(done.mode))
     }
+}
+
+/// Whether an act is the delivery of a packet.
+fn is_delivery(act: &Act) -> bool {
+    matches!(act, Act::Deliver(_, _))
+}
+
+/// Whether what an act emits is an answer: it was a delivery, and left the mode as it was.
+fn is_answer(delivered: bool, before: Mode, after: Mode) -> bool {
+    delivered && before == after
 }
 
 /// Whether a packet is one for this side.

@@ -4,6 +4,8 @@ ghost use Rattle.amo_packet.specs.Packet.{body_of, packet_of};
 ghost use Rattle.amo_packet.specs.Grammar.{CanBeWritten, Spells};
 ghost use Rattle.amo_journal.specs.Version.{newest};
 ghost use Rattle.amo_book.specs.Charge.{ChargeState};
+ghost use Rattle.amo_book.specs.Book.{Each};
+ghost use Rattle.amo_live.specs.Emitted.{WasEmitted};
 ghost use Rattle.amo_live.specs.Host.{IsNoted, IsOpened, sides_from};
 ghost use Rattle.amo_live.specs.Noted.{Holds};
 
@@ -69,6 +71,7 @@ impl<L: Link + Drop, S: Sink + Drop> Host<L, S> {
                 let Some(pass) = passes.pop() else {
                     unreachable!()
                 };
+                let outbox = Outbox::new(alloc, charges.len())?;
                 Ok(Host {
                     alloc,
                     book,
@@ -76,7 +79,7 @@ impl<L: Link + Drop, S: Sink + Drop> Host<L, S> {
                     charges,
                     link,
                     room: [0; MAX_PACKET],
-                    outbox: Outbox::new(alloc),
+                    outbox,
                     journal,
                 })
             }
@@ -97,10 +100,11 @@ impl<L: Link, S: Sink> Host<L, S> {
     }
 
     /// Hands all packets that are to leave to the link, in their order, and answers how often it failed. Of all that the host did by then
-    /// the journal has the lines.
+    /// the journal has the lines: so each of these packets is one that an event emitted whose line is there.
     pub fn send(&mut self) -> u64
         requires { IsNoted S.written self.old }
-        ensures { self.new ≡ record self.old { link = self.new.link; outbox = [] } }
+        ensures emitted { Each (WasEmitted self.old.pass) self.old.outbox.leaving }
+        ensures sent { self.new ≡ record self.old { link = self.new.link; outbox = record self.old.outbox { leaving = [] } } }
     {
         self.outbox.send(&mut self.link)
     }

@@ -14,6 +14,10 @@
 //! its heading is written before anything else. One that is there already goes on in its own version, and that decides which packets the host
 //! reads: what has no line in its journal does not happen.
 //!
+//! **What is repeated is no event.** A network may repeat each packet that was emitted: so a packet leaves again without a line where it left of late. A
+//! datagram that would change nothing, and draw no answer but one that left of late, was lost, and that answer is repeated. So a journal grows by
+//! nothing while a peer is away, or hears and is not heard.
+//!
 //! The contracts say it so. Each call that makes an event asks that the journal has all lines so far, and gives that back with
 //! Ok. It never touches the link: what its row emits is added to the packets that are to leave. [`Host::send`], which hands them to the
 //! link, asks for the same. Where a line fails the call answers a fault, and says only that a beginning of the lines was written: no
@@ -22,7 +26,8 @@
 //! A host drives its charges itself and not by a pump: a pump starts each quiet stream in turn, also where no message waits, and each
 //! such start would be a line; and it does not tell when it sends again.
 //!
-//! The definitions stand in `specs/`: a journal that goes on in `Noted.antt`, a host and what its calls do in `Host.antt`.
+//! The definitions stand in `specs/`: a journal that goes on in `Noted.antt`, a host and what its calls do in `Host.antt`, packets that leave again in
+//! `Emitted.antt`.
 #![tactic(auto)]
 
 mod acts;
@@ -36,9 +41,11 @@ mod lines;
 mod notices;
 mod noting;
 mod outbox;
+mod parcel;
 mod plan;
 mod process;
 mod ready;
+mod recent;
 mod scan;
 mod service;
 mod socket;

@@ -1,87 +1,108 @@
-//! Packets that are to leave.
-ghost use Rattle.std.specs.Prelude.{◌≡◌, ◌++◌, [], take, IfOk, OnOk};
-ghost use Rattle.amo_live.specs.Host.{packet_in};
+//! Packets that are to leave, and those that may leave again.
+ghost use Rattle.std.specs.Prelude.{◌≡◌, ◌<◌, ◌++◌, ◌∷◌, [], take, length, slice_get, Some, true, false, IfOk, OnOk, OnErr};
+ghost use Rattle.amo_book.specs.Book.{Each};
+ghost use Rattle.amo_live.specs.Emitted.{IsRecent, Learns, RecentState, nothing_recent, packet_in};
 
+use crate::parcel::Parcel;
+use crate::recent::Recent;
 use amo_net::Link;
 use amo_packet::MAX_PACKET;
 use std::alloc::{AllocError, Global};
 use std::marker::Model;
 
-/// A packet. Contracts see its bytes.
-#[derive(Drop)]
-struct Parcel {
-    bytes: Vec<u8>,
-}
-
-impl Model for Parcel {
-    ghost use Rattle.std.specs.Prelude.{List, ℕ};
-
-    ghost Value = { List ℕ };
-
-    ghost view = { λ p. p.bytes.items };
-}
-
-impl Parcel {
-    /// The packet at the front of this buffer. Most packets are much shorter than the longest one.
-    #[tactic(auto, using(std::proofs::lemmas::List::take_min))]
-    fn copy(alloc: Global, buffer: &[u8; MAX_PACKET], count: usize) -> Result<Parcel, AllocError>
-        ensures { IfOk result (λ parcel. parcel ≡ take count buffer.now) }
-    {
-        let mut bytes = Vec::new(alloc);
-        bytes.extend_from_slice(&buffer[..count.min(MAX_PACKET)])?;
-        Ok(Parcel { bytes })
-    }
-
-    fn bytes(&self) -> &[u8]
-        ensures { result.now ≡ self.now }
-    {
-        self.bytes.as_slice()
-    }
-}
-
-/// The packets that are to leave, in their order. Contracts see the bytes of each.
+/// The packets that are to leave, in their order, and for each place those that its side emitted of late. Contracts see the bytes of each.
 #[derive(Drop)]
 pub struct Outbox {
     alloc: Global,
     parcels: Vec<Parcel>,
+    recent: Vec<Recent>,
 }
 
 impl Model for Outbox {
-    ghost use Rattle.std.specs.Prelude.{List, ℕ};
+    ghost use Rattle.amo_live.specs.Emitted.{OutboxState};
 
-    ghost Value = { List (List ℕ) };
+    ghost Value = { OutboxState };
 
-    ghost view = { λ o. o.parcels.items };
+    ghost view = { λ o. record { leaving = o.parcels.items; recent = o.recent.items } };
 }
 
 impl Outbox {
-    pub fn new(alloc: Global) -> Outbox
-        ensures { result ≡ [] }
+    /// Nothing is to leave, and in none of so many places anything was emitted.
+    pub fn new(alloc: Global, places: usize) -> Result<Outbox, AllocError>
+        ensures leaving { IfOk result (λ outbox. outbox.leaving ≡ []) }
+        ensures places { IfOk result (λ outbox. length outbox.recent ≡ places) }
+        ensures nothing { IfOk result (λ outbox. Each (λ r. r ≡ nothing_recent) outbox.recent) }
     {
-        Outbox {
+        let mut recent = Vec::new(alloc);
+        'places: for _place in 0..places {
+            recent.push(Recent::new())?;
+        }
+        Ok(Outbox {
             alloc,
             parcels: Vec::new(alloc),
-        }
+            recent,
+        })
     }
 
-    /// Adds the packet at the front of this buffer, if there is one.
+    /// Adds the packet at the front of this buffer, if there is one: the side in this place emitted it, as an answer or as a packet of its
+    /// mode.
     pub fn push(
         &mut self,
+        place: usize,
+        is_answer: bool,
         buffer: &[u8; MAX_PACKET],
         count: Option<usize>,
     ) -> Result<(), AllocError>
-        ensures added { OnOk result (self.new ≡ self.old ++ packet_in buffer.now count) }
+        requires { place < length self.old.recent }
+        ensures leaving { OnOk result (self.new.leaving ≡ self.old.leaving ++ packet_in buffer.now count) }
+        ensures recent { OnOk result (Learns place is_answer self.old.recent self.new.recent (packet_in buffer.now count)) }
+        ensures unchanged { OnErr result (self.new ≡ self.old) }
     {
-        if let Some(count) = count {
-            let parcel = Parcel::copy(self.alloc, buffer, count)?;
-            self.parcels.push(parcel)?;
-        }
+        let Some(count) = count else {
+            return Ok(());
+        };
+        let kept = Parcel::copy(self.alloc, buffer, count)?;
+        self.add(buffer, count)?;
+        self.recent[place].keep(is_answer, kept);
         Ok(())
     }
 
-    /// Hands all packets to a link, in their order, and answers how often it failed. Then there are none.
+    /// Adds the packet at the front of this buffer again, if the side in this place emitted it of late. Answers whether it did.
+    pub fn repeat(
+        &mut self,
+        place: usize,
+        buffer: &[u8; MAX_PACKET],
+        count: usize,
+    ) -> Result<bool, AllocError>
+        requires { place < length self.old.recent }
+        ensures again { IfOk result (λ known. known ≡ true → self.new.leaving ≡ self.old.leaving ++ take count buffer.now ∷ []) }
+        ensures known { IfOk result (λ known. known ≡ true → (r : RecentState) → slice_get self.old.recent place ≡ Some r → IsRecent r (take count buffer.now)) }
+        ensures other { IfOk result (λ known. known ≡ false → self.new.leaving ≡ self.old.leaving) }
+        ensures unknown { IfOk result (λ known. known ≡ false → (r : RecentState) → slice_get self.old.recent place ≡ Some r → ¬ (IsRecent r (take count buffer.now))) }
+        ensures recent { self.new.recent ≡ self.old.recent }
+        ensures unchanged { OnErr result (self.new ≡ self.old) }
+    {
+        let is_known = self.recent[place].knows(&buffer[..count.min(MAX_PACKET)]);
+        if is_known {
+            self.add(buffer, count)?;
+        }
+        Ok(is_known)
+    }
+
+    /// The packet at the front of this buffer is to leave too.
+    fn add(&mut self, buffer: &[u8; MAX_PACKET], count: usize) -> Result<(), AllocError>
+        ensures leaving { OnOk result (self.new.leaving ≡ self.old.leaving ++ take count buffer.now ∷ []) }
+        ensures recent { self.new.recent ≡ self.old.recent }
+        ensures unchanged { OnErr result (self.new ≡ self.old) }
+    {
+        let parcel = Parcel::copy(self.alloc, buffer, count)?;
+        self.parcels.push(parcel)?;
+        Ok(())
+    }
+
+    /// Hands all packets that are to leave to a link, in their order, and answers how often it failed. Then there are none.
     pub fn send<L: Link>(&mut self, link: &mut L) -> u64
-        ensures { self.new ≡ [] }
+        ensures { self.new ≡ record self.old { leaving = [] } }
     {
         let mut failed = 0u64;
         for parcel in self.parcels.iter() {

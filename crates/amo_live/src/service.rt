@@ -508,7 +508,13 @@ impl<L: Link, S: Sink, W: Words> Service<L, S, W> {
         }
     }
 
-    /// Delivers the packet that a datagram is: a needuid under the next word, which is used up by that, and any other under none.
+    /// Whether all messages that are wanted were got. What was asked of a peer from then on would come in vain.
+    fn has_enough(&self) -> bool {
+        self.got >= self.setup.most
+    }
+
+    /// Delivers the packet that a datagram is: a needuid under the next word, which is used up by that, if a message is wanted, and any other
+    /// under none.
     #[tactic(auto, using(crate::proofs::Fresh::bears_none, crate::proofs::Fresh::bears_word, crate::proofs::Fresh::none_delivered))]
     fn deliver_anew(
         &mut self,
@@ -525,6 +531,9 @@ impl<L: Link, S: Sink, W: Words> Service<L, S, W> {
         let Body::NeedUid(_) = packet.body else {
             return self.host.deliver(bytes, 0);
         };
+        if self.has_enough() {
+            return Ok(None);
+        }
         let Some(word) = self.words.peek() else {
             return Ok(None);
         };
@@ -550,7 +559,7 @@ impl<L: Link, S: Sink, W: Words> Service<L, S, W> {
         let Some(lane) = self.lane(stream) else {
             return Ok(());
         };
-        if self.got >= self.setup.most {
+        if self.has_enough() {
             return Ok(());
         }
         'messages: for _message in 0..lane.held {
@@ -637,10 +646,43 @@ impl<L: Link, S: Sink, W: Words> Service<L, S, W> {
                 continue;
             };
             if lane.timer.is_due(now) {
-                if let Some(mode) = self.host.resend(stream)? {
-                    self.enter(stream, mode, true, now);
-                }
+                self.send_again(stream, lane.mode, now)?;
             }
+        }
+        Ok(())
+    }
+
+    /// Sends the packet of this mode of a stream again. Where it was emitted before, that is no event.
+    #[tactic(auto, using(crate::proofs::Fresh::bears_none))]
+    fn send_again(&mut self, stream: u32, mode: Mode, now: u64) -> Result<(), LiveFault>
+        requires { IsNoted S.written self.old.host }
+        ensures noted { OnOk result (IsNoted S.written self.new.host) }
+        ensures none_put { OnOk result (PutsNone self.old.host.pass self.new.host.pass) }
+        ensures streams { streams_of self.new ≡ streams_of self.old }
+        ensures shown { OnOk result (ShowsMore (spelling_of self.old) self.old.host.pass self.new.host.pass (shown_by self.old) (shown_by self.new)) }
+        ensures spelling { spelling_of self.new ≡ spelling_of self.old }
+        ensures words { OnOk result (BearsNew (words_of self.old) (words_of self.new) self.old.host.pass self.new.host.pass) }
+    {
+        if self.host.repeat(stream)? {
+            self.enter(stream, mode, true, now);
+            return Ok(());
+        }
+        self.resend_anew(stream, now)
+    }
+
+    /// Emits the packet of a stream's mode again, which is an event.
+    #[tactic(auto, using(crate::proofs::Fresh::bears_none))]
+    fn resend_anew(&mut self, stream: u32, now: u64) -> Result<(), LiveFault>
+        requires { IsNoted S.written self.old.host }
+        ensures noted { OnOk result (IsNoted S.written self.new.host) }
+        ensures none_put { OnOk result (PutsNone self.old.host.pass self.new.host.pass) }
+        ensures streams { streams_of self.new ≡ streams_of self.old }
+        ensures shown { OnOk result (ShowsMore (spelling_of self.old) self.old.host.pass self.new.host.pass (shown_by self.old) (shown_by self.new)) }
+        ensures spelling { spelling_of self.new ≡ spelling_of self.old }
+        ensures words { OnOk result (BearsNew (words_of self.old) (words_of self.new) self.old.host.pass self.new.host.pass) }
+    {
+        if let Some(mode) = self.host.resend(stream)? {
+            self.enter(stream, mode, true, now);
         }
         Ok(())
     }

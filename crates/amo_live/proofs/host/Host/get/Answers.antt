@@ -1,8 +1,10 @@
 use Rattle.std.proofs.Common.{sym, subst}
 use Rattle.amo_object.specs.declared.step.End.TheVariants.{Receiver}
 use Rattle.amo_core.specs.declared.act.Act.TheVariants as act
+use Rattle.amo_book.specs.Calls.{get_answer}
 use Rattle.amo_book.specs.Pass.{Answer, Grown}
 use Rattle.amo_live.specs.Host.{HostState, IsNoted}
+use Rattle.amo_live.proofs.Emissions.{host_called}
 use Rattle.amo_live.proofs.host.Host.get.Goals as goal
 
 pub returns-in-Err-clause-begun : goal.returns-in-Err-clause-begun
@@ -20,3 +22,13 @@ returns-clause-noted g c =
     let v = c.self.inside.pass in let w = c.get.new.pass in
     let grown : Grown v w Receiver c.args.stream act.Get c.spelt_reply_to_get-known.result = subst (λ (a : Answer). Grown v w Receiver c.args.stream act.Get a) (sym c.spelt_reply_to_get-known.ensures.answer) c.get.ensures.grown in
     c.in-Ok.ensures.noted v w (sym c.number-pass.ensures.number) grown held
+
+pub invariant_of-self : goal.invariant_of-self
+invariant_of-self g c =
+    let i = c.self.inside in
+    host_called i.book i.charges.items i.link i.outbox i.journal c.note_answer.new.journal i.pass c.get.new.pass Receiver c.args.stream act.Get (get_answer c.get.result) c.self.invariant c.get.ensures.grown
+
+pub invariant_of-self-2 : goal.invariant_of-self-2
+invariant_of-self-2 g c =
+    let i = c.self.inside in
+    host_called i.book i.charges.items i.link i.outbox i.journal c.note_answer.new.journal i.pass c.get.new.pass Receiver c.args.stream act.Get (get_answer c.get.result) c.self.invariant c.get.ensures.grown

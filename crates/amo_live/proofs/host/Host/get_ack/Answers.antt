@@ -1,8 +1,10 @@
 use Rattle.std.proofs.Common.{sym, subst}
 use Rattle.amo_object.specs.declared.step.End.TheVariants.{Sender}
 use Rattle.amo_core.specs.declared.act.Act.TheVariants as act
+use Rattle.amo_book.specs.Calls.{ack_answer}
 use Rattle.amo_book.specs.Pass.{Answer, Grown}
 use Rattle.amo_live.specs.Host.{HostState, IsNoted}
+use Rattle.amo_live.proofs.Emissions.{host_called}
 use Rattle.amo_live.proofs.Suiting.{ack_spelt}
 use Rattle.amo_live.proofs.host.Host.get_ack.Goals as goal
 
@@ -24,3 +26,13 @@ returns-clause-noted g c =
     let v = c.self.inside.pass in let w = c.get_ack-answer.new.pass in
     let grown : Grown v w Sender c.args.stream act.Ack c.reply_to_ack-known.result = subst (λ (a : Answer). Grown v w Sender c.args.stream act.Ack a) (sym c.reply_to_ack-known.ensures) c.get_ack-answer.ensures.grown in
     c.in-Ok.ensures.noted v w (sym c.number-pass.ensures.number) grown held
+
+pub invariant_of-self : goal.invariant_of-self
+invariant_of-self g c =
+    let i = c.self.inside in
+    host_called i.book i.charges.items i.link i.outbox i.journal c.note_answer.new.journal i.pass c.get_ack-answer.new.pass Sender c.args.stream act.Ack (ack_answer c.get_ack-answer.result) c.self.invariant c.get_ack-answer.ensures.grown
+
+pub invariant_of-self-2 : goal.invariant_of-self-2
+invariant_of-self-2 g c =
+    let i = c.self.inside in
+    host_called i.book i.charges.items i.link i.outbox i.journal c.note_answer.new.journal i.pass c.get_ack-answer.new.pass Sender c.args.stream act.Ack (ack_answer c.get_ack-answer.result) c.self.invariant c.get_ack-answer.ensures.grown

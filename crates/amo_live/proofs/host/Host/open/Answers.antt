@@ -1,6 +1,8 @@
-use Rattle.std.proofs.Common.{◌≡◌, sym, ap, ◌∙◌, arith}
-use Rattle.amo_book.specs.Book.{first_pass}
+use Rattle.std.proofs.Common.{◌≡◌, sym, ap, subst, ◌∙◌, arith}
+use Rattle.amo_book.specs.Book.{Each, first_pass}
 use Rattle.amo_book.specs.Pass.{PassState}
+use Rattle.amo_live.specs.Emitted.{WasEmitted}
+use Rattle.amo_live.proofs.Emissions.{nothing_emitted}
 use Rattle.amo_live.proofs.Opens.{in_order, last_of_two}
 use Rattle.amo_live.proofs.host.Host.open.Goals as goal
 
@@ -14,4 +16,6 @@ invariant_of-result g c =
       charges = opens.charges_belong;
       order = in_order c.in-Ok.book.id c.in_ok-sides.sides.items c.in-Ok.charges.items opens.charges_are ∙ sym opens.sides_are;
       number = omega arith;
+      places = let count = c.in_ok-outbox-in-Ok.ensures.places in let many = c.len.ensures in omega (arith, count, many, c.in-Ok.charges.ok.0);
+      emitted = record { leaving = subst (Each (WasEmitted c.in-Some.pass)) (sym c.in_ok-outbox-in-Ok.ensures.leaving) tt; recent = nothing_emitted c.in-Some.pass c.in_ok-outbox-in-Ok.outbox.recent c.in_ok-outbox-in-Ok.ensures.nothing };
     }

@@ -1,12 +1,14 @@
-use Rattle.std.proofs.Common.{◌≡◌, ℕ, ◌<◌, length, slice_get, Some, refl, sym, ap, subst, ◌∙◌}
+use Rattle.std.proofs.Common.{◌≡◌, ℕ, ◌<◌, length, slice_get, Some, refl, sym, ap, subst, ◌∙◌, arith}
 use Rattle.std.proofs.lemmas.Option.{same_Some}
 use Rattle.amo_object.specs.declared.step.End.{End}
 use Rattle.amo_core.specs.declared.reply.Reply.TheVariants.{Done}
 use Rattle.amo_journal.specs.Journal.{HasAct}
 use Rattle.amo_book.specs.Pass.{PassState, GrownBy, event, mine}
 use Rattle.amo_host.proofs.StationLemmas.{read_at}
+use Rattle.amo_live.specs.Emitted.{AreEmitted, OutboxState, packet_in}
 use Rattle.amo_live.specs.Host.{HostState, IsNoted, Suits, side_of}
 use Rattle.amo_live.specs.Noted.{Holds}
+use Rattle.amo_live.proofs.Emissions.{act_emitted, all_learnt, all_still, grown_extends}
 use Rattle.amo_live.proofs.Onwards.{begins_whole}
 use Rattle.amo_live.proofs.Returning.{host_after, stays_in_order}
 use Rattle.amo_live.proofs.Suiting.{acts_done, suits_two}
@@ -84,7 +86,7 @@ returns-clause-did g c =
       buffer = c.drive.new.out;
       length = c.in-Ok.done.length;
       emitted = driven.emitted;
-      outbox = c.in-Ok-push.ensures.added;
+      leaving = c.in-Ok-push.ensures.leaving;
     }))
 
 pub invariant_of-self-in-Err : goal.invariant_of-self-in-Err
@@ -95,6 +97,7 @@ invariant_of-self-in-Err g c =
     let at = read_at h.charges c.args.place charge within c.index_mut-charge.ensures.value in
     let driven = c.in-Ok.ensures.driven in
     host_after h.book h.charges c.args.place charge c.drive.new.charge c.in-Ok.done.mode h.pass c.drive.new.pass h.link h.outbox h.outbox h.journal c.note_answer.new.journal c.self.invariant at driven.charge driven.grown.book driven.grown.number
+    (all_still h.pass c.drive.new.pass h.outbox (grown_extends h.pass c.drive.new.pass (event h.pass.number charge.side charge.stream c.args.act Done) driven.grown) driven.grown.number c.self.invariant.emitted, refl)
 
 pub invariant_of-self-in_default : goal.invariant_of-self-in_default
 invariant_of-self-in_default g c =
@@ -104,6 +107,7 @@ invariant_of-self-in_default g c =
     let at = read_at h.charges c.args.place charge within c.index_mut-charge.ensures.value in
     let driven = c.in-Ok.ensures.driven in
     host_after h.book h.charges c.args.place charge c.drive.new.charge c.in-Ok.done.mode h.pass c.drive.new.pass h.link h.outbox c.push.new.self h.journal c.note_answer.new.journal c.self.invariant at driven.charge driven.grown.book driven.grown.number
+    (subst (AreEmitted c.drive.new.pass) (sym c.in_default.ensures.unchanged) (all_still h.pass c.drive.new.pass h.outbox (grown_extends h.pass c.drive.new.pass (event h.pass.number charge.side charge.stream c.args.act Done) driven.grown) driven.grown.number c.self.invariant.emitted), ap (λ (o : OutboxState). length o.recent) c.in_default.ensures.unchanged)
 
 pub invariant_of-self-2 : goal.invariant_of-self-2
 invariant_of-self-2 g c =
@@ -112,7 +116,11 @@ invariant_of-self-2 g c =
     let within : c.args.place < length h.charges = subst (λ (t : HostState g.row.L.Denot g.row.S.Denot). c.args.place < length t.charges) (sym c.self.view_is) c.requires.place in
     let at = read_at h.charges c.args.place charge within c.index_mut-charge.ensures.value in
     let driven = c.in-Ok.ensures.driven in
+    let places : c.args.place < length h.outbox.recent = let many = c.self.invariant.places in omega (arith, within, many) in
     host_after h.book h.charges c.args.place charge c.drive.new.charge c.in-Ok.done.mode h.pass c.drive.new.pass h.link h.outbox c.push.new.self h.journal c.note_answer.new.journal c.self.invariant at driven.charge driven.grown.book driven.grown.number
+    (all_learnt c.drive.new.pass c.args.place c.is_answer-is_answer.result h.outbox c.push.new.self (packet_in c.drive.new.out c.in-Ok.done.length) places
+    (all_still h.pass c.drive.new.pass h.outbox (grown_extends h.pass c.drive.new.pass (event h.pass.number charge.side charge.stream c.args.act Done) driven.grown) driven.grown.number c.self.invariant.emitted)
+    (act_emitted h.pass c.drive.new.pass charge c.drive.new.charge c.args.act _ c.drive.new.out c.in-Ok.done driven) c.in-Ok-push.ensures.leaving c.in-Ok-push.ensures.recent)
 
 pub returns-in-Err-clause-stays : goal.returns-in-Err-clause-stays
 returns-in-Err-clause-stays g c =

@@ -4,6 +4,7 @@ use Rattle.amo_core.specs.declared.act.Act.TheVariants as act
 use Rattle.amo_book.specs.Calls.{put_answer}
 use Rattle.amo_book.specs.Pass.{Answer, Grown}
 use Rattle.amo_live.specs.Host.{HostState, IsNoted}
+use Rattle.amo_live.proofs.Emissions.{host_called}
 use Rattle.amo_live.proofs.Suiting.{put_spelt}
 use Rattle.amo_live.proofs.host.Host.put.Goals as goal
 
@@ -27,3 +28,13 @@ returns-clause-noted g c =
     let same : Grown v w Sender c.args.stream (act.Put c.in-Ok.copy) (put_answer c.put-answer.result) = subst (λ (m : List ℕ). Grown v w Sender c.args.stream (act.Put m) (put_answer c.put-answer.result)) (sym c.in-Ok.ensures.cases) c.put-answer.ensures.grown in
     let grown : Grown v w Sender c.args.stream (act.Put c.in-Ok.copy) c.reply_to_put-known.result = subst (λ (a : Answer). Grown v w Sender c.args.stream (act.Put c.in-Ok.copy) a) (sym c.reply_to_put-known.ensures) same in
     c.in-Ok-note_answer.ensures.noted v w (sym c.number-pass.ensures.number) grown held
+
+pub invariant_of-self : goal.invariant_of-self
+invariant_of-self g c =
+    let i = c.self.inside in
+    host_called i.book i.charges.items i.link i.outbox i.journal c.note_answer.new.journal i.pass c.put-answer.new.pass Sender c.args.stream (act.Put c.args.message) (put_answer c.put-answer.result) c.self.invariant c.put-answer.ensures.grown
+
+pub invariant_of-self-2 : goal.invariant_of-self-2
+invariant_of-self-2 g c =
+    let i = c.self.inside in
+    host_called i.book i.charges.items i.link i.outbox i.journal c.note_answer.new.journal i.pass c.put-answer.new.pass Sender c.args.stream (act.Put c.args.message) (put_answer c.put-answer.result) c.self.invariant c.put-answer.ensures.grown
