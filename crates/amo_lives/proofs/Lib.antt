@@ -1,0 +1,9 @@
+pub mod Fields
+pub mod Files
+pub mod Parts
+pub mod Keeping
+pub mod Going
+pub mod Apart
+pub mod Told
+pub mod Faults
+pub mod Begun

@@ -1,0 +1,6 @@
+pub mod Boot
+pub mod Life
+pub mod Lives
+pub mod Kept
+pub mod Fault
+pub mod Tag
