@@ -1,0 +1,10 @@
+pub mod Parts
+pub mod Steps
+pub mod Ties
+pub mod ReceiverTies
+pub mod Histories
+pub mod Final
+pub mod Following
+pub mod FollowingReceiver
+pub mod Followed
+pub mod Streams

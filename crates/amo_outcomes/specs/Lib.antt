@@ -1,0 +1,5 @@
+pub mod Puts
+pub mod Outcome
+pub mod Places
+pub mod Follower
+pub mod Told

@@ -1,0 +1,63 @@
+//! Laws of outcomes. Each is the contract of a function that does nothing.
+ghost use Rattle.std.specs.Prelude.{◌≡◌, ◌<◌, ℕ, List, [], ◌∷◌, length};
+ghost use Rattle.std.specs.List.{Contains};
+ghost use Rattle.amo_object.specs.declared.step.End.TheVariants.{Sender};
+ghost use Rattle.amo_object.specs.Delivery.{messages_put, messages_got};
+ghost use Rattle.amo_packet.specs.declared.packet.OwnedPacket.{OwnedPacket};
+ghost use Rattle.amo_packet.specs.declared.packet.OwnedBody.TheVariants as packet;
+ghost use Rattle.amo_packet.specs.Batch.{Batch, messages};
+ghost use Rattle.amo_core.specs.Receiver as receiver;
+ghost use Rattle.amo_world.specs.declared.event.Event.{Event};
+ghost use Rattle.amo_world.specs.Stream.{emitted_by};
+ghost use Rattle.amo_world.specs.History.{stream_after, IsRight, IsHonest, IsFresh, Extends};
+ghost use Rattle.amo_world.specs.Served.{calls};
+ghost use Rattle.amo_outcomes.specs.declared.outcome.Outcome.{Outcome};
+ghost use Rattle.amo_outcomes.specs.declared.outcome.Outcome.TheVariants.{Got, Gone, Open};
+ghost use Rattle.amo_outcomes.specs.Puts.{puts_after, sent_under};
+ghost use Rattle.amo_outcomes.specs.Outcome.{HasOutcome, AreOf};
+
+/// Each put of a right, honest and fresh history has exactly one outcome, and nothing else has one.
+pub fn each_put_has_one_outcome()
+    ensures one { (number : ℕ) (events : List Event) (put : ℕ) → IsRight events → IsHonest events → IsFresh events
+        → put < (puts_after number events).count → (outcome : Outcome) × HasOutcome number events put outcome }
+    ensures no_other { (number : ℕ) (events : List Event) (put : ℕ) (one other : Outcome) → IsRight events → IsHonest events → IsFresh events
+        → HasOutcome number events put one → HasOutcome number events put other → one ≡ other }
+    ensures of_puts { (number : ℕ) (events : List Event) (put : ℕ) (outcome : Outcome) → IsRight events → IsHonest events → IsFresh events
+        → HasOutcome number events put outcome → put < (puts_after number events).count }
+{}
+
+/// What is got stays got, and what is gone stays gone, in each right, honest and fresh history that goes on from this one; so what is gone is
+/// never got.
+pub fn got_and_gone_are_final()
+    ensures got { (number : ℕ) (later earlier : List Event) (put : ℕ) → Extends later earlier → IsRight later → IsHonest later → IsFresh later
+        → HasOutcome number earlier put Got → HasOutcome number later put Got }
+    ensures gone { (number : ℕ) (later earlier : List Event) (put : ℕ) → Extends later earlier → IsRight later → IsHonest later → IsFresh later
+        → HasOutcome number earlier put Gone → HasOutcome number later put Gone }
+    ensures never_got { (number : ℕ) (later earlier : List Event) (put : ℕ) → Extends later earlier → IsRight later → IsHonest later → IsFresh later
+        → HasOutcome number earlier put Gone → ¬ (HasOutcome number later put Got) }
+{}
+
+/// Once a later put of a stream was got, no earlier one is open: it was got before, or is gone.
+pub fn later_gets_settle_earlier_puts()
+    ensures { (number : ℕ) (events : List Event) (earlier later : ℕ) → IsRight events → IsHonest events → IsFresh events
+        → earlier < later → HasOutcome number events later Got → ¬ (HasOutcome number events earlier Open) }
+{}
+
+/// The puts are those of the stream's calls, and each gets, waits, travels and is held with its own message: the puts that were got have, one
+/// by one, the messages that the gets answered, and the packets under an identifier bring those of the puts that travel under it.
+pub fn puts_have_their_messages()
+    ensures count { (number : ℕ) (events : List Event) → IsRight events → IsHonest events → IsFresh events
+        → (puts_after number events).count ≡ length (messages_put (calls number events)) }
+    ensures got { (number : ℕ) (events : List Event) → IsRight events → IsHonest events → IsFresh events
+        → AreOf (messages_put (calls number events)) (puts_after number events).got (messages_got (calls number events)) }
+    ensures waiting { (number : ℕ) (events : List Event) → IsRight events → IsHonest events → IsFresh events
+        → AreOf (messages_put (calls number events)) (puts_after number events).waiting (stream_after number events).sender.state.waiting }
+    ensures held { (number : ℕ) (events : List Event) → IsRight events → IsHonest events → IsFresh events
+        → AreOf (messages_put (calls number events)) (puts_after number events).held (receiver.held_by (stream_after number events).receiver.state.mode) }
+    ensures sent { (number : ℕ) (events : List Event) (p : OwnedPacket) (id : ℕ) (m : List ℕ) → IsRight events → IsHonest events → IsFresh events
+        → Contains (emitted_by (stream_after number events) Sender) p → p.body ≡ packet.Send id m
+        → AreOf (messages_put (calls number events)) (sent_under (puts_after number events).sent id) (m ∷ []) }
+    ensures sent_together { (number : ℕ) (events : List Event) (p : OwnedPacket) (id : ℕ) (b : Batch) → IsRight events → IsHonest events → IsFresh events
+        → Contains (emitted_by (stream_after number events) Sender) p → p.body ≡ packet.Batch id b
+        → AreOf (messages_put (calls number events)) (sent_under (puts_after number events).sent id) (messages b) }
+{}
