@@ -227,13 +227,22 @@ Of two files both are read first, and `file 1: ` or `file 2: ` stands before a m
 gap. Their events are then merged: the first file's go first, wherever what they deliver was
 emitted. L is a line of the merged journal, counted from 1; it is of version 2 where either is.
 
+A journal may be in pieces, FILE.000001, FILE.000002 and so on, and FILE last. Where those stand
+beside FILE they are read with it as one journal, in the order of their numbers. So are the files of
+a list, as a.000001,a.000002,a; `a,` is the file a alone. In version 2 each piece begins with
+`amo 2`, which is a line of the journal in the first one alone. Each ends with a line's end.
+On standard error stand then, behind the verdict:
+  `amo: FILE: line L`: where the line stands that the verdict names, in which piece
+  `amo: FILE: it is missing`: the first piece that is missing between two numbers
+
 Faults, on standard error:
   4  `amo: out of memory`
      `amo: device`: the file or standard output failed, or there is no such file
 
 Examples:
   amo audit examples/good_journal.journal
-  amo audit examples/split_journal.1.journal examples/split_journal.2.journal";
+  amo audit examples/split_journal.1.journal examples/split_journal.2.journal
+  amo audit a.000001,a.000002,a";
 
 pub(crate) const EXPLAIN_ABOUT: &str =
     "Explains a journal: what the at-most-once queue did for each stream";
@@ -253,7 +262,8 @@ STEP is what a client of the stream saw the at-most-once queue do, or a loss, wh
   lose-ack              what became of the last put was lost
 Where several runs of the queue explain a stream, one of them is printed.
 
-Of any other file the line that `amo audit` prints goes to standard error.
+Of any other file the line that `amo audit` prints goes to standard error. The journal may be in
+pieces, as of `amo audit`.
 
 Status:
   0  the journal is explained

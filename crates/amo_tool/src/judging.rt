@@ -1,38 +1,77 @@
-//! Audits the journals in files, and explains them.
+//! Audits journals, and explains them.
 ghost use Rattle.std.specs.Prelude.{◌≡◌, ◌<◌};
 
 use crate::failure::Failure;
+use crate::pieces::Journal;
 use crate::watched::Watched;
-use amo_audit::{Verdict, explain, report, tell};
+use amo_audit::{Verdict, audit, explain, report, tell};
 use amo_journal::JournalFault;
 use amo_text::Out;
 use std::cell::Cell;
+use std::io;
 use std::io::{BufWriter, Printer, Write};
 use std::marker::Brand;
 use std::rt::Files;
 use std::sync::ledger::{Blank, Ledger};
-use std::{fs, io};
 
-/// Audits the journal in a file, or the journals of two processes, tells the verdict, and answers the status to end with.
-pub(crate) fn audit_files<R: AllocGlobal + Files + Print>(
+/// Audits the journal of a name, or the journals of two processes, tells the verdict, and answers the status to end with.
+pub(crate) fn audit_files<R: AllocGlobal + Eprint + Files + Print>(
     rt: &R,
     file: &str,
     second: Option<&str>,
 ) -> Result<u8, Failure> {
-    let first = read_journal(rt, file)?;
+    let first = Journal::read(rt, file)?;
     let second = match second {
-        Some(file) => Some(read_journal(rt, file)?),
+        Some(file) => Some(Journal::read(rt, file)?),
         None => None,
     };
-    let second = second.as_ref().map(|bytes| bytes.as_slice());
-    audit_bytes::<R, Brand>(rt, first.as_slice(), second, Blank::new(1))
+    let second = second.as_ref();
+    let text = second.map(|journal| journal.text());
+    let status = audit_bytes::<R, Brand>(rt, first.text(), text, Blank::new(1))?;
+    if status != 0 {
+        tell_place(rt, &first, second);
+    }
+    first.tell_missing(rt);
+    if let Some(second) = second {
+        second.tell_missing(rt);
+    }
+    Ok(status)
 }
 
-/// The bytes of the journal in a file.
-fn read_journal<R: AllocGlobal + Files>(rt: &R, file: &str) -> Result<Vec<u8>, Failure> {
-    match fs::read(rt, file) {
-        Ok(bytes) => Ok(bytes),
-        Err(error) => Err(Failure::of_file(rt.alloc(), file, error)),
+/// Tells where the line stands that was named of a journal in pieces. Where two journals were merged it is a line of neither.
+fn tell_place<R: AllocGlobal + Eprint>(rt: &R, first: &Journal, second: Option<&Journal>) {
+    let Some(second) = second else {
+        if first.is_in_pieces() {
+            first.tell_place(rt, line_of(audit(rt.alloc(), first.text())));
+        }
+        return;
+    };
+    if !first.is_in_pieces() && !second.is_in_pieces() {
+        return;
+    }
+    match no_journal_at(rt, first) {
+        0 => second.tell_place(rt, no_journal_at(rt, second)),
+        line => first.tell_place(rt, line),
+    }
+}
+
+/// The line at which a text is no journal, or 0.
+fn no_journal_at<R: AllocGlobal>(rt: &R, journal: &Journal) -> usize {
+    match audit(rt.alloc(), journal.text()) {
+        Verdict::Malformed(line) | Verdict::Gap(line) => line,
+        _ => 0,
+    }
+}
+
+/// The line that a verdict names, or 0.
+fn line_of(verdict: Verdict) -> usize {
+    match verdict {
+        Verdict::Malformed(line)
+        | Verdict::Gap(line)
+        | Verdict::WrongReply(line)
+        | Verdict::Unsent(line)
+        | Verdict::Repeat(line) => line,
+        Verdict::Yes | Verdict::NoMemory => 0,
     }
 }
 
@@ -58,19 +97,24 @@ fn audit_bytes<R: AllocGlobal + Print, L: Ledger>(
     }
 }
 
-/// Explains the journal in a file on standard output, and answers the status to end with. Of what is audited other than yes,
+/// Explains the journal of a name on standard output, and answers the status to end with. Of what is audited other than yes,
 /// `errors` gets the verdict.
-pub(crate) fn explain_file<R: AllocGlobal + Files + Print, E: Write + Drop>(
+pub(crate) fn explain_file<R: AllocGlobal + Eprint + Files + Print, E: Write + Drop>(
     rt: &R,
     file: &str,
     errors: E,
 ) -> Result<u8, Failure> {
-    let bytes = read_journal(rt, file)?;
-    let verdict = explain_bytes::<R, Brand>(rt, bytes.as_slice(), Blank::new(1))?;
-    match verdict {
-        Verdict::Yes => Ok(verdict.status()),
-        _ => tell_verdict::<R, E, Brand>(rt, verdict, errors, Blank::new(1)),
+    let journal = Journal::read(rt, file)?;
+    let verdict = explain_bytes::<R, Brand>(rt, journal.text(), Blank::new(1))?;
+    let status = match verdict {
+        Verdict::Yes => verdict.status(),
+        _ => tell_verdict::<R, E, Brand>(rt, verdict, errors, Blank::new(1))?,
+    };
+    if journal.is_in_pieces() {
+        journal.tell_place(rt, line_of(verdict));
     }
+    journal.tell_missing(rt);
+    Ok(status)
 }
 
 /// Explains the bytes of a journal on standard output, and answers the verdict. What was written has left when it answers.

@@ -3,7 +3,8 @@
 //! explains journals.
 //!
 //! `amo_arguments` reads the program's arguments, and answers as `amo_settings` what they choose. `replaying`, `running`, `live` and
-//! `judging` do it, `progress` shows how far a run is, `failure` is why they cannot, and `watched` keeps why a write failed.
+//! `judging` do it, `pieces` reads the journals that are judged, `progress` shows how far a run is, `failure` is why they cannot, and
+//! `watched` keeps why a write failed.
 #![tactic(auto)]
 
 ghost use Rattle.std.specs.Prelude.{IfOk};
@@ -12,6 +13,7 @@ ghost use Rattle.amo_settings.specs.Limits.{IsWithin};
 mod failure;
 mod judging;
 mod live;
+mod pieces;
 mod progress;
 mod replaying;
 mod running;

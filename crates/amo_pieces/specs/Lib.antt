@@ -1,0 +1,5 @@
+pub mod Journal
+pub mod Text
+pub mod Places
+pub mod Kept
+pub mod Names

@@ -1,0 +1,178 @@
+//! Reads the journal that a name stands for: one file, or the files of its pieces.
+use crate::failure::Failure;
+use amo_pieces::{Pieces, piece_number};
+use amo_text::cut;
+use std::alloc::{AllocError, Global};
+use std::io::Read;
+use std::rt::Files;
+use std::{fs, io};
+use thiserror::Error;
+
+/// How many bytes of names a directory is asked for at once. A name has 255 at most.
+const NAMES: usize = 4096;
+
+/// A journal that was read.
+#[derive(Drop)]
+pub(crate) struct Journal {
+    pieces: Pieces,
+    /// The names of the files of its pieces.
+    names: Vec<String>,
+    /// The name of the first piece that is missing between the others.
+    missing: Option<String>,
+}
+
+impl Journal {
+    /// Reads the journal of this name: where commas stand in it, and no file has it, the pieces that it lists; else the file of this name
+    /// and the numbered pieces before it.
+    pub(crate) fn read<R: AllocGlobal + Files>(rt: &R, name: &str) -> Result<Journal, Failure> {
+        let mut journal = Journal {
+            pieces: Pieces::new(rt.alloc()),
+            names: Vec::new(rt.alloc()),
+            missing: None,
+        };
+        if name.contains(',') && !is_there(rt, name) {
+            journal.add_listed(rt, name)?;
+        } else {
+            journal.add_numbered(rt, name)?;
+        }
+        Ok(journal)
+    }
+
+    /// Its text, as of one file.
+    pub(crate) fn text(&self) -> &[u8] {
+        self.pieces.text()
+    }
+
+    /// Adds the files of a list, with commas between their names. A comma at its end ends the last name.
+    fn add_listed<R: AllocGlobal + Files>(&mut self, rt: &R, list: &str) -> Result<(), Failure> {
+        let list = list.strip_suffix(',').unwrap_or(list);
+        for name in list.split(',') {
+            self.add(rt, String::from_str(rt.alloc(), name)?)?;
+        }
+        Ok(())
+    }
+
+    /// Adds the numbered pieces of this name in their order, and the file of the name itself. A host that is ended while it begins a piece may
+    /// leave the others alone.
+    fn add_numbered<R: AllocGlobal + Files>(&mut self, rt: &R, name: &str) -> Result<(), Failure> {
+        let numbers = numbers_of(rt, name)?;
+        for place in 0..numbers.len() {
+            self.add(rt, piece_name(rt.alloc(), name, numbers[place])?)?;
+        }
+        if let Some(number) = first_missing(numbers.as_slice()) {
+            self.missing = Some(piece_name(rt.alloc(), name, number)?);
+        }
+        if numbers.is_empty() || is_there(rt, name) {
+            self.add(rt, String::from_str(rt.alloc(), name)?)?;
+        }
+        Ok(())
+    }
+
+    /// Adds the piece in the file of this name.
+    fn add<R: AllocGlobal + Files>(&mut self, rt: &R, name: String) -> Result<(), Failure> {
+        if let Err(error) = self.add_file(rt, name.as_str()) {
+            return Err(Failure::of_file(rt.alloc(), name.as_str(), error));
+        }
+        match self.names.push(name) {
+            Ok(()) => Ok(()),
+            Err(_) => Err(Failure::NoMemory),
+        }
+    }
+
+    fn add_file<R: Files>(&mut self, rt: &R, name: &str) -> io::Result<()> {
+        let mut file = fs::open(rt, name)?;
+        self.pieces.add(&mut file)
+    }
+
+    /// Whether it is in more files than one.
+    pub(crate) fn is_in_pieces(&self) -> bool {
+        self.names.len() > 1
+    }
+
+    /// Tells on standard error in which piece this line of its text stands, if it is a line, and which line of the piece that is.
+    pub(crate) fn tell_place<R: Eprint>(&self, rt: &R, line: usize) {
+        let Some(place) = self.pieces.place(line) else {
+            return;
+        };
+        if let Some(name) = self.names.as_slice().get(place.piece) {
+            let _ = rt.eprintln(Told::Line(name.as_str(), place.line));
+        }
+    }
+
+    /// Tells on standard error which piece is missing between the others, if one is.
+    pub(crate) fn tell_missing<R: Eprint>(&self, rt: &R) {
+        if let Some(name) = self.missing.as_ref() {
+            let _ = rt.eprintln(Told::Missing(name.as_str()));
+        }
+    }
+}
+
+/// Whether there is a file of this name. Where that is not told it is taken to be there, and opening it tells why.
+fn is_there<R: Files>(rt: &R, name: &str) -> bool {
+    fs::exists(rt, name).unwrap_or(true)
+}
+
+/// The name of the file of a numbered piece.
+fn piece_name(alloc: Global, name: &str, number: u64) -> Result<String, AllocError> {
+    format!(in alloc; "{name}.{number:06}")
+}
+
+/// The numbers of the pieces of a journal of this name that stand in its directory, rising. A directory that cannot be looked through has none:
+/// where earlier pieces are not read, the numbers of lines show it.
+fn numbers_of<R: AllocGlobal + Files>(rt: &R, name: &str) -> Result<Vec<u64>, Failure> {
+    let mut numbers = Vec::new(rt.alloc());
+    let (directory, file) = name.rsplit_once('/').unwrap_or((".", name));
+    if file.is_empty() {
+        return Ok(numbers);
+    }
+    // The slash has the system follow a link to a directory.
+    let directory = format!(in rt.alloc(); "{directory}/")?;
+    let Ok(mut directory) = rt.open_dir(directory.as_str()) else {
+        return Ok(numbers);
+    };
+    let mut names = [0u8; NAMES];
+    'names: for _ in 0..u64::MAX {
+        let count = match directory.read(&mut names) {
+            Ok(0) | Err(_) => break,
+            Ok(count) => count,
+        };
+        push_numbers(&mut numbers, file.as_bytes(), &names[..count])?;
+    }
+    numbers.sort()?;
+    Ok(numbers)
+}
+
+/// Appends the numbers of those of these names, each with a zero behind it, that are pieces of this file.
+fn push_numbers(numbers: &mut Vec<u64>, file: &[u8], names: &[u8]) -> Result<(), AllocError> {
+    let mut rest = names;
+    while let Some((name, behind)) = cut(rest, 0) {
+        if let Some(number) = piece_number(file, name) {
+            numbers.push(number)?;
+        }
+        rest = behind;
+    }
+    Ok(())
+}
+
+/// The first number that is missing between these, which rise.
+fn first_missing(numbers: &[u64]) -> Option<u64> {
+    let mut last = *numbers.first()?;
+    for &number in numbers {
+        if number > last && number - last > 1 {
+            return Some(last + 1);
+        }
+        last = number;
+    }
+    None
+}
+
+/// What is told of a journal in pieces, on a line of its own.
+#[derive(Debug, Drop, Error)]
+enum Told<'a> {
+    /// In the file of this name, this line.
+    #[error("amo: {0}: line {1}")]
+    Line(&'a str, usize),
+    /// The file of this name is missing.
+    #[error("amo: {0}: it is missing")]
+    Missing(&'a str),
+}
