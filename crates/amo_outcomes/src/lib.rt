@@ -14,7 +14,7 @@
 //!
 //! **Got and gone are final**, in each right, honest and fresh history that goes on from this one ([`laws::got_and_gone_are_final`]). So what is
 //! gone may be put again. And once a later put of a stream was got, no earlier one ever will be.
-//! That an open put can still be got is neither proved nor tested yet.
+//! That an open put can still be got is not proved. It is tested in all short stories.
 //!
 //! The queue in doubt of [`amo_world`] answers another question. There a message stays listed, in doubt, while a handshake still names
 //! it, though its identifier died with a receiver; here it is gone.
