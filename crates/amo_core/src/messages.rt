@@ -24,6 +24,7 @@ impl Model for Messages {
 impl From<Message> for Messages {
     ghost from_gives = { λ message alone_now. alone_now ≡ alone message };
 
+    #[inline(always)]
     fn from(message: Message) -> Messages {
         let mut items = ArrayVec::new();
         items.push(message);

@@ -108,6 +108,8 @@ impl Body<'_> {
 
 impl Packet<'_> {
     /// The packet, with its messages copied. It takes memory only for a message with a byte to copy.
+    // Inlined, or each packet that is copied moves the room of a batch once more.
+    #[inline(always)]
     pub fn to_owned(&self, alloc: Global) -> Result<OwnedPacket, MessageFault>
         ensures ok { IfOk result (λ packet. packet ≡ packet_of self.now) }
         ensures too_long { IsErrOf result MessageFault.TooLong ↔ (¬ (CanBeWritten (body_of self.now.body))) }
@@ -121,6 +123,7 @@ impl Packet<'_> {
     }
 
     /// The same of a packet that was read or emitted, whose messages keep to their limit: only memory can be refused.
+    #[inline(always)]
     pub fn copied(&self, alloc: Global) -> Result<OwnedPacket, AllocError>
         requires { CanBeWritten (body_of self.now.body) }
         ensures ok { IfOk result (λ packet. packet ≡ packet_of self.now) }

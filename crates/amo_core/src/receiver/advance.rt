@@ -54,6 +54,7 @@ impl Receiver {
     }
 
     /// Takes a delivery, with the word for an accept. One that belongs to a sender changes nothing.
+    #[inline(always)]
     fn advance_on(&mut self, body: OwnedBody, word: u64)
         ensures { self.new ≡ (table.deliver self.old body word).state }
     {
@@ -88,6 +89,8 @@ impl Receiver {
     }
 
     /// Holds messages that were sent under the identifier accepted, and says whether they were.
+    // Inlined, or a message that comes alone is moved with the room of a batch.
+    #[inline(always)]
     pub(crate) fn advance_on_batch(&mut self, id: u64, messages: Messages) -> bool
         ensures state { self.new ≡ (table.batch self.old self.old.mode id messages).state }
         ensures held { IsTrue result → table.batch self.old self.old.mode id messages ≡ done self.new None }
