@@ -1,9 +1,10 @@
 -- What a change of one timer does to a list of timers, for this crate and its callers.
-use Rattle.std.proofs.Common.{◌≡◌, ◌≢◌, ℕ, zero, suc, ◌≤◌, eqb, cond, true, false, List, [], ◌∷◌, length, get_or, set, map, filter, slice_get, Some, Contains, refl, sym, ap, subst, ◌∙◌, arith}
+use Rattle.std.proofs.Common.{◌≡◌, ◌≢◌, ℕ, zero, suc, ◌+◌, ◌<◌, ◌≤◌, eqb, cond, true, false, List, [], ◌∷◌, length, get_or, set, map, filter, slice_get, Some, is_some, Contains, refl, sym, ap, subst, ◌∙◌, arith}
 use Rattle.std.proofs.lemmas.Bool.Decides.{nat_tests}
 use Rattle.std.specs.List.Sorted.{IsStrictlyIncreasing}
 use Rattle.amo_window.specs.declared.timers.Timer.{Timer}
-use Rattle.amo_window.specs.Timers.{streams_of, CanBeTimed, unset, changed, has_come, due}
+use Rattle.amo_window.specs.declared.pace.Pace.{Pace}
+use Rattle.amo_window.specs.Timers.{streams_of, CanBeTimed, in_ticks, resting, unset, sent, stopped, hastened, changed, has_come, due}
 use Rattle.amo_window.proofs.Rising.{rises-tail, at_place, first_differs}
 
 module _ (change : Timer → Timer) (stream : ℕ) where
@@ -62,6 +63,56 @@ length-due time (t ∷ ts) =
     ]
 
 -- a new list of timers has the streams that it was made for
+pub streams_of-resting : (pace : Pace) (streams : List ℕ) → streams_of (map (resting pace) streams) ≡ streams
+streams_of-resting pace [] = refl
+streams_of-resting pace (s ∷ streams) = ap (λ rest. s ∷ rest) (streams_of-resting pace streams)
+
+-- the same in ticks
 pub streams_of-unset : (streams : List ℕ) → streams_of (map unset streams) ≡ streams
-streams_of-unset [] = refl
-streams_of-unset (s ∷ streams) = ap (λ rest. s ∷ rest) (streams_of-unset streams)
+streams_of-unset streams = streams_of-resting in_ticks streams
+
+-- a timer that begins anew has its stream
+pub stream-hastened : (time : ℕ) (t : Timer) → (hastened time t).stream ≡ t.stream
+stream-hastened time t = elim (is_some t.next) as (λ b. (cond b (sent time (stopped t)) t).stream ≡ t.stream) [ true ↦ refl | false ↦ refl ]
+
+-- and timers that begin anew have their streams
+pub streams_of-hastened : (time : ℕ) (ts : List Timer) → streams_of (map (hastened time) ts) ≡ streams_of ts
+streams_of-hastened time [] = refl
+streams_of-hastened time (t ∷ ts) = ap (λ s. s ∷ streams_of (map (hastened time) ts)) (stream-hastened time t) ∙ ap (λ rest. t.stream ∷ rest) (streams_of-hastened time ts)
+
+-- the first so many began anew
+abbrev pub first_hastened : ℕ → ℕ → List Timer → List Timer
+first_hastened time zero ts = ts
+first_hastened time (suc n) [] = []
+first_hastened time (suc n) (t ∷ ts) = hastened time t ∷ first_hastened time n ts
+
+-- and then the next one too
+hastened-step : (time i : ℕ) (ts : List Timer) (d : Timer) → i < length (first_hastened time i ts) → set (first_hastened time i ts) i (hastened time (get_or (first_hastened time i ts) i d)) ≡ first_hastened time (suc i) ts
+hastened-step time zero [] d within = absurd (omega arith)
+hastened-step time zero (t ∷ ts) d within = refl
+hastened-step time (suc i) [] d within = absurd (omega arith)
+hastened-step time (suc i) (t ∷ ts) d within = ap (λ rest. hastened time t ∷ rest) (hastened-step time i ts d (omega (arith, within)))
+
+pub hastened-next : (time i : ℕ) (ts now : List Timer) (read new : Timer) → i < length now → now ≡ first_hastened time i ts → read ≡ get_or now i read → new ≡ hastened time read → set now i new ≡ first_hastened time (i + 1) ts
+hastened-next time i ts now read new within is here made =
+    let next : suc i ≡ i + 1 = omega arith in
+    ap (set now i) (made ∙ ap (hastened time) here)
+    ∙ subst (λ (l : List Timer). set l i (hastened time (get_or l i read)) ≡ first_hastened time (suc i) ts) (sym is) (hastened-step time i ts read (subst (λ (l : List Timer). i < length l) is within))
+    ∙ ap (λ n. first_hastened time n ts) next
+
+-- there are as many
+pub length-hastened : (time i : ℕ) (ts : List Timer) → length (first_hastened time i ts) ≡ length ts
+length-hastened time zero ts = refl
+length-hastened time (suc i) [] = refl
+length-hastened time (suc i) (t ∷ ts) = ap suc (length-hastened time i ts)
+
+-- all of them are all
+pub hastened-all : (time : ℕ) (ts : List Timer) → first_hastened time (length ts) ts ≡ map (hastened time) ts
+hastened-all time [] = refl
+hastened-all time (t ∷ ts) = ap (λ rest. hastened time t ∷ rest) (hastened-all time ts)
+
+-- timers that begin anew can be timed as before
+pub hastened-timed : (time i : ℕ) (ts : List Timer) → streams_of (first_hastened time i ts) ≡ streams_of ts
+hastened-timed time zero ts = refl
+hastened-timed time (suc i) [] = refl
+hastened-timed time (suc i) (t ∷ ts) = ap (λ s. s ∷ streams_of (first_hastened time i ts)) (stream-hastened time t) ∙ ap (λ rest. t.stream ∷ rest) (hastened-timed time i ts)

@@ -6,15 +6,17 @@
 //! the only way to be rid of one is [`Window::close`].
 //!
 //! [`Timers`] tell when each stream is to be sent again: 1 tick after the first sending, 2 ticks after the next, then
-//! 4, and so on up to 64, until the stream is stopped.
+//! 4, and so on up to 64, until the stream is stopped; or at another [`Pace`].
 #![tactic(auto)]
 
 mod due;
 mod fault;
+mod pace;
 mod timers;
 mod window;
 
 pub use due::Due;
 pub use fault::WindowFault;
+pub use pace::Pace;
 pub use timers::{MAX_TIMERS, Timers};
 pub use window::{MAX_PERMITS, Permit, Window};

@@ -1,10 +1,8 @@
-use Rattle.std.proofs.Common.{rules, sym, ap, subst, ◌∙◌, arith}
-use Rattle.amo_window.specs.Timers.{streams_of, CanBeTimed}
-use Rattle.amo_window.proofs.TimersLemmas.{streams_of-unset}
+use Rattle.std.proofs.Common.{◌≡◌, map, IfOk, subst}
+use Rattle.amo_window.specs.declared.pace.Pace.{Pace}
+use Rattle.amo_window.specs.Timers.{CanBeTimed, resting}
 use Rattle.amo_window.proofs.timers.Timers.new.Goals as goal
 
--- the timers are those of the streams, which are few and rise
-pub invariant_of-result : goal.invariant_of-result
-invariant_of-result c =
-    let timed : CanBeTimed c.args.streams.now = record { few = omega arith; rising = c.is_rising.ensures.0 (search rules) } in
-    subst CanBeTimed (sym (ap streams_of c.in_ok-timers.ensures.each ∙ streams_of-unset c.args.streams.now)) timed
+pub returns-clause-ok : goal.returns-clause-ok
+returns-clause-ok c =
+    subst (λ (pace : Pace). IfOk c.paced.result (λ timers. (timers ≡ map (resting pace) c.args.streams.now) × CanBeTimed c.args.streams.now)) c.in_ticks.ensures c.paced.ensures.ok
