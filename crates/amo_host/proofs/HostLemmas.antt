@@ -4,7 +4,8 @@ use Rattle.std.proofs.lemmas.List.{length-set, map-set}
 use Rattle.amo_window.specs.declared.timers.Timer.{Timer}
 use Rattle.amo_window.specs.Timers.{CanBeTimed, has_come, due}
 use Rattle.amo_window.specs.Timers as timers
-use Rattle.amo_window.proofs.TimersLemmas.{streams_of-unset}
+use Rattle.amo_window.specs.declared.pace.Pace.{Pace}
+use Rattle.amo_window.proofs.TimersLemmas.{streams_of-resting}
 use Rattle.std.proofs.lemmas.List.Sums.{sum_by-cons}
 use Rattle.amo_object.specs.declared.step.End.{End}
 use Rattle.amo_host.specs.declared.agenda.StreamMode.{StreamMode}
@@ -13,7 +14,7 @@ use Rattle.std.proofs.lemmas.Bool.Decides.{nat_tests}
 use Rattle.std.proofs.lemmas.Option.{same_Some, slice_get_within}
 use Rattle.amo_core.specs.declared.mode.Mode.TheVariants.{Quiet}
 use Rattle.amo_host.specs.Modes.{is_open}
-use Rattle.amo_host.specs.Host.{Host, fresh, IsHost, IsAt, streams_of, permit_of, IsQuiet, in_rotation}
+use Rattle.amo_host.specs.Host.{Host, paced, IsHost, IsAt, streams_of, permit_of, IsQuiet, in_rotation}
 use Rattle.amo_host.specs.Handshakes.{open_count}
 use Rattle.amo_core.specs.declared.mode.Mode.{Mode}
 
@@ -108,14 +109,18 @@ count_none : (n : ℕ) → open_count (replicate n None) ≡ 0
 count_none zero = refl
 count_none (suc n) = omega (arith, count_none n, sum_by-cons (λ (o : Option ℕ). cond (is_some o) 1 0) None (replicate n None))
 
-pub fresh_host : (side : End) (ls : List StreamMode) (window : ℕ) → 0 < length ls → ((i : ℕ) (l : StreamMode) → slice_get ls i ≡ Some l → is_open l.mode ≡ false) → CanBeTimed (streams_of ls) → IsHost (fresh side ls window)
-fresh_host side ls window some shut timed = record {
+pub paced_host : (pace : Pace) (side : End) (ls : List StreamMode) (window : ℕ) → 0 < length ls → ((i : ℕ) (l : StreamMode) → slice_get ls i ≡ Some l → is_open l.mode ≡ false) → CanBeTimed (streams_of ls) → IsHost (paced pace side ls window)
+paced_host pace side ls window some shut timed = record {
   permits = all_shut ls shut;
   window = omega (arith, count_none (length ls));
-  timers = streams_of-unset (streams_of ls);
+  timers = streams_of-resting pace (streams_of ls);
   streams = timed;
   rotation = some;
 }
 
 pub same_host : (h g : Host) → h ≡ g → IsHost g → IsHost h
 same_host h g same is = subst IsHost (sym same) is
+
+-- a host with other timers of its streams
+pub retimed_host : (h : Host) (ts : List Timer) → IsHost h → timers.streams_of ts ≡ timers.streams_of h.timers → IsHost (record h { timers = ts })
+retimed_host h ts host same = record { permits = host.permits; window = host.window; timers = same ∙ host.timers; streams = host.streams; rotation = host.rotation }

@@ -1,3 +1,4 @@
+pub mod AtStreamLemmas
 pub mod ChargeLemmas
 pub mod DivisionLemmas
 pub mod Drives

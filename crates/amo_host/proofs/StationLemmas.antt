@@ -29,7 +29,11 @@ use Rattle.amo_host.specs.declared.turned.Turned.{Turned}
 use Rattle.amo_host.specs.declared.turned.Turned.TheVariants.{Idle, Unread, Stranger, Did}
 use Rattle.amo_host.specs.Kind.{IsKindOf, IsHostAct, IsDownOrUp, is_resend}
 use Rattle.amo_host.specs.Modes.{MayOpen}
-use Rattle.amo_host.specs.Turn.{Happened, Performed, GoesDownOrUp, DeliveryFails}
+use Rattle.amo_host.specs.declared.turned.Kind.TheVariants as kind
+use Rattle.amo_host.specs.declared.fault.PumpFault.{PumpFault}
+use Rattle.amo_packet.specs.Grammar.{Spells}
+use Rattle.amo_host.specs.AtStream.{Delivers, FailsToDeliver}
+use Rattle.amo_host.specs.Turn.{Happened, Performed, GoesDownOrUp, DeliveryFails, TurnsWith, FailsWith}
 
 -- what was read in a place stands there
 pub read_at : {X : Type 0} (xs : List X) (i : ℕ) (x : X) → i < length xs → x ≡ get_or xs i x → slice_get xs i ≡ Some x
@@ -167,3 +171,19 @@ short_of_memory to_come (packet.Send id m) s carries = ((0, (refl, refl)), refl)
 short_of_memory to_come (packet.Ack id b) s carries = absurd (carries tt)
 short_of_memory to_come (packet.Cleanup id) s carries = absurd (carries tt)
 short_of_memory to_come (packet.Batch id b) s carries = ((0, (refl, refl)), refl)
+
+module _ {W : Type 0} (to_come : W → ℕ → Option ℕ) (newest : ℕ) (bytes : List ℕ) (p : OwnedPacket) (spelt : Spells newest bytes p) (s t : Station W) where
+  -- a turn with bytes that spell a packet is its delivery
+  pub turns_by_delivery : (v w : PassState) (old new : List ℕ) (now : ℕ) (turned : Turned) → Delivers to_come p now s t v w old new turned → TurnsWith to_come newest bytes now s t v w old new turned
+  turns_by_delivery v w old new now Idle never = absurd never
+  turns_by_delivery v w old new now (Unread fault) never = absurd never
+  turns_by_delivery v w old new now Stranger none = (p, spelt, none.0, none.1)
+  turns_by_delivery v w old new now (Did side stream (kind.Deliver word) done) did = (p, did.0, spelt, did.1, did.2, did.3)
+  turns_by_delivery v w old new now (Did side stream (kind.Start word) done) never = absurd never
+  turns_by_delivery v w old new now (Did side stream (kind.Batch word) done) never = absurd never
+  turns_by_delivery v w old new now (Did side stream kind.Resend done) never = absurd never
+  turns_by_delivery v w old new now (Did side stream kind.Crash done) never = absurd never
+  turns_by_delivery v w old new now (Did side stream kind.Recover done) never = absurd never
+
+  pub fails_by_delivery : (fault : PumpFault) → FailsToDeliver to_come p s t fault → FailsWith to_come newest bytes s t fault
+  fails_by_delivery fault fails = (p, fails.0, spelt, fails.1, fails.2)

@@ -7,6 +7,7 @@ use Rattle.amo_packet.specs.declared.packet.OwnedBody.{OwnedBody}
 use Rattle.amo_packet.specs.declared.packet.OwnedBody.TheVariants as packet
 use Rattle.amo_core.specs.declared.mode.Mode.{Mode}
 use Rattle.amo_core.specs.declared.mode.Mode.TheVariants.{Quiet}
+use Rattle.amo_window.specs.declared.pace.Pace.{Pace}
 use Rattle.amo_window.specs.declared.timers.Timer.{Timer}
 use Rattle.amo_window.specs.Timers.{CanBeTimed, sent, stopped, changed, due}
 use Rattle.amo_window.specs.Timers as timers
@@ -108,13 +109,17 @@ pub record IsFor (h : Host) (place : ℕ) (p : OwnedPacket) : Type 0 where
   pub side : side_of p.body ≡ h.side
   pub stream : slice_get (streams_of h.modes) place ≡ Some p.stream
 
--- a host of charges none of which has a handshake open: no permit is out, no timer is set
-abbrev pub fresh : End → List StreamMode → ℕ → Host
-fresh side modes window = record {
+-- a host of charges none of which has a handshake open, whose timers are of this pace: no permit is out, no timer is set
+abbrev pub paced : Pace → End → List StreamMode → ℕ → Host
+paced pace side modes window = record {
   side = side;
   modes = modes;
   limit = window;
   permits = replicate (length modes) None;
-  timers = map timers.unset (streams_of modes);
+  timers = map (timers.resting pace) (streams_of modes);
   rotation = 0;
 }
+
+-- the same, in ticks
+abbrev pub fresh : End → List StreamMode → ℕ → Host
+fresh side modes window = paced timers.in_ticks side modes window

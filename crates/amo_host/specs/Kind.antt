@@ -1,5 +1,5 @@
 -- The acts of a host, and what a pump tells of them.
-use Rattle.std.specs.Prelude.{◌≡◌, Bool, true, false}
+use Rattle.std.specs.Prelude.{◌≡◌, ℕ, Bool, true, false, if◌then◌else◌}
 use Rattle.amo_core.specs.declared.act.Act.{Act}
 use Rattle.amo_core.specs.declared.act.Act.TheVariants as act
 use Rattle.amo_host.specs.declared.turned.Kind.{Kind}
@@ -31,3 +31,7 @@ abbrev pub IsDownOrUp : Act → Type 0
 IsDownOrUp act.Crash = Unit {0}
 IsDownOrUp act.Recover = Unit {0}
 IsDownOrUp _ = ⊥
+
+-- the act that begins a handshake under this word: for a batch, or for one message
+abbrev pub start_under : Bool → ℕ → Act
+start_under together word = if together then act.Batch word else act.Start word

@@ -1,4 +1,5 @@
 pub mod Agenda
+pub mod AtStream
 pub mod Charges
 pub mod Division
 pub mod Fault

@@ -3,7 +3,7 @@ use Rattle.std.specs.Prelude.{Bool, true, false}
 use Rattle.amo_core.specs.declared.act.Act.{Act}
 use Rattle.amo_core.specs.declared.act.Act.TheVariants.{Start, Batch}
 use Rattle.amo_core.specs.declared.mode.Mode.{Mode}
-use Rattle.amo_core.specs.declared.mode.Mode.TheVariants.{Quiet, NeedId, Send, Idle, Down}
+use Rattle.amo_core.specs.declared.mode.Mode.TheVariants.{Quiet, NeedId, Send, Idle, Accept, Ack, Down}
 
 -- a handshake is open, and holds a permit
 abbrev pub is_open : Mode → Bool
@@ -23,3 +23,11 @@ is_timed Quiet = false
 is_timed Idle = false
 is_timed Down = false
 is_timed _ = true
+
+-- A side in this mode waits for its peer, and has a packet to send again until it hears of it. One that holds a message waits for its client.
+abbrev pub waits : Mode → Bool
+waits NeedId = true
+waits Send = true
+waits Accept = true
+waits Ack = true
+waits _ = false

@@ -5,15 +5,16 @@ ghost use Rattle.amo_window.specs.Timers.{CanBeTimed};
 ghost use Rattle.amo_window.specs.Window.{most_permits};
 ghost use Rattle.amo_packet.specs.Packet.{packet_of, body_of};
 ghost use Rattle.amo_host.specs.Handshakes.{open_count};
+ghost use Rattle.amo_host.specs.AtStream.{AreCalm, IsNextDue, IsSet, MayBegin, earlier};
 ghost use Rattle.amo_host.specs.Modes.{is_open, is_timed};
-ghost use Rattle.amo_host.specs.Host.{retimed, IsFor, side_of, streams_of, fresh};
+ghost use Rattle.amo_host.specs.Host.{retimed, IsFor, side_of, streams_of, fresh, paced};
 
 use crate::handshakes::Handshakes;
-use crate::modes::{has_timer, holds_handshake, is_quiet, is_same, is_sender};
+use crate::modes::{has_timer, holds_handshake, is_quiet, is_same, is_sender, waits};
 use amo_core::Mode;
 use amo_object::End;
 use amo_packet::{Body, Packet};
-use amo_window::{Timers, WindowFault};
+use amo_window::{Pace, Timers, WindowFault};
 use std::alloc::{AllocError, Global};
 use std::marker::Model;
 
@@ -80,8 +81,25 @@ impl Agenda {
         ensures host { IfOk result IsHost }
         ensures limits { IsErrOf result WindowFault.Limits → CanBeTimed (streams_of modes.items) → 1 ≤ window → ¬ (window ≤ most_permits) }
     {
+        Agenda::paced(alloc, side, modes, window, Pace::in_ticks())
+    }
+
+    /// The same, with timers of this pace.
+    pub fn paced(
+        alloc: Global,
+        side: End,
+        modes: Vec<StreamMode>,
+        window: usize,
+        pace: Pace,
+    ) -> Result<Agenda, WindowFault>
+        requires some { 0 < length modes.items }
+        requires rest { (place : ℕ) (m : StreamMode) → slice_get modes.items place ≡ Some m → is_open m.mode ≡ false }
+        ensures ok { IfOk result (λ h. h ≡ paced pace side modes.items window) }
+        ensures host { IfOk result IsHost }
+        ensures limits { IsErrOf result WindowFault.Limits → CanBeTimed (streams_of modes.items) → 1 ≤ window → ¬ (window ≤ most_permits) }
+    {
         let streams = streams_in(alloc, &modes)?;
-        let timers = Timers::new(alloc, &streams)?;
+        let timers = Timers::paced(alloc, pace, &streams)?;
         let handshakes = Handshakes::new(alloc, window, modes.len())?;
         Ok(Agenda {
             side,
@@ -111,6 +129,78 @@ impl Agenda {
             return None;
         }
         self.place_of(packet.stream)
+    }
+
+    /// The mode of the charge in this place.
+    pub fn mode_in(&self, place: usize) -> Mode
+        requires { place < length self.now.modes }
+        ensures { (m : StreamMode) → IsAt self.now place m → result ≡ m.mode }
+    {
+        let StreamMode { stream: _, mode } = self.modes[place];
+        mode
+    }
+
+    /// Whether a handshake may begin in this place.
+    pub fn may_begin(&self, place: usize) -> bool
+        requires { place < length self.now.modes }
+        ensures { IsTrue result ↔ MayBegin self.now place }
+    {
+        if !is_sender(self.side) || !self.handshakes.is_free() {
+            return false;
+        }
+        is_quiet(self.mode_in(place))
+    }
+
+    /// Whether no side waits for its peer.
+    pub fn are_calm(&self) -> bool
+        ensures { IsTrue result ↔ AreCalm self.now }
+    {
+        for place in 0..self.modes.len() {
+            if waits(self.mode_in(place)) {
+                return false;
+            }
+        }
+        true
+    }
+
+    /// When the side in this place is to be sent again, if it waits for its peer.
+    pub fn time_in(&self, place: usize) -> Option<u64>
+        requires { place < length self.now.modes }
+        ensures found { IfSome result (IsSet self.now place) }
+        ensures absent { IfNone result ((time : ℕ) → ¬ (IsSet self.now place time)) }
+    {
+        if waits(self.mode_in(place)) {
+            self.timers.next_at(place)
+        } else {
+            None
+        }
+    }
+
+    /// When a stream is to be sent again next.
+    pub fn next_due(&self) -> Option<u64>
+        ensures { IsNextDue self.now result }
+    {
+        let mut least: Option<u64> = None;
+        for place in 0..self.modes.len() {
+            least = earlier(least, self.time_in(place));
+        }
+        least
+    }
+
+    /// The stream in this place was sent again now.
+    pub fn repeat(&mut self, place: usize, now: u64)
+        requires { place < length self.old.modes }
+        ensures repeated { (m : StreamMode) → IsAt self.old place m → self.new ≡ record self.old { timers = timed.changed (timed.sent now) m.stream self.old.timers } }
+    {
+        let StreamMode { stream, mode: _ } = self.modes[place];
+        self.timers.sent(stream, now);
+    }
+
+    /// Each timer that is set begins anew.
+    pub fn hasten(&mut self, now: u64)
+        ensures { self.new ≡ record self.old { timers = map (timed.hastened now) self.old.timers } }
+    {
+        self.timers.hasten(now);
     }
 
     /// What to do next without input.
@@ -183,6 +273,17 @@ impl Agenda {
         self.handshakes.set(place, stream, holds_handshake(mode));
         retime(&mut self.timers, stream, kept, resent, mode, now);
         self.modes[place] = StreamMode { stream, mode };
+    }
+}
+
+/// The earlier of two times.
+fn earlier(one: Option<u64>, other: Option<u64>) -> Option<u64>
+    ensures { result ≡ earlier one other }
+{
+    match (one, other) {
+        (Some(one), Some(other)) => Some(one.min(other)),
+        (Some(time), None) | (None, Some(time)) => Some(time),
+        (None, None) => None,
     }
 }
 

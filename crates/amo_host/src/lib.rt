@@ -16,9 +16,14 @@
 //! [`Pump::crash`] and [`Pump::recover`] are a host's own events, one stream at a time; [`Pump::renew`] hands in the words of the
 //! next incarnation, and [`Pump::finish`] gives the charges back. After [`Pump::batches`] a start takes as many messages as
 //! wait, up to four, which travel together.
+//!
+//! A host that decides itself what is an event calls no turn. It asks when a stream is due ([`Pump::next_due`], [`Pump::is_due`]), sends again without
+//! an event what was sent before ([`Pump::repeat`]), and delivers, resends or begins a handshake at the stream that it names. Such a pump may count
+//! time at another [`Pace`].
 #![tactic(auto)]
 
 mod agenda;
+mod at_stream;
 mod charges;
 mod division;
 mod fault;
@@ -29,6 +34,7 @@ mod room;
 mod turn;
 mod turned;
 
+pub use amo_window::Pace;
 pub use division::{MAX_PUMPS, divide};
 pub use fault::{DivideFault, NewPumpFault, PumpFault};
 pub use pump::Pump;

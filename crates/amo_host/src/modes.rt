@@ -1,7 +1,7 @@
 //! What the kind of a mode means to a host.
 ghost use Rattle.std.specs.Prelude.{◌≡◌, ◌↔◌, IsTrue};
 ghost use Rattle.amo_host.specs.Modes.{is_open};
-ghost use Rattle.amo_host.specs.Modes.{is_timed};
+ghost use Rattle.amo_host.specs.Modes.{is_timed, waits};
 ghost use Rattle.amo_core.specs.declared.mode.Mode.TheVariants.{Quiet};
 ghost use Rattle.amo_object.specs.declared.step.End.TheVariants.{Sender};
 
@@ -41,4 +41,11 @@ pub(crate) fn is_sender(side: End) -> bool
     ensures { IsTrue result ↔ (side ≡ Sender) }
 {
     matches!(side, End::Sender)
+}
+
+/// Whether a side in this mode waits for its peer.
+pub(crate) fn waits(mode: Mode) -> bool
+    ensures { result ≡ waits mode }
+{
+    matches!(mode, Mode::NeedId | Mode::Send | Mode::Accept | Mode::Ack)
 }

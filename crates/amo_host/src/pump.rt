@@ -8,10 +8,10 @@ ghost use Rattle.amo_book.specs.Drive.{Suits};
 ghost use Rattle.amo_host.specs.declared.turned.Kind.TheVariants as kind;
 ghost use Rattle.amo_host.specs.Charges.{CanBeDriven, IsAtRest, IsOfSide, stream_mode_of};
 ghost use Rattle.amo_host.specs.Handshakes.{open_count};
-ghost use Rattle.amo_host.specs.Host.{IsHost, fresh, streams_of};
+ghost use Rattle.amo_host.specs.Host.{IsHost, paced, streams_of};
 ghost use Rattle.amo_host.specs.Kind.{IsKindOf, IsDownOrUp};
 ghost use Rattle.amo_host.specs.Modes.{MayOpen};
-ghost use Rattle.amo_host.specs.Station.{IsStation, BelongTogether, Begins, Refuses};
+ghost use Rattle.amo_host.specs.Station.{IsStation, BelongTogether, Begins, BeginsPaced, Refuses};
 ghost use Rattle.amo_host.specs.Turn.{Nothing, Performed, GoesDownOrUp};
 
 use crate::agenda::Agenda;
@@ -21,7 +21,7 @@ use crate::{Kind, NewPumpFault, PumpFault, Turned};
 use amo_book::{Book, Charge, Pass};
 use amo_core::Act;
 use amo_packet::MAX_PACKET;
-use amo_window::WindowFault;
+use amo_window::{Pace, WindowFault};
 use amo_word::Words;
 use std::alloc::Global;
 use std::marker::Model;
@@ -61,10 +61,25 @@ impl<W: Words + Drop> Pump<W> {
         ensures begins { IfOk result (Begins charges.items window words) }
         ensures refused { IfErr result (Refuses charges.items window words) }
     {
+        Pump::paced(alloc, charges, window, words, Pace::in_ticks())
+    }
+
+    /// The same, with timers of this pace. Times are of the unit in which it is counted.
+    pub fn paced(
+        alloc: Global,
+        charges: Vec<Charge>,
+        window: usize,
+        words: W,
+        pace: Pace,
+    ) -> Result<Pump<W>, NewPumpFault<W>>
+        requires { Each IsAtRest charges.items }
+        ensures begins { IfOk result (BeginsPaced pace charges.items window words) }
+        ensures refused { IfErr result (Refuses charges.items window words) }
+    {
         if !can_be_driven(&charges, window) {
             return Err(NewPumpFault::Limits(charges, words));
         }
-        match agenda_of(alloc, &charges, window) {
+        match agenda_of(alloc, &charges, window, pace) {
             Ok(agenda) => Ok(Pump {
                 alloc,
                 charges,
@@ -165,7 +180,7 @@ impl<W: Words + Drop> Pump<W> {
 
     // It reaches one field and tells that the pump is still one, so that its callers speak of whole pumps alone.
     /// The place of the charge of this stream.
-    fn place_of(&self, stream: u32) -> Option<usize>
+    pub(crate) fn place_of(&self, stream: u32) -> Option<usize>
         ensures found { IfSome result (λ place. slice_get (streams_of self.now.host.modes) place ≡ Some stream) }
         ensures within { IfSome result (λ place. place < length self.now.charges) }
         ensures absent { IfNone result (¬ (Contains (streams_of self.now.host.modes) stream)) }
@@ -205,14 +220,19 @@ impl<W: Words + Drop> Pump<W> {
 }
 
 /// What a host knows of these charges at first.
-fn agenda_of(alloc: Global, charges: &[Charge], window: usize) -> Result<Agenda, WindowFault>
+fn agenda_of(
+    alloc: Global,
+    charges: &[Charge],
+    window: usize,
+    pace: Pace,
+) -> Result<Agenda, WindowFault>
     requires lawful { CanBeDriven charges.now window }
     requires rest { Each IsAtRest charges.now }
-    ensures begins { IfOk result (λ h. (h ≡ fresh h.side (map stream_mode_of charges.now) window) × IsHost h) }
+    ensures begins { IfOk result (λ h. (h ≡ paced pace h.side (map stream_mode_of charges.now) window) × IsHost h) }
     ensures side { IfOk result (λ h. Each (IsOfSide h.side) charges.now) }
     ensures limits { ¬ (IsErrOf result WindowFault.Limits) }
 {
     let side = charges[0].side();
     let modes = modes_of(alloc, charges)?;
-    Agenda::new(alloc, side, modes, window)
+    Agenda::paced(alloc, side, modes, window, pace)
 }

@@ -3,6 +3,7 @@ ghost use Rattle.std.specs.Prelude.{◌≡◌, ◌≢◌, ◌<◌, ◌+◌, ℕ,
 ghost use Rattle.std.specs.Borrow.{Bor};
 ghost use Rattle.amo_packet.specs.Packet.{packet_of, body_of};
 ghost use Rattle.amo_host.specs.Host.{IsNext, IsFor};
+ghost use Rattle.amo_host.specs.Kind.{start_under};
 ghost use Rattle.amo_host.specs.Station.{IsStation, BelongTogether, moved_past};
 ghost use Rattle.amo_host.specs.Turn.{Turns, TurnsAlone, TurnsWith, Fails, FailsAlone, FailsWith, DeliveryFails, NoEvent, Drew, DrewFor, Lacks, BringsBytes};
 
@@ -67,18 +68,13 @@ impl<W: Words + Drop> Pump<W> {
             Task::Start(place) => {
                 let word = self.draw()?;
                 self.move_past(place);
-                let start = if self.batches {
-                    Act::Batch(word)
-                } else {
-                    Act::Start(word)
-                };
+                let start = self.start_under(word);
                 self.perform(book, pass, now, place, start, out)
             }
         }
     }
 
     /// A turn with a datagram.
-    #[tactic(auto, using(crate::proofs::StationLemmas::short_of_memory))]
     fn turn_with(
         &mut self,
         book: &Book,
@@ -100,14 +96,7 @@ impl<W: Words + Drop> Pump<W> {
             Err(fault) => return Ok(Turned::Unread(fault)),
             Ok(packet) => packet,
         };
-        let Some(place) = self.addressed(&packet) else {
-            return Ok(Turned::Stranger);
-        };
-        let Ok(owned) = packet.copied(self.alloc) else {
-            return Err(PumpFault::NoMemory);
-        };
-        let word = self.word_for(&packet)?;
-        self.perform(book, pass, now, place, Act::Deliver(owned, word), out)
+        self.deliver(book, pass, now, &packet, out)
     }
 
     // Each of these reaches one field and tells that the pump is still one, so that a turn speaks of whole pumps alone.
@@ -121,7 +110,7 @@ impl<W: Words + Drop> Pump<W> {
     }
 
     /// The place of the charge that a packet is for.
-    fn addressed(&self, packet: &Packet<'_>) -> Option<usize>
+    pub(crate) fn addressed(&self, packet: &Packet<'_>) -> Option<usize>
         ensures found { IfSome result (λ place. IsFor self.now.host place (packet_of packet.now)) }
         ensures absent { IfNone result ((place : ℕ) → ¬ (IsFor self.now.host place (packet_of packet.now))) }
         ensures station { IsStation self.now }
@@ -139,7 +128,7 @@ impl<W: Words + Drop> Pump<W> {
     }
 
     /// The next word.
-    fn draw(&mut self) -> Result<u64, PumpFault>
+    pub(crate) fn draw(&mut self) -> Result<u64, PumpFault>
         ensures drawn { IfOk result (Drew W.to_come self.old.words self.new.words) }
         ensures lacks { IfErr result (λ fault. (fault ≡ PumpFault.NoWord) × Lacks W.to_come self.old self.new) }
         ensures rest { self.new ≡ record self.old { words = self.new.words } }
@@ -148,8 +137,19 @@ impl<W: Words + Drop> Pump<W> {
         self.words.next().ok_or(PumpFault::NoWord)
     }
 
+    /// The act that begins a handshake under this word.
+    pub(crate) fn start_under(&self, word: u64) -> Act
+        ensures { result ≡ start_under self.now.batches word }
+    {
+        if self.batches {
+            Act::Batch(word)
+        } else {
+            Act::Start(word)
+        }
+    }
+
     /// The word that a packet is delivered with.
-    fn word_for(&mut self, packet: &Packet<'_>) -> Result<u64, PumpFault>
+    pub(crate) fn word_for(&mut self, packet: &Packet<'_>) -> Result<u64, PumpFault>
         ensures drawn { IfOk result (DrewFor W.to_come (body_of packet.now.body) self.old.words self.new.words) }
         ensures lacks { IfErr result (λ fault. (fault ≡ PumpFault.NoWord) × DeliveryFails W.to_come (body_of packet.now.body) self.old self.new fault) }
         ensures rest { self.new ≡ record self.old { words = self.new.words } }

@@ -1,17 +1,7 @@
-use Rattle.std.proofs.Common.{rules, subst, ap, ◌∙◌}
-use Rattle.amo_window.specs.Timers.{CanBeTimed}
-use Rattle.amo_host.specs.Host.{fresh, streams_of}
-use Rattle.amo_host.proofs.HostLemmas.{fresh_host, same_host}
+use Rattle.std.proofs.Common.{◌≡◌, IfOk, subst}
+use Rattle.amo_window.specs.declared.pace.Pace.{Pace}
+use Rattle.amo_host.specs.Host.{paced}
 use Rattle.amo_host.proofs.agenda.Agenda.new.Goals as goal
 
-pub invariant_of-result : goal.invariant_of-result
-invariant_of-result c =
-    let timed = subst CanBeTimed (c.deref-2.ensures.value ∙ c.in_ok-streams.ensures ∙ ap streams_of c.deref.ensures.value) c.in_ok-timers.ensures.ok.1 in
-    same_host _ (fresh c.args.side c.args.modes.items c.args.window) (search rules)
-    (fresh_host c.args.side c.args.modes.items c.args.window c.requires.some c.requires.rest timed)
-
-pub returns-clause-host : goal.returns-clause-host
-returns-clause-host c =
-    let timed = subst CanBeTimed (c.deref-2.ensures.value ∙ c.in_ok-streams.ensures ∙ ap streams_of c.deref.ensures.value) c.in_ok-timers.ensures.ok.1 in
-    same_host _ (fresh c.args.side c.args.modes.items c.args.window) (search rules)
-    (fresh_host c.args.side c.args.modes.items c.args.window c.requires.some c.requires.rest timed)
+pub returns-clause-ok : goal.returns-clause-ok
+returns-clause-ok c = subst (λ (pace : Pace). IfOk c.paced.result (λ h. h ≡ paced pace c.args.side c.args.modes.items c.args.window)) c.in_ticks.ensures c.paced.ensures.ok
