@@ -1,0 +1,9 @@
+pub mod Beginnings
+pub mod Longest
+pub mod Writers
+pub mod Backs
+pub mod Rolls
+pub mod Tails
+pub mod Parts
+pub mod Shelves
+pub mod Together

@@ -1,0 +1,95 @@
+//! Pieces of a journal in files.
+use crate::Folder;
+use crate::hold::begin_behind;
+use crate::names::{piece_name, sync_names};
+use std::alloc::Global;
+use std::fs::File;
+use std::io::{self, ErrorKind, Write};
+use std::rt::Files;
+use std::{fs, mem};
+
+/// How many numbers are tried for a piece, where files have them.
+const MOST_NUMBERS: u32 = 1000;
+
+/// Pieces of a journal in files of one directory: the newest has the journal's name, and those before it have numbers behind that.
+#[derive(Drop)]
+pub struct Directory<'r, R: Files<File = File>> {
+    rt: &'r R,
+    alloc: Global,
+    path: String,
+    // The highest number of a piece, or 0.
+    highest: u64,
+    newest: File,
+}
+
+impl<'r, R: Files<File = File>> Directory<'r, R> {
+    /// The journal of this name, of which these are the newest piece, which is locked, and the highest number of another one.
+    pub(crate) fn new(
+        rt: &'r R,
+        alloc: Global,
+        path: String,
+        highest: u64,
+        newest: File,
+    ) -> Directory<'r, R> {
+        Directory {
+            rt,
+            alloc,
+            path,
+            highest,
+            newest,
+        }
+    }
+}
+
+impl<R: Files<File = File>> Folder for Directory<'_, R> {
+    ghost use Rattle.std.specs.Prelude.{None};
+
+    ghost pieces = { λ _. None };
+
+    fn append(&mut self, bytes: &[u8]) -> io::Result<usize> {
+        self.newest.write(bytes)
+    }
+
+    fn sync(&mut self) -> io::Result<()> {
+        self.newest.sync_data()
+    }
+
+    fn close(&mut self) -> io::Result<()> {
+        self.highest = give_number(self.rt, self.alloc, self.path.as_str(), self.highest)?;
+        Ok(())
+    }
+
+    /// The file before keeps its lock until the new one has its own: it is closed last.
+    fn begin(&mut self) -> io::Result<()> {
+        let newest = begin_behind(self.rt, self.path.as_str())?;
+        let _closed = mem::replace(&mut self.newest, newest);
+        Ok(())
+    }
+
+    fn sync_names(&mut self) -> io::Result<()> {
+        sync_names(self.rt, self.alloc, self.path.as_str())
+    }
+}
+
+/// Gives the newest piece of a journal a number above this one, which no file has. Answers it.
+fn give_number<R: Files<File = File>>(
+    rt: &R,
+    alloc: Global,
+    path: &str,
+    highest: u64,
+) -> io::Result<u64> {
+    let mut number = highest;
+    'numbers: for _ in 0..MOST_NUMBERS {
+        number = number.saturating_add(1);
+        let name = piece_name(alloc, path, number)?;
+        match fs::symlink_metadata(rt, name.as_str()) {
+            Ok(_) => (),
+            Err(error) if error.kind() == ErrorKind::NotFound => {
+                fs::rename(rt, path, name.as_str())?;
+                return Ok(number);
+            }
+            Err(error) => return Err(error),
+        }
+    }
+    Err(io::Error::from(ErrorKind::AlreadyExists))
+}

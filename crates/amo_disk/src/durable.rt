@@ -1,0 +1,40 @@
+//! Sinks that can be put on their disk.
+ghost use Rattle.std.specs.Prelude.{◌≡◌, ◌+◌, OnOk, OnErr};
+
+use crate::{Cause, Directory, Disk, Roll};
+use amo_text::{Sink, SinkFault};
+use std::fs::File;
+use std::rt::Files;
+use std::sync::ledger::Ledger;
+
+/// A sink that can be put on its disk.
+pub trait Durable: Sink {
+    ghost use Rattle.std.specs.Prelude.{ℕ, List, Option};
+    ghost use Rattle.std.specs.Io.KnownBytes.{Keeps};
+
+    /// What of it a loss of power leaves, where the sink tells that.
+    ghost on_disk: { Self → Option (List ℕ) };
+
+    /// Puts what was written on the disk.
+    ///
+    /// A call that fails is counted once, and says nothing of what is there.
+    fn sync(&mut self) -> Result<(), SinkFault>
+        ensures kept { Keeps (Self.written self.old) (Self.written self.new) }
+        ensures on_disk { OnOk result (on_disk self.new ≡ Self.written self.new) }
+        ensures calm { OnOk result (Self.failures self.new ≡ Self.failures self.old) }
+        ensures failed { OnErr result (Self.failures self.new ≡ Self.failures self.old + 1) };
+}
+
+/// What a loss of power leaves of files nobody tells.
+impl<R: Files<File = File>, L: Ledger> Durable for Disk<'_, Roll<Directory<'_, R>>, L> {
+    ghost use Rattle.std.specs.Prelude.{None};
+
+    ghost on_disk = { λ _. None };
+
+    fn sync(&mut self) -> Result<(), SinkFault> {
+        match self.writer.sync() {
+            Ok(()) => Ok(()),
+            Err(error) => Err(self.failed(Cause::from(error))),
+        }
+    }
+}
