@@ -1,11 +1,11 @@
 -- Where pieces start, and where a line stands by that.
-use Rattle.std.proofs.Common.{◌≡◌, ◌⊎◌, ◌↔◌, Option, Some, None, IfSome, IfNone, inl, inr, ℕ, ◌+◌, ◌-◌, ◌<◌, ◌≤◌, List, [], ◌∷◌, ◌++◌, length, take, get_or, refl, sym, ◌∙◌, ap, subst, arith, length-append, IsTrue}
+use Rattle.std.proofs.Common.{◌≡◌, ◌⊎◌, ◌↔◌, Option, Some, None, IfNone, inl, inr, ℕ, ◌+◌, ◌-◌, ◌<◌, ◌≤◌, List, [], ◌∷◌, ◌++◌, length, take, get_or, refl, sym, ◌∙◌, ap, subst, arith, length-append, IsTrue}
 use Rattle.std.proofs.Math.Seq.{take-append_seam}
 use Rattle.amo_pieces.specs.declared.place.Place.{Place}
 use Rattle.amo_pieces.specs.declared.start.Start.{Start}
 use Rattle.amo_pieces.specs.Journal.{IsWhole}
 use Rattle.amo_pieces.specs.Text.{IsTextOf}
-use Rattle.amo_pieces.specs.Kept.{AreStarts}
+use Rattle.amo_pieces.specs.Kept.{AreStarts, TellsOf}
 use Rattle.amo_pieces.specs.Places.{IsAt, BeginsBehind, ends_in}
 
 get_last : (xs : List Start) (a d : Start) → get_or (xs ++ a ∷ []) (length xs) d ≡ a
@@ -54,7 +54,7 @@ not_behind line front last start same goes_on ends not (whole, less) =
     not (subst (λ (s : Start). IsTrue s.goes_on) (sym same) (goes_on.1 whole), omega (arith, from, ends, less))
 
 -- it begins before
-pub begins_before : (line : ℕ) (starts : List Start) (last : Start) (place : Place) → last ≡ get_or starts (length starts - 1) last → 1 ≤ length starts → ¬ (IsTrue last.goes_on × (last.ends < line))
+begins_before : (line : ℕ) (starts : List Start) (last : Start) (place : Place) → last ≡ get_or starts (length starts - 1) last → 1 ≤ length starts → ¬ (IsTrue last.goes_on × (last.ends < line))
     → ((pieces : List (List ℕ)) → AreStarts (take (length starts - 1) starts) pieces → IsAt pieces line place) → (pieces : List (List ℕ)) → AreStarts starts pieces → IsAt pieces line place
 begins_before line starts last place is some not again [] are = absurd (let none = ap length are in let no : ⊥ = omega (arith, none, some) in no)
 begins_before line starts last place is some not again (piece ∷ earlier) (front, text, before, start, told, joins, goes_on, ends, are, e) =
@@ -71,7 +71,7 @@ none_left line front last start earlier not told (inl zero) = zero
 none_left line front last start [] not told (inr none) = first_line line (λ some. not (inl told, rw told some))
 none_left line front last start (piece ∷ earlier) not told (inr none) = cc
 
-pub begins_nowhere : (line : ℕ) (starts : List Start) (last : Start) → last ≡ get_or starts (length starts - 1) last → 1 ≤ length starts → ¬ (IsTrue last.goes_on × (last.ends < line))
+begins_nowhere : (line : ℕ) (starts : List Start) (last : Start) → last ≡ get_or starts (length starts - 1) last → 1 ≤ length starts → ¬ (IsTrue last.goes_on × (last.ends < line))
     → ((pieces : List (List ℕ)) → AreStarts (take (length starts - 1) starts) pieces → (line ≡ 0) ⊎ (pieces ≡ [])) → (pieces : List (List ℕ)) → AreStarts starts pieces → (line ≡ 0) ⊎ (pieces ≡ [])
 begins_nowhere line starts last is some not again [] are = inr refl
 begins_nowhere line starts last is some not again (piece ∷ earlier) (front, text, before, start, told, joins, goes_on, ends, are, e) =
@@ -79,9 +79,16 @@ begins_nowhere line starts last is some not again (piece ∷ earlier) (front, te
     let left = again earlier (subst (λ (s : List Start). AreStarts s earlier) (sym (front_is starts before start e)) are) in
     inl (none_left line front last start earlier (not_behind line front last start same goes_on ends not) told left)
 
-pub some_weaker : {X : Type 0} (o : Option X) (P Q : X → Type 0) → ((x : X) → P x → Q x) → IfSome o P → IfSome o Q
-some_weaker None P Q f h = tt
-some_weaker (Some x) P Q f h = f x h
+-- all of them tell of the line, and all but the last where it does not begin behind that
+pub tells_of_all : (line : ℕ) (starts : List Start) → TellsOf line starts starts
+tells_of_all line starts = record { found = λ place same. same; none = λ same. same }
+
+pub tells_of_fewer : (line : ℕ) (starts first : List Start) (last : Start) → last ≡ get_or first (length first - 1) last → 1 ≤ length first → ¬ (IsTrue last.goes_on × (last.ends < line))
+    → TellsOf line starts first → TellsOf line starts (take (length first - 1) first)
+tells_of_fewer line starts first last is some not tells = record {
+  found = λ place again. tells.found place (begins_before line first last place is some not again);
+  none = λ again. tells.none (begins_nowhere line first last is some not again);
+}
 
 pub none_weaker : {X : Type 0} (o : Option X) (P Q : Type 0) → (P → Q) → IfNone o P → IfNone o Q
 none_weaker None P Q f h = f h

@@ -19,14 +19,15 @@ pub(crate) fn place_in(starts: &[Start], line: usize) -> Option<Place>
     ensures found { IfSome result (λ place. (pieces : List (List ℕ)) → AreStarts starts.now pieces → IsAt pieces line place) }
     ensures none { IfNone result ((pieces : List (List ℕ)) → AreStarts starts.now pieces → (line ≡ 0) ⊎ (pieces ≡ [])) }
 {
-    let [earlier @ .., start] = starts else {
-        return None;
-    };
-    if start.is_before(line) {
-        return Some(Place {
-            piece: earlier.len(),
-            line: line - start.ends + start.left_out,
-        });
+    let mut rest = starts;
+    'starts: while let [earlier @ .., start] = rest {
+        if start.is_before(line) {
+            return Some(Place {
+                piece: earlier.len(),
+                line: line - start.ends + start.left_out,
+            });
+        }
+        rest = earlier;
     }
-    place_in(earlier, line)
+    None
 }
