@@ -3,3 +3,4 @@ pub mod Outcome
 pub mod Places
 pub mod Follower
 pub mod Told
+pub mod Followers

@@ -19,14 +19,17 @@
 //! The queue in doubt of [`amo_world`] answers another question. There a message stays listed, in doubt, while a handshake still names
 //! it, though its identifier died with a receiver; here it is gone.
 //!
-//! A follower of each stream keeps both automata, and of the puts only those that are open, some twenty at most, and whether each was got.
+//! [`Followers`] tells the same of events that come one by one. It keeps none of them: of each stream both automata, and of the puts only
+//! those that are open, some twenty at most, and whether each was got.
 #![tactic(auto)]
 
 mod follower;
+mod followers;
 pub mod laws;
 mod outcome;
 mod places;
 mod telling;
 
+pub use followers::Followers;
 pub use outcome::Outcome;
 pub use telling::outcomes;

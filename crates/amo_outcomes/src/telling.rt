@@ -26,7 +26,7 @@ pub fn outcomes(alloc: Global, events: &[Event]) -> Result<Vec<Vec<Outcome>>, No
 }
 
 /// What followers tell, in their order.
-fn tell(alloc: Global, followers: &[Follower]) -> Result<Vec<Vec<Outcome>>, AllocError>
+pub(crate) fn tell(alloc: Global, followers: &[Follower]) -> Result<Vec<Vec<Outcome>>, AllocError>
     ensures { IfOk result (λ all. (past : List Event) → IsRight past → IsHonest past → IsFresh past → AreFollowed followers.now past
         → StreamsTold past 256 (map (λ told. told.items) all.items)) }
 {
@@ -53,11 +53,12 @@ fn followed(alloc: Global, events: &[Event]) -> Result<Vec<Follower>, AllocError
 }
 
 /// One event more.
-fn follow(followers: &mut Vec<Follower>, event: &Event) -> Result<(), AllocError>
+pub(crate) fn follow(followers: &mut Vec<Follower>, event: &Event) -> Result<(), AllocError>
     requires stream { IsStream event.now.stream }
     requires followers { length followers.old.items ≡ 256 }
-    ensures { IfOk result (λ _. (past : List Event) → IsRight (event.now ∷ past) → IsHonest (event.now ∷ past) → IsFresh (event.now ∷ past)
+    ensures followed { IfOk result (λ _. (past : List Event) → IsRight (event.now ∷ past) → IsHonest (event.now ∷ past) → IsFresh (event.now ∷ past)
         → AreFollowed followers.old.items past → AreFollowed followers.new.items (event.now ∷ past)) }
+    ensures count { length followers.new.items ≡ 256 }
 {
     let follower = &mut followers[event.stream as usize - 1];
     follower.follow(event)?;
@@ -65,7 +66,7 @@ fn follow(followers: &mut Vec<Follower>, event: &Event) -> Result<(), AllocError
 }
 
 /// A follower of each stream of hosts where nothing happened, that of stream 1 first.
-fn nothing_followed(alloc: Global) -> Result<Vec<Follower>, AllocError>
+pub(crate) fn nothing_followed(alloc: Global) -> Result<Vec<Follower>, AllocError>
     ensures { IfOk result (λ followers. AreFollowed followers.items []) }
 {
     let mut followers = Vec::with_capacity(alloc, STREAMS as usize)?;
