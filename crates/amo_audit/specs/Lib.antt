@@ -11,3 +11,4 @@ pub mod Judgement
 pub mod Merging
 pub mod Report
 pub mod Explanation
+pub mod Outcomes

@@ -7,7 +7,7 @@ use amo_journal::Version;
 
 /// What is found of one journal, or of two.
 #[derive(Clone, Copy, Debug, PartialEq, Eq)]
-pub(crate) enum Judgement {
+pub enum Judgement {
     /// Of the one journal, or of the events of both, merged.
     Whole(Verdict),
     /// The first of two is no journal.
@@ -42,7 +42,7 @@ impl Judgement {
     }
 
     /// The exit status: that of the verdict, else 2 where both have events of a side, and 3 where they do not merge.
-    pub(crate) fn status(&self) -> u8
+    pub fn status(&self) -> u8
         ensures { result ≡ judgement_status self.now }
     {
         match self {

@@ -1,5 +1,5 @@
 //! The judgement of one journal, or of two that are merged.
-ghost use Rattle.std.specs.Prelude.{IfOk};
+ghost use Rattle.std.specs.Prelude.{◌≢◌, IfErr, IfOk, OnOk};
 ghost use Rattle.amo_audit.specs.Judgement.{AreApart, JudgesBoth, JudgesFiles, JudgesTwo, OfBoth};
 
 use crate::auditor::Auditor;
@@ -37,21 +37,36 @@ fn judge_both(alloc: Global, first: &[u8], second: &[u8]) -> Judgement
 fn judge_lines(alloc: Global, first: Lines<'_>, second: Lines<'_>) -> Judgement
     ensures { JudgesTwo first.entry second.entry result }
 {
-    let ours = match sides_of(alloc, first) {
-        Ok(sides) => sides,
-        Err(verdict) => return Judgement::First(verdict),
-    };
-    let theirs = match sides_of(alloc, second) {
-        Ok(sides) => sides,
-        Err(verdict) => return Judgement::Second(verdict),
-    };
-    if ours.meets(&theirs) {
-        return Judgement::Shared;
+    if let Err(judgement) = check_apart(alloc, first, second) {
+        return judgement;
     }
     match judge_merged(alloc, first, second) {
         Ok(judgement) => judgement,
         Err(NoMemory) => Judgement::Whole(Verdict::NoMemory),
     }
+}
+
+/// Sees that the lines of two journals tell of events, and have no side in common.
+pub(crate) fn check_apart(
+    alloc: Global,
+    first: Lines<'_>,
+    second: Lines<'_>,
+) -> Result<(), Judgement>
+    ensures apart { OnOk result (OfBoth first.entry second.entry AreApart) }
+    ensures judged { IfErr result (λ judgement. JudgesTwo first.entry second.entry judgement × (judgement ≢ Judgement.Whole Verdict.Yes)) }
+{
+    let ours = match sides_of(alloc, first) {
+        Ok(sides) => sides,
+        Err(verdict) => return Err(Judgement::First(verdict)),
+    };
+    let theirs = match sides_of(alloc, second) {
+        Ok(sides) => sides,
+        Err(verdict) => return Err(Judgement::Second(verdict)),
+    };
+    if ours.meets(&theirs) {
+        return Err(Judgement::Shared);
+    }
+    Ok(())
 }
 
 /// Merges the events of two journals and judges them. Only where an event is at fault is more kept than a world: it goes no further.

@@ -7,6 +7,8 @@
 //! - [`report`] writes the line that tells what is found of a journal, or of two that are merged, and answers the exit status.
 //! - [`explain`] writes, of a journal that is judged yes, the run of the at-most-once queue that its clients saw of each stream; of
 //!   other bytes it answers the verdict, which [`tell`] writes.
+//! - [`outcomes_of`] tells what became of each put of two journals that are judged yes; of others it answers what is found, as
+//!   [`tell_judgement`] writes it.
 //! - [`merge`] makes one list of the events of two hosts, in the preferred interleaving: at each place the first list's next
 //!   event, unless it delivers a packet that was not emitted yet, else the second's. Otherwise a side of a stream has events
 //!   in both lists, or no interleaving is honest.
@@ -35,6 +37,7 @@ pub mod laws;
 mod marking;
 mod merge_fault;
 mod merging;
+mod outcomes;
 mod reading;
 mod reporting;
 mod side;
@@ -46,7 +49,9 @@ pub use amo_journal::JournalFault;
 pub use amo_text::{Out, Sink};
 pub use auditing::audit;
 pub use explaining::explain;
+pub use judgement::Judgement;
 pub use merge_fault::MergeFault;
 pub use merging::merge;
-pub use reporting::{report, tell};
+pub use outcomes::outcomes_of;
+pub use reporting::{report, tell, tell_judgement};
 pub use verdict::Verdict;

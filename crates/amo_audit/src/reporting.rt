@@ -38,7 +38,7 @@ pub fn report<W: Sink>(
     ensures faults { IfErr result (λ fault. (fault ≡ JournalFault.NoMemory) ⊎ (fault ≡ JournalFault.Device)) }
     ensures device { IsErrOf result JournalFault.Device ↔ (W.failures sink.old < W.failures sink.new) }
 {
-    write_judgement(alloc, judge(alloc, first, second), sink)
+    tell_judgement(alloc, judge(alloc, first, second), sink)
 }
 
 /// Writes the line that tells a verdict, and answers the exit status, as [`report`] does.
@@ -50,11 +50,11 @@ pub fn tell<W: Sink>(alloc: Global, verdict: Verdict, sink: &mut W) -> Result<u8
     ensures faults { IfErr result (λ fault. (fault ≡ JournalFault.NoMemory) ⊎ (fault ≡ JournalFault.Device)) }
     ensures device { IsErrOf result JournalFault.Device ↔ (W.failures sink.old < W.failures sink.new) }
 {
-    write_judgement(alloc, Judgement::Whole(verdict), sink)
+    tell_judgement(alloc, Judgement::Whole(verdict), sink)
 }
 
-/// Writes the line that tells what was found, and answers the exit status; for want of memory there is neither.
-fn write_judgement<W: Sink>(
+/// Writes the line that tells what was found, and answers the exit status, as [`report`] does.
+pub fn tell_judgement<W: Sink>(
     alloc: Global,
     judgement: Judgement,
     sink: &mut W,
