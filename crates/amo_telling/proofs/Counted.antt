@@ -1,0 +1,119 @@
+-- How many puts were taken.
+use Rattle.std.proofs.Common.{◌≡◌, ◌∙◌, ℕ, ◌+◌, ◌≤◌, Bool, true, false, List, [], ◌∷◌, ◌++◌, length, length-append, reverse, refl, sym, ap, arith, inl, inr}
+use Rattle.std.specs.Prelude.{◌==◌, ◌&&◌}
+use Rattle.std.specs.Option.{option_to_list}
+use Rattle.std.proofs.lemmas.List.{reverse-append}
+use Rattle.std.proofs.lemmas.List.Elements.{filter_map-append}
+use Rattle.amo_object.specs.declared.step.End.{End}
+use Rattle.amo_object.specs.declared.step.Step.{Step}
+use Rattle.amo_object.specs.Delivery.{message_put, messages_put}
+use Rattle.amo_core.specs.declared.act.Act.{Act}
+use Rattle.amo_core.specs.declared.act.Act.TheVariants as act
+use Rattle.amo_core.specs.declared.reply.Reply.{Reply}
+use Rattle.amo_core.specs.declared.reply.Reply.TheVariants as reply
+use Rattle.amo_world.specs.declared.event.Event.{Event}
+use Rattle.amo_world.specs.Served.{call_of, calls, calls_and}
+use Rattle.amo_outcomes.specs.Puts.{puts_after}
+use Rattle.amo_outcomes.proofs.Histories.{told}
+use Rattle.amo_audit.specs.Audit.{IsSound}
+use Rattle.amo_audit.specs.Merge.{Interleaves}
+use Rattle.amo_telling.specs.Outcomes.{is_put, one_if, puts_in}
+
+-- a call puts a message where it is a put that was taken
+call_puts : (side : End) (a : Act) (r : Reply) → length (messages_put (option_to_list (call_of side a r))) ≡ one_if (is_put a r)
+call_puts side (act.Put m) reply.Ok = refl
+call_puts side (act.Put m) reply.Full = refl
+call_puts side (act.Put m) reply.Down = refl
+call_puts side (act.Put m) (reply.Got got) = refl
+call_puts side (act.Put m) reply.Nothing = refl
+call_puts side (act.Put m) reply.Yes = refl
+call_puts side (act.Put m) reply.No = refl
+call_puts side (act.Put m) reply.NotYet = refl
+call_puts side (act.Put m) reply.Done = refl
+call_puts side act.Get reply.Ok = refl
+call_puts side act.Get reply.Full = refl
+call_puts side act.Get reply.Down = refl
+call_puts side act.Get (reply.Got got) = refl
+call_puts side act.Get reply.Nothing = refl
+call_puts side act.Get reply.Yes = refl
+call_puts side act.Get reply.No = refl
+call_puts side act.Get reply.NotYet = refl
+call_puts side act.Get reply.Done = refl
+call_puts side act.Ack reply.Ok = refl
+call_puts side act.Ack reply.Full = refl
+call_puts side act.Ack reply.Down = refl
+call_puts side act.Ack (reply.Got got) = refl
+call_puts side act.Ack reply.Nothing = refl
+call_puts side act.Ack reply.Yes = refl
+call_puts side act.Ack reply.No = refl
+call_puts side act.Ack reply.NotYet = refl
+call_puts side act.Ack reply.Done = refl
+call_puts side (act.Start word) r = refl
+call_puts side (act.Batch word) r = refl
+call_puts side act.Resend r = refl
+call_puts side (act.Deliver packet word) r = refl
+call_puts side act.Crash r = refl
+call_puts side act.Recover r = refl
+
+-- the messages that a stream's calls put are as many as its puts
+calls_puts : (number : ℕ) (past : List Event) → length (messages_put (calls number past)) ≡ puts_in number past
+calls_puts number [] = refl
+calls_puts number (e ∷ past) = more (number == e.stream) (calls_puts number past)
+  where
+    more : (own : Bool) → length (messages_put (calls number past)) ≡ puts_in number past → length (messages_put (calls_and own (calls number past) e)) ≡ puts_in number past + one_if (own && is_put e.act e.reply)
+    more true before =
+        let call = option_to_list (call_of e.side e.act e.reply) in
+        let both = ap length (filter_map-append message_put (calls number past) call) ∙ length-append (messages_put (calls number past)) (messages_put call) in
+        let one = call_puts e.side e.act e.reply in
+        omega (arith, both, before, one)
+    more false before = omega (arith, before)
+
+puts_append : (number : ℕ) (xs ys : List Event) → puts_in number (xs ++ ys) ≡ puts_in number xs + puts_in number ys
+puts_append number [] ys = omega arith
+puts_append number (e ∷ xs) ys = let rest = puts_append number xs ys in omega (arith, rest)
+
+puts_reverse : (number : ℕ) (xs : List Event) → puts_in number (reverse xs) ≡ puts_in number xs
+puts_reverse number [] = refl
+puts_reverse number (e ∷ xs) =
+    let turned = ap (puts_in number) (reverse-append (e ∷ []) xs) in
+    let both = puts_append number (reverse xs) (e ∷ []) in
+    let rest = puts_reverse number xs in
+    omega (arith, turned, both, rest)
+
+-- an interleaving has the puts of both lists
+puts_interleave : (number : ℕ) (x y merged : List Event) → Interleaves x y merged → puts_in number merged ≡ puts_in number x + puts_in number y
+puts_interleave number x y [] both =
+    let p = ap (puts_in number) both.0 in
+    let q = ap (puts_in number) both.1 in
+    omega (arith, p, q)
+puts_interleave number x y (e ∷ merged) (inl (rest, is, more)) =
+    let p = ap (puts_in number) is in
+    let all = puts_interleave number rest y merged more in
+    omega (arith, p, all)
+puts_interleave number x y (e ∷ merged) (inr (rest, is, more)) =
+    let p = ap (puts_in number) is in
+    let all = puts_interleave number x rest merged more in
+    omega (arith, p, all)
+
+-- a merged history took as many puts as both journals tell of
+pub puts_of_both : (number : ℕ) (x y merged : List Event) → Interleaves x y merged → IsSound (reverse merged)
+    → (puts_after number (reverse merged)).count ≡ puts_in number x + puts_in number y
+puts_of_both number x y merged inter sound =
+    let count = (told number (reverse merged) sound.0 sound.1 sound.2).ties.count in
+    let calls = calls_puts number (reverse merged) in
+    let turned = puts_reverse number merged in
+    let all = puts_interleave number x y merged inter in
+    omega (arith, count, calls, turned, all)
+
+-- a put is an event
+pub few_puts : (number : ℕ) (events : List Event) → puts_in number events ≤ length events
+few_puts number [] = omega arith
+few_puts number (e ∷ events) = let rest = few_puts number events in let one = at_most ((number == e.stream) && is_put e.act e.reply) in omega (arith, rest, one)
+  where
+    at_most : (b : Bool) → one_if b ≤ 1
+    at_most true = omega arith
+    at_most false = omega arith
+
+-- one event more in the order of time
+pub turned_more : (events : List Event) (e : Event) → reverse (events ++ e ∷ []) ≡ e ∷ reverse events
+turned_more events e = reverse-append events (e ∷ [])

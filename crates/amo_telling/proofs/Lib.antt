@@ -1,0 +1,4 @@
+pub mod Counted
+pub mod Telling
+pub mod SoFar
+pub mod Journals

@@ -1,0 +1,5 @@
+pub mod Shown
+pub mod Outcomes
+pub mod Told
+pub mod Got
+pub mod Gets

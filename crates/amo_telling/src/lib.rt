@@ -1,0 +1,26 @@
+//! What journals tell of messages: what became of each that was put, and which were got.
+//! It opens no file. What a journal is stands in `amo_journal`, and `amo_audit` judges whether it can have happened.
+//!
+//! - [`tell_outcomes`] writes, of two journals whose audit is a yes, a line for each put that was taken: its number, its stream, whether it
+//!   was got, is gone or is open, and its message. [`Choice`] tells which of them are written. Of others it answers what the audit finds.
+//! - [`tell_got`] writes, of a receiver's journal, a line for each message that a get answered, as far as it reads; [`Reading`] is how far
+//!   that was.
+//!
+//! The number is that of the line in its journal, as it stands there in front. So it stays the same while a journal goes on, and an
+//! application may keep it beside its own work. A message is spelt as `amo receive` shows it, or as a member of a JSON object.
+//!
+//! A text is made whole, and then written. Of outcomes the events of one journal lie in memory at a time, once both were judged.
+//!
+//! Lines are defined in `specs/Shown.antt`, what is told of puts in `specs/Outcomes.antt`, and of gets in `specs/Got.antt`.
+#![tactic(auto)]
+
+mod choice;
+mod got;
+mod outcomes;
+mod reading;
+mod shown;
+
+pub use choice::Choice;
+pub use got::tell_got;
+pub use outcomes::tell_outcomes;
+pub use reading::Reading;

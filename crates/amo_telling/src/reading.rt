@@ -1,0 +1,31 @@
+//! How far a receiver's journal was read.
+
+/// How far a receiver's journal was read. Lines count from 1.
+#[derive(Clone, Copy, Debug, PartialEq, Eq)]
+pub enum Reading {
+    /// To its end, but for a last line that has no end yet.
+    Whole,
+    /// This line is malformed, and all in front of it read.
+    Malformed(usize),
+    /// This line's number is not how many events are before it, as those in front of it have.
+    Gap(usize),
+    /// To its end, and each event is one of a sender.
+    OfSender,
+}
+
+impl Reading {
+    ghost use Rattle.std.specs.Prelude.{◌≡◌, ◌+◌, ◌<◌, ◌^◌};
+    ghost use Rattle.amo_telling.specs.Got.{further, line_named};
+
+    /// The same, where so many lines more stand in front of the line that it names.
+    pub(crate) fn further(self, lines: usize) -> Reading
+        requires { line_named self + lines < 2 ^ 64 }
+        ensures { result ≡ further lines self }
+    {
+        match self {
+            Reading::Malformed(line) => Reading::Malformed(line + lines),
+            Reading::Gap(line) => Reading::Gap(line + lines),
+            other => other,
+        }
+    }
+}

@@ -1,0 +1,180 @@
+//! The lines that are written.
+ghost use Rattle.std.specs.Prelude.{◌≡◌, ◌++◌, OnOk};
+ghost use Rattle.std.specs.List.{flat_map, list_any};
+ghost use Rattle.std.specs.Str.{chars};
+ghost use Rattle.amo_telling.specs.Shown.{escaped, event_shown, got_line, hex_shown, is_hidden, is_text, line_end, line_front, message_shown, outcome_line, outcome_text, text_shown};
+
+use amo_outcomes::Outcome;
+use amo_text::{push_decimal, push_hex};
+use std::alloc::AllocError;
+use std::str;
+
+/// Appends the line of a message that was got.
+pub(crate) fn push_got(
+    text: &mut Vec<u8>,
+    number: u64,
+    stream: u32,
+    message: &[u8],
+    json: bool,
+) -> Result<(), AllocError>
+    ensures { OnOk result (text.new.items ≡ text.old.items ++ got_line json number stream message.now) }
+{
+    push_front(text, number, stream, json)?;
+    push_event(text, json)?;
+    push_end(text, message, json)
+}
+
+/// Appends what happened, which a line of fields leaves out.
+fn push_event(text: &mut Vec<u8>, json: bool) -> Result<(), AllocError>
+    ensures { OnOk result (text.new.items ≡ text.old.items ++ event_shown json) }
+{
+    if json {
+        text.extend_from_slice(b"\"event\":\"got\",")
+    } else {
+        Ok(())
+    }
+}
+
+/// Appends the line of a message that was put.
+pub(crate) fn push_outcome(
+    text: &mut Vec<u8>,
+    number: u64,
+    stream: u32,
+    outcome: Outcome,
+    message: &[u8],
+    json: bool,
+) -> Result<(), AllocError>
+    ensures { OnOk result (text.new.items ≡ text.old.items ++ outcome_line json number stream outcome message.now) }
+{
+    push_front(text, number, stream, json)?;
+    if json {
+        text.extend_from_slice(b"\"outcome\":\"")?;
+        text.extend_from_slice(word_of(outcome).as_bytes())?;
+        text.extend_from_slice(b"\",")?;
+    } else {
+        text.extend_from_slice(word_of(outcome).as_bytes())?;
+        text.extend_from_slice(b" ")?;
+    }
+    push_end(text, message, json)
+}
+
+/// The word for an outcome.
+fn word_of(outcome: Outcome) -> &'static str
+    ensures { result.now ≡ outcome_text outcome }
+{
+    match outcome {
+        Outcome::Got => "got",
+        Outcome::Gone => "gone",
+        Outcome::Open => "open",
+    }
+}
+
+/// Appends the number and the stream of a line.
+fn push_front(text: &mut Vec<u8>, number: u64, stream: u32, json: bool) -> Result<(), AllocError>
+    ensures { OnOk result (text.new.items ≡ text.old.items ++ line_front json number stream) }
+{
+    if json {
+        text.extend_from_slice(b"{\"number\":")?;
+        push_decimal(text, number)?;
+        text.extend_from_slice(b",\"stream\":")?;
+        push_decimal(text, stream as u64)?;
+        text.extend_from_slice(b",")
+    } else {
+        push_decimal(text, number)?;
+        text.extend_from_slice(b" ")?;
+        push_decimal(text, stream as u64)?;
+        text.extend_from_slice(b" ")
+    }
+}
+
+/// Appends the message of a line, and the line's end.
+fn push_end(text: &mut Vec<u8>, message: &[u8], json: bool) -> Result<(), AllocError>
+    ensures { OnOk result (text.new.items ≡ text.old.items ++ line_end json message.now) }
+{
+    push_shown(text, message, json)?;
+    if json {
+        text.extend_from_slice(b"}\n")
+    } else {
+        text.extend_from_slice(b"\n")
+    }
+}
+
+/// Appends a message: its text, or its bytes in HEX where they are none, or one that a terminal would not just show.
+fn push_shown(text: &mut Vec<u8>, message: &[u8], json: bool) -> Result<(), AllocError>
+    ensures { OnOk result (text.new.items ≡ text.old.items ++ message_shown json message.now) }
+{
+    if is_text(message, json) {
+        push_text(text, message, json)
+    } else {
+        push_bytes(text, message, json)
+    }
+}
+
+/// Appends a message as a text.
+fn push_text(text: &mut Vec<u8>, message: &[u8], json: bool) -> Result<(), AllocError>
+    ensures { OnOk result (text.new.items ≡ text.old.items ++ text_shown json message.now) }
+{
+    if json {
+        text.extend_from_slice(b"\"text\":\"")?;
+        push_escaped(text, message)?;
+        text.extend_from_slice(b"\"")
+    } else {
+        text.extend_from_slice(message)
+    }
+}
+
+/// Appends a message in HEX.
+fn push_bytes(text: &mut Vec<u8>, message: &[u8], json: bool) -> Result<(), AllocError>
+    ensures { OnOk result (text.new.items ≡ text.old.items ++ hex_shown json message.now) }
+{
+    if json {
+        text.extend_from_slice(b"\"hex\":\"")?;
+        push_hex(text, message)?;
+        text.extend_from_slice(b"\"")
+    } else {
+        text.extend_from_slice(b"0x")?;
+        push_hex(text, message)
+    }
+}
+
+/// Appends the bytes of a text, as an object spells them.
+fn push_escaped(shown: &mut Vec<u8>, text: &[u8]) -> Result<(), AllocError>
+    ensures { OnOk result (shown.new.items ≡ shown.old.items ++ flat_map escaped text.now) }
+{
+    for byte in text {
+        if *byte == b'"' || *byte == b'\\' {
+            shown.push(b'\\')?;
+        }
+        shown.push(*byte)?;
+    }
+    Ok(())
+}
+
+/// Whether a message is shown as a text: it is UTF-8, and each of its characters is shown as it is.
+fn is_text(bytes: &[u8], json: bool) -> bool
+    ensures { result ≡ is_text json bytes.now }
+{
+    match str::from_utf8(bytes) {
+        Ok(text) => !has_hidden(text, json),
+        Err(_) => false,
+    }
+}
+
+/// Whether a text has a character that is not shown as it is.
+fn has_hidden(text: &str, json: bool) -> bool
+    ensures { result ≡ list_any (is_hidden json) (chars text.now) }
+{
+    text.chars().any(|character| is_hidden(character, json))
+}
+
+/// Whether a character is not shown as it is. A terminal obeys control characters, so a line has none but tabs. In an object those of one byte would
+/// have to be escaped, and a tab is one of them.
+fn is_hidden(character: char, json: bool) -> bool
+    ensures { result ≡ is_hidden json character }
+{
+    if json {
+        character.is_ascii_control()
+    } else {
+        character.is_control() && character != '\t'
+    }
+}
