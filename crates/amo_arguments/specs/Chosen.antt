@@ -10,11 +10,13 @@ use Rattle.amo_settings.specs.declared.run.LinkKind.{LinkKind}
 use Rattle.amo_settings.specs.declared.run.LinkKind.TheVariants.{Memory, Udp}
 use Rattle.amo_settings.specs.declared.run.RunSettings.{RunSettings}
 use Rattle.amo_arguments.specs.Commands.{Names, AreLinks, AreShells, amo}
+use Rattle.amo_settings.specs.declared.settings.GotSettings.{GotSettings}
 use Rattle.amo_settings.specs.declared.settings.HostSettings.{HostSettings}
+use Rattle.amo_settings.specs.declared.settings.OutcomesSettings.{OutcomesSettings}
 use Rattle.amo_settings.specs.declared.settings.ReceiveSettings.{ReceiveSettings}
 use Rattle.amo_settings.specs.declared.settings.SendSettings.{SendSettings}
 use Rattle.amo_settings.specs.declared.settings.Settings.{Settings}
-use Rattle.amo_settings.specs.declared.settings.Settings.TheVariants.{Replay, Run, Send, Receive, Audit, Explain, Manual, Completions}
+use Rattle.amo_settings.specs.declared.settings.Settings.TheVariants.{Replay, Run, Send, Receive, Audit, Explain, Outcomes, Got, Manual, Completions}
 use Rattle.amo_settings.specs.declared.settings.Shell.{Shell}
 use Rattle.amo_settings.specs.declared.settings.Shell.TheVariants.{Bash, Zsh, Fish}
 
@@ -121,6 +123,20 @@ pub record HasReceive (rows : List Row) (receive : ReceiveSettings) : Type 0 whe
   pub count : HasNumberOrNone rows (codes "count") receive.count
   pub some : IfSome receive.count (λ count. 1 ≤ count)
 
+-- the matches of `outcomes` have these values, of which the second file is one
+pub record HasOutcomes (rows : List Row) (settings : OutcomesSettings) : Type 0 where
+  pub first : HasText rows (codes "FILE") (string_bytes settings.first)
+  pub second : HasText rows (codes "SECOND") (string_bytes settings.second)
+  pub open_is : HasFlag rows (codes "open") settings.open
+  pub gone : HasFlag rows (codes "gone") settings.gone
+  pub json : HasFlag rows (codes "json") settings.json
+
+-- the matches of `got` have these values
+pub record HasGot (rows : List Row) (settings : GotSettings) : Type 0 where
+  pub file : HasText rows (codes "FILE") (string_bytes settings.file)
+  pub after : HasNumberOrNone rows (codes "after") settings.after
+  pub json : HasFlag rows (codes "json") settings.json
+
 -- a command is met that chooses these settings
 abbrev pub ChoosesBy : Met → Settings → Type 0
 ChoosesBy met (Replay file) = (rows : List Row) × (met ≡ Some (codes "replay", rows)) × HasText rows (codes "FILE") (string_bytes file)
@@ -130,6 +146,8 @@ ChoosesBy met (Receive receive) = (rows : List Row) × (met ≡ Some (codes "rec
 ChoosesBy met (Audit file second) = (rows : List Row) × (met ≡ Some (codes "audit", rows))
     × HasText rows (codes "FILE") (string_bytes file) × HasTextOrNone rows (codes "SECOND") (option_map string_bytes second)
 ChoosesBy met (Explain file) = (rows : List Row) × (met ≡ Some (codes "explain", rows)) × HasText rows (codes "FILE") (string_bytes file)
+ChoosesBy met (Outcomes settings) = (rows : List Row) × (met ≡ Some (codes "outcomes", rows)) × HasOutcomes rows settings
+ChoosesBy met (Got settings) = (rows : List Row) × (met ≡ Some (codes "got", rows)) × HasGot rows settings
 ChoosesBy met Manual = (rows : List Row) × (met ≡ Some (codes "man", rows))
 ChoosesBy met (Completions shell) = (rows : List Row) × (met ≡ Some (codes "completions", rows)) × HasText rows (codes "SHELL") (shell_name shell)
 

@@ -94,6 +94,12 @@ audit = with_rule (with_rule (new_app (codes "audit")) file) second_file
 abbrev pub explain : App
 explain = with_rule (new_app (codes "explain")) file
 
+abbrev pub outcomes : App
+outcomes = with_rule (with_rule (with_rule (with_rule (with_rule (new_app (codes "outcomes")) file) second_file) (flag (codes "open"))) (flag (codes "gone"))) (flag (codes "json"))
+
+abbrev pub got : App
+got = with_rule (with_rule (with_rule (new_app (codes "got")) file) (optional_number (codes "after") 0 18446744073709551615)) (flag (codes "json"))
+
 abbrev pub manual : App
 manual = new_app (codes "man")
 
@@ -104,11 +110,14 @@ completions shells = with_rule (new_app (codes "completions")) (shell shells)
 abbrev pub bare : App
 bare = let app = new_app (codes "amo") in record app { top = record app.top { has_version = true; subcommand_required = true; arg_required_else_help = true } }
 
-abbrev pub before_audit : Names → App
-before_audit links = with_subcommand (with_subcommand (with_subcommand (with_subcommand bare replay.top) (run links).top) send.top) receive.top
+abbrev pub acting : Names → App
+acting links = with_subcommand (with_subcommand (with_subcommand (with_subcommand bare replay.top) (run links).top) send.top) receive.top
+
+abbrev pub before_manual : Names → App
+before_manual links = with_subcommand (with_subcommand (with_subcommand (with_subcommand (acting links) audit.top) explain.top) outcomes.top) got.top
 
 abbrev pub amo : Names → Names → App
-amo links shells = with_subcommand (with_subcommand (with_subcommand (with_subcommand (before_audit links) audit.top) explain.top) manual.top) (completions shells).top
+amo links shells = with_subcommand (with_subcommand (before_manual links) manual.top) (completions shells).top
 
 -- the command is this one, and shares no argument with commands below it
 abbrev pub IsCommand : App → Command → Type 0
@@ -116,6 +125,9 @@ IsCommand app command = (app_of command ≡ app) × ((out-Command command).has_g
 
 abbrev pub IsRun : Command → Type 0
 IsRun command = (links : Names) × AreLinks links × IsCommand (run links) command
+
+abbrev pub IsActing : Command → Type 0
+IsActing command = (links : Names) × AreLinks links × (app_of command ≡ acting links)
 
 abbrev pub IsCompletions : Command → Type 0
 IsCompletions command = (shells : Names) × AreShells shells × IsCommand (completions shells) command

@@ -4,14 +4,15 @@ ghost use Rattle.clap.specs.Words.{first_of, found_of, rows_of, subcommand_rows_
 ghost use Rattle.amo_text.specs.Hexadecimal.{hex};
 ghost use Rattle.amo_settings.specs.Limits.{IsWithin};
 ghost use Rattle.amo_arguments.specs.Arguments.{AreTaken, IsRefusalOf, IsToldOf};
-ghost use Rattle.amo_arguments.specs.Chosen.{Chooses, ChoosesBy, ChoosesRun, HasAddress, HasFlag, HasHost, HasJournal, HasNoSeed, HasNumber, HasNumberOrNone, HasReceive, HasSend, HasText, HasTextOrNone, LacksSeed, Matches, MeetsSeedless, link_name, shell_name};
+ghost use Rattle.amo_arguments.specs.Chosen.{Chooses, ChoosesBy, ChoosesRun, HasAddress, HasFlag, HasGot, HasHost, HasJournal, HasNoSeed, HasNumber, HasNumberOrNone, HasOutcomes, HasReceive, HasSend, HasText, HasTextOrNone, LacksSeed, Matches, MeetsSeedless, link_name, shell_name};
 
 use crate::ArgumentsFault;
 use crate::commands::{CLIENTS, CRASHES, PUMPS, STREAMS, TICK, WAIT, command};
 use crate::refusal::{Refusal, Unfit, told};
 use crate::values::{check_address, check_apart, number_in};
 use amo_settings::{
-    HostSettings, LinkKind, ReceiveSettings, RunSettings, SendSettings, Settings, Shell,
+    GotSettings, HostSettings, LinkKind, OutcomesSettings, ReceiveSettings, RunSettings,
+    SendSettings, Settings, Shell,
 };
 use amo_text::laws::hex_is_injective;
 use amo_text::read_hex;
@@ -73,6 +74,12 @@ fn parse(alloc: Global, matches: &ArgMatches<'_>) -> Result<Option<Settings>, Un
     }
     if let Some(explain) = matches.subcommand_matches("explain") {
         return Ok(Some(Settings::Explain(text_of(alloc, explain, "FILE")?)));
+    }
+    if let Some(outcomes) = matches.subcommand_matches("outcomes") {
+        return Ok(Some(Settings::Outcomes(parse_outcomes(alloc, outcomes)?)));
+    }
+    if let Some(got) = matches.subcommand_matches("got") {
+        return Ok(Some(Settings::Got(parse_got(alloc, got)?)));
     }
     if let Some(_manual) = matches.subcommand_matches("man") {
         return Ok(Some(Settings::Manual));
@@ -153,6 +160,34 @@ fn parse_receive(alloc: Global, matches: &ArgMatches<'_>) -> Result<ReceiveSetti
     let host = parse_host(alloc, matches)?;
     let count = number_or_none_of(alloc, matches, "count", 1, u64::MAX)?;
     Ok(ReceiveSettings { host, count })
+}
+
+/// The settings that the arguments of `outcomes` choose.
+fn parse_outcomes(alloc: Global, matches: &ArgMatches<'_>) -> Result<OutcomesSettings, Unfit>
+    ensures { IfOk result (HasOutcomes (rows_of (found_of matches.now))) }
+{
+    let first = text_of(alloc, matches, "FILE")?;
+    let Some(second) = second_file_of(alloc, matches)? else {
+        return Err(Unfit::OneJournal);
+    };
+    Ok(OutcomesSettings {
+        first,
+        second,
+        open: flag_of(alloc, matches, "open")?,
+        gone: flag_of(alloc, matches, "gone")?,
+        json: flag_of(alloc, matches, "json")?,
+    })
+}
+
+/// The settings that the arguments of `got` choose.
+fn parse_got(alloc: Global, matches: &ArgMatches<'_>) -> Result<GotSettings, Unfit>
+    ensures { IfOk result (HasGot (rows_of (found_of matches.now))) }
+{
+    Ok(GotSettings {
+        file: text_of(alloc, matches, "FILE")?,
+        after: number_or_none_of(alloc, matches, "after", 0, u64::MAX)?,
+        json: flag_of(alloc, matches, "json")?,
+    })
 }
 
 /// The settings that the options choose which a host has on either side.

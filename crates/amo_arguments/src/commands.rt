@@ -35,22 +35,34 @@ static SHELLS: [&str; 3] = ["bash", "zsh", "fish"];
 pub fn command<'a>(alloc: Global) -> Result<Command<'a>, AllocError>
     ensures { IfOk result described.IsAmo }
 {
+    let acting = acting(alloc)?;
+    let audit = audit(alloc)?;
+    let explain = explain(alloc)?;
+    let outcomes = outcomes(alloc)?;
+    let got = got(alloc)?;
+    let completions = completions(alloc)?;
+    acting
+        .subcommand(audit)?
+        .subcommand(explain)?
+        .subcommand(outcomes)?
+        .subcommand(got)?
+        .subcommand(manual(alloc))?
+        .subcommand(completions)
+}
+
+/// The program with those of its commands that have something happen, and no others.
+fn acting<'a>(alloc: Global) -> Result<Command<'a>, AllocError>
+    ensures { IfOk result described.IsActing }
+{
     let bare = bare(alloc)?;
     let replay = replay(alloc)?;
     let run = run(alloc)?;
     let send = send(alloc)?;
     let receive = receive(alloc)?;
-    let audit = audit(alloc)?;
-    let explain = explain(alloc)?;
-    let completions = completions(alloc)?;
     bare.subcommand(replay)?
         .subcommand(run)?
         .subcommand(send)?
-        .subcommand(receive)?
-        .subcommand(audit)?
-        .subcommand(explain)?
-        .subcommand(manual(alloc))?
-        .subcommand(completions)
+        .subcommand(receive)
 }
 
 /// The program without its commands.
@@ -232,6 +244,38 @@ fn explain<'a>(alloc: Global) -> Result<Command<'a>, AllocError>
         texts::EXPLAIN_AFTER_HELP,
     )
     .arg(file(alloc, "The journal"))
+}
+
+pub(crate) fn outcomes<'a>(alloc: Global) -> Result<Command<'a>, AllocError>
+    ensures { IfOk result (described.IsCommand described.outcomes) }
+{
+    with_texts(
+        alloc,
+        "outcomes",
+        texts::OUTCOMES_ABOUT,
+        texts::OUTCOMES_AFTER_HELP,
+    )
+    .arg(file(alloc, "The journal of one side"))?
+    .arg(second_file(alloc))?
+    .arg(flag(alloc, "open", "Shows the puts that are open"))?
+    .arg(flag(alloc, "gone", "Shows the puts that are gone"))?
+    .arg(flag(alloc, "json", "Prints each line as a JSON object"))
+}
+
+fn got<'a>(alloc: Global) -> Result<Command<'a>, AllocError>
+    ensures { IfOk result (described.IsCommand described.got) }
+{
+    with_texts(alloc, "got", texts::GOT_ABOUT, texts::GOT_AFTER_HELP)
+        .arg(file(alloc, "The receiver's journal"))?
+        .arg(optional_number(
+            alloc,
+            "after",
+            "N",
+            0,
+            u64::MAX,
+            "Shows lines of greater numbers than N",
+        ))?
+        .arg(flag(alloc, "json", "Prints each line as a JSON object"))
 }
 
 fn manual<'a>(alloc: Global) -> Command<'a>

@@ -13,6 +13,8 @@ pub(crate) const AFTER_HELP: &str = "Examples:
   amo send --listen 127.0.0.1:7001 --peer 127.0.0.1:7002 --streams 8 --journal send.journal
   amo audit examples/good_journal.journal
   amo explain examples/good_journal.journal
+  amo outcomes send.journal receive.journal
+  amo got receive.journal --after 120
   amo man | man -l -
 
 Status:
@@ -273,6 +275,72 @@ Status:
 
 Example:
   amo explain examples/good_journal.journal";
+
+pub(crate) const OUTCOMES_ABOUT: &str =
+    "Tells what became of each message that was put: it was got, is gone, or is open";
+
+pub(crate) const OUTCOMES_AFTER_HELP: &str =
+    "Of a sender's and a receiver's journal, in either order, of which `amo audit` prints `yes`, a line
+is printed for each message that was put, in the order of the journal:
+  NUMBER STREAM OUTCOME TEXT    NUMBER stands in front of the put's own line in its journal
+or 0xHEX in place of TEXT where it is no UTF-8 or has a control character other than a tab.
+With --json: {\"number\":12,\"stream\":1,\"outcome\":\"gone\",\"text\":\"TEXT\"}, or \"hex\":\"HEX\" in
+place of the text. Equal messages are told apart.
+
+OUTCOME is one of these:
+  got   a get answered it; it stays so
+  gone  it was not got, and never will be, however both journals go on: it may be put again
+  open  it may still be got: ask again later. Once a later message of its stream was got it is none
+--open and --gone print only those; both print both.
+
+Got means that the message is in the receiver's journal and was handed to its standard output. It does
+not mean that anybody acted on it.
+
+Stop both hosts first: of hosts at work one journal may be ahead of the other, or end in the middle of
+a line, and then nothing is told but that. A loss of power may have taken last lines of a host without
+--sync, whose packets had left: then gone may be said of a message that is got all the same.
+
+Of any other files the line that `amo audit` prints goes to standard error. Journals may be in
+pieces, as of `amo audit`.
+
+Status:
+  0  all is told
+  1 to 3, as of `amo audit`: nothing is told
+  2  also arguments that do not parse, or one journal
+  4  `amo: out of memory`
+     `amo: device`: a file or standard output failed, or there is no such file
+
+Example:
+  amo outcomes send.journal receive.journal --open";
+
+pub(crate) const GOT_ABOUT: &str = "Tells which messages a receiver's journal says were got";
+
+pub(crate) const GOT_AFTER_HELP: &str =
+    "Output, a line for each message that was got, in the order of the journal:
+  NUMBER STREAM TEXT    NUMBER stands in front of the line of the get in the journal
+or 0xHEX in place of TEXT where it is no UTF-8 or has a control character other than a tab.
+With --json: {\"number\":12,\"stream\":1,\"event\":\"got\",\"text\":\"TEXT\"}, or \"hex\":\"HEX\" in place of
+the text.
+
+The numbers rise, and stay the same while the journal goes on. So an application may keep the last
+one beside its own work, and ask for what came --after it.
+
+A line says that the message is in the receiver's journal and was handed to its standard output. It
+does not say that anybody acted on it.
+
+The host may be at work: a last line that lacks its end is left out. Nothing is judged but that lines
+read and are numbered from 0; `amo audit` judges. The journal may be in pieces, as of `amo audit`.
+
+Status:
+  0  all is told
+  2  `malformed at line L`, `gap at line L`, as of `amo audit`: what stands before line L was told
+     `amo: FILE: a sender's journal: a receiver's is needed`: each line is a sender's
+     or arguments that do not parse
+  4  `amo: out of memory`
+     `amo: device`: the file or standard output failed, or there is no such file
+
+Example:
+  amo got receive.journal --after 120";
 
 pub(crate) const MANUAL_ABOUT: &str = "Prints the manual page";
 

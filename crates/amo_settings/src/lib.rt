@@ -6,4 +6,6 @@ mod run;
 mod settings;
 
 pub use run::{LinkKind, RunSettings};
-pub use settings::{HostSettings, ReceiveSettings, SendSettings, Settings, Shell};
+pub use settings::{
+    GotSettings, HostSettings, OutcomesSettings, ReceiveSettings, SendSettings, Settings, Shell,
+};

@@ -16,6 +16,10 @@ pub enum Settings {
     Audit(String, Option<String>),
     /// Explain the journal in this file.
     Explain(String),
+    /// Tell what became of each put of two journals.
+    Outcomes(OutcomesSettings),
+    /// Tell which messages a receiver's journal says were got.
+    Got(GotSettings),
     /// Show the manual page.
     Manual,
     /// Show the completions for this shell.
@@ -61,6 +65,31 @@ pub struct ReceiveSettings {
     pub host: HostSettings,
     /// It ends once it got as many messages, 1 at least.
     pub count: Option<u64>,
+}
+
+/// Which outcomes are told, and how. Where neither `open` nor `gone` is chosen, all are.
+#[derive(Debug, Drop)]
+pub struct OutcomesSettings {
+    /// The files of the two journals, of which each may come first.
+    pub first: String,
+    pub second: String,
+    /// Those of puts that are open.
+    pub open: bool,
+    /// Those of puts that are gone.
+    pub gone: bool,
+    /// Whether lines are JSON objects.
+    pub json: bool,
+}
+
+/// Which messages that were got are told, and how.
+#[derive(Debug, Drop)]
+pub struct GotSettings {
+    /// The file of the journal.
+    pub file: String,
+    /// Only those on lines of greater numbers, if there is one.
+    pub after: Option<u64>,
+    /// Whether lines are JSON objects.
+    pub json: bool,
 }
 
 /// A shell that completes words.
