@@ -1,9 +1,9 @@
 //! The program `amo`: replays schedules on a book with both sides of 256 streams, and prints what they reply and emit; runs the
 //! service between two hosts, and keeps a journal; is one host of a pair, for clients at its standard input and output; and audits and
-//! explains journals.
+//! explains journals, and tells by them what became of messages.
 //!
-//! `amo_arguments` reads the program's arguments, and answers as `amo_settings` what they choose. `replaying`, `running`, `live` and
-//! `judging` do it, `pieces` reads the journals that are judged, `progress` shows how far a run is, `failure` is why they cannot, and
+//! `amo_arguments` reads the program's arguments, and answers as `amo_settings` what they choose. `replaying`, `running`, `live`,
+//! `judging` and `telling` do it, `pieces` reads the journals that are judged, `progress` shows how far a run is, `failure` is why they cannot, and
 //! `watched` keeps why a write failed.
 #![tactic(auto)]
 
@@ -17,6 +17,7 @@ mod pieces;
 mod progress;
 mod replaying;
 mod running;
+mod telling;
 mod watched;
 
 use crate::failure::Failure;
@@ -24,6 +25,7 @@ use crate::judging::{audit_files, explain_file};
 use crate::live::{receive_lines, send_lines};
 use crate::replaying::replay_file;
 use crate::running::run_to_file;
+use crate::telling::{tell_got_of, tell_outcomes_of};
 use amo_arguments::{ArgumentsFault, not_text, settings};
 use amo_manual::{page, script};
 use amo_settings::Settings;
@@ -73,6 +75,8 @@ fn obey<
             audit_files(rt, file.as_str(), second)
         }
         Ok(Settings::Explain(file)) => explain_file(rt, file.as_str(), errors),
+        Ok(Settings::Outcomes(settings)) => tell_outcomes_of(rt, &settings, errors),
+        Ok(Settings::Got(settings)) => tell_got_of(rt, &settings),
         Ok(Settings::Run(settings, file)) => run_to_file(rt, &settings, file.as_str(), errors),
         Ok(Settings::Send(settings)) => send_lines(rt, &settings, input, output),
         Ok(Settings::Receive(settings)) => receive_lines(rt, &settings, input, output),
