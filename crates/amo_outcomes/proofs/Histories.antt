@@ -180,7 +180,7 @@ module _ (number : ℕ) (past : List Event) (e : Event) where
   ties_if false same t f came right = t
 
 -- an event is one of the stream where the numbers are the same
-same_stream : (number : ℕ) (e : Event) → eqb number e.stream ≡ true → e.stream ≡ number
+pub same_stream : (number : ℕ) (e : Event) → eqb number e.stream ≡ true → e.stream ≡ number
 same_stream number e here = elim (eqb_tells number e.stream) [ inl h ↦ sym h.1 | inr h ↦ absurd (differ h.0 here) ]
   where
     differ : eqb number e.stream ≡ false → eqb number e.stream ≡ true → ⊥

@@ -8,3 +8,9 @@ pub mod Following
 pub mod FollowingReceiver
 pub mod Followed
 pub mod Streams
+pub mod SenderRows
+pub mod SenderOrder
+pub mod SenderTruth
+pub mod SenderHearing
+pub mod SenderHistories
+pub mod SenderAlone

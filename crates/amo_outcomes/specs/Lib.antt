@@ -4,3 +4,5 @@ pub mod Places
 pub mod Follower
 pub mod Told
 pub mod Followers
+pub mod Heard
+pub mod SenderOutcome

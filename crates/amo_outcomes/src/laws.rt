@@ -1,5 +1,5 @@
 //! Laws of outcomes. Each is the contract of a function that does nothing.
-ghost use Rattle.std.specs.Prelude.{◌≡◌, ◌<◌, ℕ, List, [], ◌∷◌, length};
+ghost use Rattle.std.specs.Prelude.{◌≡◌, ◌<◌, true, ℕ, List, [], ◌∷◌, length};
 ghost use Rattle.std.specs.List.{Contains};
 ghost use Rattle.amo_object.specs.declared.step.End.TheVariants.{Sender};
 ghost use Rattle.amo_object.specs.Delivery.{messages_put, messages_got};
@@ -9,12 +9,15 @@ ghost use Rattle.amo_packet.specs.Batch.{Batch, messages};
 ghost use Rattle.amo_core.specs.Receiver as receiver;
 ghost use Rattle.amo_world.specs.declared.event.Event.{Event};
 ghost use Rattle.amo_world.specs.Stream.{emitted_by};
-ghost use Rattle.amo_world.specs.History.{stream_after, IsRight, IsHonest, IsFresh, Extends};
+ghost use Rattle.amo_world.specs.History.{stream_after, events_at, IsRight, IsHonest, IsFresh, Extends};
 ghost use Rattle.amo_world.specs.Served.{calls};
 ghost use Rattle.amo_outcomes.specs.declared.outcome.Outcome.{Outcome};
 ghost use Rattle.amo_outcomes.specs.declared.outcome.Outcome.TheVariants.{Got, Gone, Open};
 ghost use Rattle.amo_outcomes.specs.Puts.{puts_after, sent_under};
 ghost use Rattle.amo_outcomes.specs.Outcome.{HasOutcome, AreOf};
+ghost use Rattle.amo_outcomes.specs.declared.sender_outcome.SenderOutcome.{SenderOutcome};
+ghost use Rattle.amo_outcomes.specs.declared.sender_outcome.SenderOutcome.TheVariants as told;
+ghost use Rattle.amo_outcomes.specs.SenderOutcome.{HasSenderOutcome, GoesOnAtSender};
 
 /// Each put of a right, honest and fresh history has exactly one outcome, and nothing else has one.
 pub fn each_put_has_one_outcome()
@@ -60,4 +63,37 @@ pub fn puts_have_their_messages()
     ensures sent_together { (number : ℕ) (events : List Event) (p : OwnedPacket) (id : ℕ) (b : Batch) → IsRight events → IsHonest events → IsFresh events
         → Contains (emitted_by (stream_after number events) Sender) p → p.body ≡ packet.Batch id b
         → AreOf (messages_put (calls number events)) (sent_under (puts_after number events).sent id) (messages b) }
+{}
+
+/// Each put has exactly one outcome by its sender's own events, and nothing else has one.
+pub fn each_put_has_one_outcome_of_the_sender()
+    ensures one { (number : ℕ) (events : List Event) (put : ℕ) → put < (puts_after number events).count
+        → (outcome : SenderOutcome) × HasSenderOutcome number events put outcome }
+    ensures no_other { (number : ℕ) (events : List Event) (put : ℕ) (one other : SenderOutcome) → HasSenderOutcome number events put one
+        → HasSenderOutcome number events put other → one ≡ other }
+    ensures of_puts { (number : ℕ) (events : List Event) (put : ℕ) (outcome : SenderOutcome) → HasSenderOutcome number events put outcome
+        → put < (puts_after number events).count }
+{}
+
+/// What a sender's own events tell is true and final, in each right, honest and fresh history in which the sender's events are these, or go on
+/// from these. There what is told to be got was got, and what is told to be gone is gone. What is told to be settled is got or gone, and
+/// stays so in all that goes on from there. What is told to be open is open as long as nothing more happens at the sender.
+pub fn what_a_sender_tells_is_final()
+    ensures got { (number : ℕ) (journal whole : List Event) (put : ℕ) → GoesOnAtSender number whole journal
+        → IsRight whole → IsHonest whole → IsFresh whole → HasSenderOutcome number journal put told.Got → HasOutcome number whole put Got }
+    ensures gone { (number : ℕ) (journal whole : List Event) (put : ℕ) → GoesOnAtSender number whole journal
+        → IsRight whole → IsHonest whole → IsFresh whole → HasSenderOutcome number journal put told.Gone → HasOutcome number whole put Gone }
+    ensures settled { (number : ℕ) (journal whole : List Event) (put : ℕ) → GoesOnAtSender number whole journal
+        → IsRight whole → IsHonest whole → IsFresh whole → HasSenderOutcome number journal put (told.Unknown true)
+        → (outcome : Outcome) × (¬ (outcome ≡ Open)) × ((later : List Event) → Extends later whole
+        → IsRight later → IsHonest later → IsFresh later → HasOutcome number later put outcome) }
+    ensures open { (number : ℕ) (journal whole : List Event) (put : ℕ) → events_at number Sender whole ≡ events_at number Sender journal
+        → HasSenderOutcome number journal put told.Open → HasOutcome number whole put Open }
+{}
+
+/// What a sender's own events tell of a put does not depend on what else happened.
+pub fn a_sender_tells_by_its_own_events()
+    ensures { (number : ℕ) (one other : List Event) (put : ℕ) (outcome : SenderOutcome)
+        → events_at number Sender one ≡ events_at number Sender other → HasSenderOutcome number one put outcome
+        → HasSenderOutcome number other put outcome }
 {}

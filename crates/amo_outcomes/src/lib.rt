@@ -16,6 +16,20 @@
 //! gone may be put again. And once a later put of a stream was got, no earlier one ever will be.
 //! That an open put can still be got is not proved. It is tested in all short stories.
 //!
+//! A sender's own events alone, those of one journal, tell less of a put, a [`SenderOutcome`]:
+//!
+//! ```text
+//!   got       an ack said so, of the handshake that carried the put, delivered while the sender was up
+//!   gone      a crash forgot it while it waited or an identifier was asked for it, so it was never sent
+//!   open      it waits, or an identifier is asked for it
+//!   unknown   it was sent, and no ack said that it was got. It is settled where an ack said that its identifier is not known,
+//!             or a later message was sent: then it was got, or is gone
+//! ```
+//!
+//! **That is true and final as well** ([`laws::what_a_sender_tells_is_final`]): in each right, honest and fresh history in which the sender's events are
+//! these, or go on from these, got is got and gone is gone; and what is settled is got or gone, and stays so. That what is unknown and not
+//! settled may still be open is tested in all short stories.
+//!
 //! The queue in doubt of [`amo_world`] answers another question. There a message stays listed, in doubt, while a handshake still names
 //! it, though its identifier died with a receiver; here it is gone.
 //!
@@ -28,8 +42,10 @@ mod followers;
 pub mod laws;
 mod outcome;
 mod places;
+mod sender_outcome;
 mod telling;
 
 pub use followers::Followers;
 pub use outcome::Outcome;
+pub use sender_outcome::SenderOutcome;
 pub use telling::outcomes;
