@@ -14,3 +14,7 @@ pub mod SenderTruth
 pub mod SenderHearing
 pub mod SenderHistories
 pub mod SenderAlone
+pub mod Marking
+pub mod Runs
+pub mod SenderKeeping
+pub mod SenderFollowing

@@ -6,3 +6,6 @@ pub mod Told
 pub mod Followers
 pub mod Heard
 pub mod SenderOutcome
+pub mod Marks
+pub mod SenderPlaces
+pub mod SenderFollower

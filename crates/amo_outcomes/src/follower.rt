@@ -143,7 +143,7 @@ impl Follower {
 }
 
 /// The act of an event, copied.
-fn act_of(event: &Event) -> Result<Act, AllocError>
+pub(crate) fn act_of(event: &Event) -> Result<Act, AllocError>
     ensures { IfOk result (λ act. act ≡ event.now.act) }
 {
     event.act.clone()
@@ -157,7 +157,7 @@ fn is_get(act: &Act) -> bool
 }
 
 /// Whether a sender of this mode asks for an identifier.
-fn asks(mode: Mode) -> bool
+pub(crate) fn asks(mode: Mode) -> bool
     ensures { result ≡ asks mode }
 {
     mode == Mode::NeedId

@@ -16,7 +16,7 @@
 //! gone may be put again. And once a later put of a stream was got, no earlier one ever will be.
 //! That an open put can still be got is not proved. It is tested in all short stories.
 //!
-//! A sender's own events alone, those of one journal, tell less of a put, a [`SenderOutcome`]:
+//! [`outcomes_of_sender`] tells what a sender's own events alone tell, those of one journal:
 //!
 //! ```text
 //!   got       an ack said so, of the handshake that carried the put, delivered while the sender was up
@@ -26,26 +26,32 @@
 //!             or a later message was sent: then it was got, or is gone
 //! ```
 //!
-//! **That is true and final as well** ([`laws::what_a_sender_tells_is_final`]): in each right, honest and fresh history in which the sender's events are
-//! these, or go on from these, got is got and gone is gone; and what is settled is got or gone, and stays so. That what is unknown and not
-//! settled may still be open is tested in all short stories.
+//! **That is true and final as well** ([`laws::what_a_sender_tells_is_final`]): in each right, honest and fresh history in which the sender's
+//! events are these, or go on from these, got is got and gone is gone; and what is settled is got or gone, and stays so. That what is unknown
+//! and not settled may still be open is tested in all short stories.
 //!
 //! The queue in doubt of [`amo_world`] answers another question. There a message stays listed, in doubt, while a handshake still names
 //! it, though its identifier died with a receiver; here it is gone.
 //!
 //! [`Followers`] tells the same of events that come one by one. It keeps none of them: of each stream both automata, and of the puts only
-//! those that are open, some twenty at most, and whether each was got.
+//! those that are open, some twenty at most, and whether each was got. A follower of a sender alone keeps a mark of each put, and the handshakes
+//! of which no ack said that they were got.
 #![tactic(auto)]
 
 mod follower;
 mod followers;
 pub mod laws;
+mod marks;
 mod outcome;
 mod places;
+mod sender_follower;
 mod sender_outcome;
+mod sender_places;
+mod sender_telling;
 mod telling;
 
 pub use followers::Followers;
 pub use outcome::Outcome;
 pub use sender_outcome::SenderOutcome;
+pub use sender_telling::outcomes_of_sender;
 pub use telling::outcomes;

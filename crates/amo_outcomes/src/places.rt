@@ -95,11 +95,9 @@ impl Places {
     pub(crate) fn begin(&mut self, act: &Act) -> Result<(), AllocError>
         ensures { IfOk result (λ _. self.new ≡ places.begun act.now self.old) }
     {
-        let most = match act {
-            Act::Batch(_) => MAX_BATCH,
-            _ => 1,
-        };
-        let rest = self.waiting.split_off(most.min(self.waiting.len()))?;
+        let rest = self
+            .waiting
+            .split_off(most_of(act).min(self.waiting.len()))?;
         self.asked = mem::replace(&mut self.waiting, rest);
         Ok(())
     }
@@ -145,6 +143,16 @@ impl Places {
         if loses {
             self.arriving.clear();
         }
+    }
+}
+
+/// How many puts a start carries at most.
+pub(crate) fn most_of(act: &Act) -> usize
+    ensures { result ≡ places.most_of act.now }
+{
+    match act {
+        Act::Batch(_) => MAX_BATCH,
+        _ => 1,
     }
 }
 
