@@ -1,5 +1,5 @@
 -- What leaves was emitted.
-use Rattle.std.proofs.Common.{◌≡◌, ℕ, ◌<◌, Bool, true, false, ◌⊎◌, inl, inr, Option, Some, None, IfSome, List, [], ◌∷◌, ◌++◌, take, drop, length, set, slice_get, refl, sym, ap, ◌∙◌, subst, append-nil}
+use Rattle.std.proofs.Common.{◌≡◌, ℕ, ◌<◌, Bool, true, false, inl, inr, Option, Some, None, IfSome, List, [], ◌∷◌, ◌++◌, take, drop, length, slice_get, refl, sym, ap, ◌∙◌, subst, append-nil}
 use Rattle.std.proofs.Math.Seq.{take-append_seam}
 use Rattle.std.proofs.lemmas.List.{length-set}
 use Rattle.amo_object.specs.declared.step.End.{End}

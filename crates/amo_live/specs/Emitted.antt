@@ -1,5 +1,5 @@
 -- Packets that events emitted: those that leave a host, and those that it may send again.
-use Rattle.std.specs.Prelude.{◌≡◌, ℕ, Bool, true, false, ◌⊎◌, Option, Some, None, IfSome, List, [], ◌∷◌, ◌++◌, take, slice_get, slice_set}
+use Rattle.std.specs.Prelude.{◌≡◌, ℕ, Bool, true, false, ◌⊎◌, Option, Some, None, IfSome, List, [], ◌∷◌, take, slice_get, slice_set}
 use Rattle.amo_object.specs.declared.step.End.{End}
 use Rattle.amo_packet.specs.declared.packet.OwnedPacket.{OwnedPacket}
 use Rattle.amo_packet.specs.Grammar.{spelling}

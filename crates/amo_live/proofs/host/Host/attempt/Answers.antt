@@ -1,5 +1,3 @@
-use Rattle.std.proofs.Common.{◌≡◌, slice_get, Some, List, ap, ◌∙◌}
-use Rattle.amo_book.specs.Charge.{ChargeState}
 use Rattle.amo_book.specs.Pass.{mine}
 use Rattle.amo_live.proofs.Onwards.{begins_whole}
 use Rattle.amo_live.proofs.Repeating.{suits_after, tried_after}
