@@ -1,10 +1,6 @@
 -- No word is borne twice.
-use Rattle.std.proofs.Common.{◌≡◌, ◌≢◌, ℕ, Bool, true, false, ◌||◌, List, [], ◌∷◌, ◌++◌, Option, Some, None, refl, sym, ap, ◌∙◌, subst}
-use Rattle.std.specs.Ordering.{eq_by_cmp, nat_cmp}
-use Rattle.std.specs.Cmp.{nat_cmp_total, nat_eq_equiv, unsigned_tied}
-use Rattle.std.specs.FinSet.{contains, contains-insert, insert}
+use Rattle.std.proofs.Common.{◌≡◌, ◌≢◌, ℕ, Bool, true, false, List, [], ◌∷◌, ◌++◌, Option, Some, None, Result, Ok, Err, IfOk, OnOk, sym, ap, ◌∙◌, subst, append_assoc}
 use Rattle.std.specs.List.{AllByRecursion}
-use Rattle.std.proofs.lemmas.Bool.{true≢false}
 use Rattle.amo_object.specs.declared.step.End.{End}
 use Rattle.amo_packet.specs.declared.packet.OwnedPacket.{OwnedPacket}
 use Rattle.amo_packet.specs.Grammar.{Spells}
@@ -19,60 +15,60 @@ use Rattle.amo_journal.specs.Version.{newest}
 use Rattle.amo_live.specs.Host.{HostState, Did, Delivered, Looks}
 use Rattle.amo_live.specs.Service.{start_of}
 use Rattle.amo_live.proofs.Repeating.{looks_still, none_still}
-use Rattle.amo_live.specs.Words.{AreNew, BearsNew, IsNew, StaysUsed, WordSet, word_by, word_of_delivery, words_in}
+use Rattle.amo_live.specs.Words.{AreNew, BearsNew, IsNew, StaysDrawn, word_by, word_of_delivery, words_in}
 
--- no word was borne
-pub bears_none : (used used' : WordSet) (v w : PassState) → used' ≡ used → words_in (mine w) ≡ words_in (mine v) → BearsNew used used' v w
-bears_none used used' v w same none = record {
-  keeps = λ first within new.
-      (subst (StaysUsed first) (sym same) within, subst (λ (s : WordSet). AreNew first s (words_in (mine w))) (sym same) (subst (AreNew first used) (sym none) new));
-}
+-- what was drawn at first still is
+pub stays_on : (a b c : ℕ → Type 0) → StaysDrawn a b → StaysDrawn b c → StaysDrawn a c
+stays_on a b c one two word is = two word (one word is)
+
+-- a word that is new behind some that were drawn
+pub new_behind : (a b c : ℕ → Type 0) (word : ℕ) → StaysDrawn a b → IsNew b c word → IsNew a c word
+new_behind a b c word stays new = record { some = new.some; out = λ is. new.out (stays word is); in_use = new.in_use }
+
+-- no word was borne, though some may have been drawn
+pub none_borne : {W : Type 0} {drawn : W → ℕ → Type 0} (s t : W) (v w : PassState) → StaysDrawn (drawn s) (drawn t) → words_in (mine w) ≡ words_in (mine v) → BearsNew drawn s t v w
+none_borne s t v w stays none = record { words = []; borne = none; new = tt; stays = stays }
+
+-- nor was one drawn
+pub bears_none : {W : Type 0} {drawn : W → ℕ → Type 0} (s t : W) (v w : PassState) → t ≡ s → words_in (mine w) ≡ words_in (mine v) → BearsNew drawn s t v w
+bears_none {drawn = drawn} s t v w same none = none_borne s t v w (λ word is. subst (λ u. drawn u word) (sym same) is) none
+
+-- a new word was borne
+pub bears_word : {W : Type 0} {drawn : W → ℕ → Type 0} (s t : W) (word : ℕ) (v w : PassState) → IsNew (drawn s) (drawn t) word → StaysDrawn (drawn s) (drawn t) → words_in (mine w) ≡ word ∷ words_in (mine v) → BearsNew drawn s t v w
+bears_word s t word v w new stays more = record { words = word ∷ []; borne = more; new = (new, tt, tt); stays = stays }
+
+-- a word that was not drawn is none of those that were
+is_other : (before since : ℕ → Type 0) (word : ℕ) (words : List ℕ) → ¬ (since word) → AreNew before since words → AllByRecursion (λ w. w ≢ word) words
+is_other before since word [] out new = tt
+is_other before since word (w ∷ words) out (one, once, rest) = (λ same. out (subst since same one.in_use), is_other before since word words out rest)
+
+both_all : (P : ℕ → Type 0) (xs ys : List ℕ) → AllByRecursion P xs → AllByRecursion P ys → AllByRecursion P (xs ++ ys)
+both_all P [] ys a b = b
+both_all P (x ∷ xs) ys a b = (a.0, both_all P xs ys a.1 b)
+
+still_new : (a b c : ℕ → Type 0) (words : List ℕ) → StaysDrawn b c → AreNew a b words → AreNew a c words
+still_new a b c [] stays new = tt
+still_new a b c (word ∷ words) stays (one, once, rest) = (record { some = one.some; out = one.out; in_use = stays word one.in_use }, once, still_new a b c words stays rest)
+
+-- words that were new at first, and those that were new behind them
+both_new : (a b c : ℕ → Type 0) (later earlier : List ℕ) → StaysDrawn a b → StaysDrawn b c → AreNew b c later → AreNew a b earlier → AreNew a c (later ++ earlier)
+both_new a b c [] earlier one two new old = still_new a b c earlier two old
+both_new a b c (word ∷ later) earlier one two (is, once, rest) old =
+    (new_behind a b c word one is, both_all (λ w. w ≢ word) later earlier once (is_other a b word earlier is.out old), both_new a b c later earlier one two rest old)
 
 -- one after the other
-pub bears_on : (a b c : WordSet) (u v w : PassState) → BearsNew a b u v → BearsNew b c v w → BearsNew a c u w
-bears_on a b c u v w one two = record { keeps = λ first within new. let then = one.keeps first within new in two.keeps first then.0 then.1 }
+pub bears_on : {W : Type 0} {drawn : W → ℕ → Type 0} (a b c : W) (u v w : PassState) → BearsNew drawn a b u v → BearsNew drawn b c v w → BearsNew drawn a c u w
+bears_on {drawn = drawn} a b c u v w one two = record {
+  words = two.words ++ one.words;
+  borne = two.borne ∙ (ap (λ (l : List ℕ). two.words ++ l) one.borne ∙ sym (append_assoc two.words one.words (words_in (mine u))));
+  new = both_new (drawn a) (drawn b) (drawn c) two.words one.words one.stays two.stays two.new one.new;
+  stays = stays_on (drawn a) (drawn b) (drawn c) one.stays two.stays;
+}
 
 -- the same, of values that are known under other names
-pub bears_as : (a b c d : WordSet) (u v w x : PassState) → c ≡ a → d ≡ b → w ≡ u → x ≡ v → BearsNew a b u v → BearsNew c d w x
-bears_as a b c d u v w x p q r s bears =
-    subst (λ (k : WordSet). BearsNew k d w x) (sym p) (subst (λ (k : WordSet). BearsNew a k w x) (sym q) (subst (λ (k : PassState). BearsNew a b k x) (sym r) (subst (λ (k : PassState). BearsNew a b u k) (sym s) bears)))
-
-or_right : (a b : Bool) → b ≡ true → (a || b) ≡ true
-or_right true b is = refl
-or_right false b is = is
-
-or_left : (a b : Bool) → a ≡ true → (a || b) ≡ true
-or_left true b is = refl
-or_left false b is = absurd (true≢false (sym is))
-
--- a word more is used up
-more_used : (used : WordSet) (word other : ℕ) → contains used other ≡ true → contains (insert used word) other ≡ true
-more_used used word other is = contains-insert nat_cmp_total used word other ∙ or_right (eq_by_cmp nat_cmp other word) (contains used other) is
-
-all_used : (first used : WordSet) (word : ℕ) (words : List ℕ) → AreNew first used words → AreNew first (insert used word) words
-all_used first used word [] new = tt
-all_used first used word (w ∷ words) (out, in_use, once, rest) = (out, more_used used word w in_use, once, all_used first used word words rest)
-
--- a word that is not used up is none of those that are
-is_other : (first used : WordSet) (word : ℕ) (words : List ℕ) → contains used word ≡ false → AreNew first used words → AllByRecursion (λ w. w ≢ word) words
-is_other first used word [] new are = tt
-is_other first used word (w ∷ words) new (out, in_use, once, rest) = (λ same. true≢false (sym in_use ∙ (ap (λ (k : ℕ). contains {R = nat_cmp} used k) same ∙ new)), is_other first used word words new rest)
-
-not_first : (first used : WordSet) (word : ℕ) (test : Bool) → contains first word ≡ test → StaysUsed first used → contains used word ≡ false → contains first word ≡ false
-not_first first used word true is within new = absurd (true≢false (sym (within word is) ∙ new))
-not_first first used word false is within new = is
-
-itself_used : (used : WordSet) (word : ℕ) → contains (insert used word) word ≡ true
-itself_used used word = contains-insert nat_cmp_total used word word ∙ or_left (eq_by_cmp nat_cmp word word) (contains used word) (unsigned_tied word word ∙ nat_eq_equiv.refl word)
-
--- a new word was borne, and is used up
-pub bears_word : (used used' : WordSet) (word : ℕ) (v w : PassState) → IsNew used word → used' ≡ insert used word → words_in (mine w) ≡ word ∷ words_in (mine v) → BearsNew used used' v w
-bears_word used used' word v w new is more = record {
-  keeps = λ first within are.
-      let within' : StaysUsed first (insert used word) = λ other known. more_used used word other (within other known) in
-      let are' : AreNew first (insert used word) (word ∷ words_in (mine v)) = (not_first first used word (contains first word) refl within new.1, itself_used used word, is_other first used word (words_in (mine v)) new.1 are, all_used first used word (words_in (mine v)) are) in
-      (subst (StaysUsed first) (sym is) within', subst (λ (s : WordSet). AreNew first s (words_in (mine w))) (sym is) (subst (AreNew first (insert used word)) (sym more) are'));
-}
+pub bears_as : {W : Type 0} {drawn : W → ℕ → Type 0} (a b c d : W) (u v w x : PassState) → c ≡ a → d ≡ b → w ≡ u → x ≡ v → BearsNew drawn a b u v → BearsNew drawn c d w x
+bears_as {drawn = drawn} a b c d u v w x p q r s bears =
+    subst (λ k. BearsNew drawn k d w x) (sym p) (subst (λ k. BearsNew drawn a k w x) (sym q) (subst (λ (k : PassState). BearsNew drawn a b k x) (sym r) (subst (λ (k : PassState). BearsNew drawn a b u k) (sym s) bears)))
 
 -- a client's call bears no word
 pub call_bears : (v w : PassState) (side : End) (stream : ℕ) (a : Act) (answer : Answer) → word_by a ≡ [] → Grown v w side stream a answer → words_in (mine w) ≡ words_in (mine v)
@@ -105,3 +101,10 @@ none_delivered h g bytes word none = ap words_in (none_still h g bytes word none
 -- what is repeated bears no word
 pub look_bears : {L S : Type 0} (h g : HostState L S) (stream : ℕ) (a : Act) (known : Bool) → Looks h g stream a known → words_in (mine g.pass) ≡ words_in (mine h.pass)
 look_bears h g stream a known looks = ap words_in (looks_still h g stream a known looks)
+
+-- a start that came of a new word bears it, or there is none
+pub start_is_new : {L S E W : Type 0} (drawn : W → ℕ → Type 0) (h g : HostState L S) (s t : W) (stream word : ℕ) (batch : Bool) (version : Version) (r : Result (Option Mode) E) → IsNew (drawn s) (drawn t) word → StaysDrawn (drawn s) (drawn t)
+    → IfOk r (Did h g stream (start_of batch version word)) → OnOk r (BearsNew drawn s t h.pass g.pass)
+start_is_new drawn h g s t stream word batch version (Err e) new stays did = tt
+start_is_new drawn h g s t stream word batch version (Ok None) new stays did = none_borne s t h.pass g.pass stays (idle_bears h g stream (start_of batch version word) did)
+start_is_new drawn h g s t stream word batch version (Ok (Some mode)) new stays did = bears_word s t word h.pass g.pass new stays (start_bears h g stream word batch version mode did)

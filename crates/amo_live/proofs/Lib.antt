@@ -5,6 +5,7 @@ pub mod Conserving
 pub mod Emissions
 pub mod Showing
 pub mod Onwards
+pub mod OwnWords
 pub mod Opens
 pub mod Scans
 pub mod Suiting
@@ -12,7 +13,6 @@ pub mod Readers
 pub mod Repeating
 pub mod Returning
 pub mod Putting
-pub mod UsedUp
 pub mod Delivering
 pub mod Fresh
 pub mod Writers

@@ -14,6 +14,7 @@ use Rattle.std.proofs.lemmas.List.{length-map, length-set}
 use Rattle.amo_live.specs.Emitted.{OutboxState, AreEmitted}
 use Rattle.amo_live.specs.Host.{HostState, IsHost, IsOpened, Stays, comes_back, done, first_events, side_of, sides_from}
 use Rattle.amo_live.specs.Noted.{JournalState}
+use Rattle.amo_live.specs.Words.{words_in}
 use Rattle.amo_live.proofs.Onwards.{same_on}
 use Rattle.amo_live.proofs.Suiting.{stands}
 
@@ -118,3 +119,12 @@ pub first_back : {L S : Type 0} (h g : HostState L S) (side : End) (streams : �
 first_back h g side streams link journal lines opened stays some back =
     let none = none_made h side streams link journal opened in
     back ∙ (ap (λ l. comes_back h.pass.number h.book.sides l) none ∙ (ap (λ l. comes_back h.pass.number l []) opened.sides ∙ (ap (λ (n : ℕ). comes_back n (sides_from side 1 streams) []) (sym stays.number) ∙ sym (any_back g.pass.number (sides_from side 1 streams) lines some))))
+
+-- events by which sides come back bear no word
+back_bears_none : (pass : ℕ) (sides : List (End × ℕ)) (past : List Event) → words_in (comes_back pass sides past) ≡ words_in past
+back_bears_none pass [] past = refl
+back_bears_none pass ((side, stream) ∷ sides) past = back_bears_none pass sides (done pass side stream act.Recover ∷ done pass side stream act.Crash ∷ past)
+
+pub first_bears_none : (pass : ℕ) (sides : List (End × ℕ)) (lines : ℕ) → words_in (first_events pass sides lines) ≡ []
+first_bears_none pass sides zero = refl
+first_bears_none pass sides (suc n) = back_bears_none pass sides []

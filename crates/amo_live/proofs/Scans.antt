@@ -4,7 +4,6 @@ use Rattle.std.specs.List.{AllByRecursion, flat_map}
 use Rattle.std.proofs.lemmas.Grind.{flat_map-append}
 use Rattle.std.proofs.lemmas.List.{length-append}
 use Rattle.std.proofs.Math.Seq.{drop-append_seam}
-use Rattle.std.specs.FinSet.{empty}
 use Rattle.amo_object.specs.declared.step.End.{End}
 use Rattle.amo_text.specs.Line.{Lacks, text_of}
 use Rattle.amo_world.specs.declared.event.Event.{Event}
@@ -15,7 +14,6 @@ use Rattle.amo_journal.specs.Version.{heading, Opens}
 use Rattle.amo_journal.specs.Journal.{AreEvents, InRange, IsJournalOf, fields_of, line_text, numbered}
 use Rattle.amo_journal.proofs.Written.{opens_so}
 use Rattle.amo_live.specs.Scan.{BeginsHeading, IsRead, ScanState, Scanned}
-use Rattle.amo_live.specs.Words.{WordSet, with_act, with_events}
 
 both_lack : (byte : ℕ) (xs ys : List ℕ) → Lacks byte xs → Lacks byte ys → Lacks byte (xs ++ ys)
 both_lack byte [] ys a b = b
@@ -30,8 +28,8 @@ numbered_push n k [] e here = let is : k ≡ n = omega arith in ap (λ (m : ℕ)
 numbered_push n k (x ∷ events) e here = ap (λ l. record { number = n; event = x } ∷ l) (numbered_push (n + 1) k events e (omega arith))
 
 -- bytes without a line's end follow
-pub goes_on : (s t : ScanState) (before text : List ℕ) → Lacks 10 text → t.side ≡ s.side → t.version ≡ s.version → t.lines ≡ s.lines → t.whole ≡ s.whole → t.used ≡ s.used → t.rest ≡ s.rest ++ text → Scanned s before → Scanned t (before ++ text)
-goes_on s t before text lacks side version lines whole used rest h = record {
+pub goes_on : (s t : ScanState) (before text : List ℕ) → Lacks 10 text → t.side ≡ s.side → t.version ≡ s.version → t.lines ≡ s.lines → t.whole ≡ s.whole → t.rest ≡ s.rest ++ text → Scanned s before → Scanned t (before ++ text)
+goes_on s t before text lacks side version lines whole rest h = record {
   front = h.front;
   events = h.events;
   journal = subst (λ (v : Option Version). IsRead v h.events h.front) (sym version) h.journal;
@@ -40,15 +38,10 @@ goes_on s t before text lacks side version lines whole used rest h = record {
   torn = subst (Lacks 10) (sym rest) (both_lack 10 s.rest text h.torn lacks);
   lines = lines ∙ h.lines;
   whole = whole ∙ h.whole;
-  words = used ∙ h.words;
 }
 
 one_line : {X : Type 0} (f : X → List ℕ) (x : X) → flat_map f (x ∷ []) ≡ f x
 one_line f x = append-nil (f x)
-
-with_one : (used : WordSet) (events : List Event) (e : Event) → with_events used (events ++ e ∷ []) ≡ with_act (with_events used events) e.act
-with_one used [] e = refl
-with_one used (x ∷ events) e = with_one (with_act used x.act) events e
 
 -- the heading stands in front of a journal's lines
 opened_front : (version : Version) (body bytes : List ℕ) → Opens version body bytes → bytes ≡ heading version ++ body
@@ -91,8 +84,8 @@ whole_parts before front rest left parts none =
 
 -- the bytes behind the last line are the line of the next event
 pub ends_line : (version : Version) (s t : ScanState) (before : List ℕ) (number : ℕ) (event : Event) → InRange version (record { number = number; event = event }) → s.rest ≡ text_of (fields_of (record { number = number; event = event })) → number ≡ s.lines
-    → event.side ≡ s.side → version ≡ unwrap_or s.version One → t.side ≡ s.side → t.version ≡ Some version → t.used ≡ with_act s.used event.act → t.lines ≡ s.lines + 1 → t.whole ≡ s.whole + (length s.rest + 1) → t.rest ≡ [] → Scanned s before → Scanned t (before ++ 10 ∷ [])
-ends_line version s t before number event range text at of known side now used lines whole rest h =
+    → event.side ≡ s.side → version ≡ unwrap_or s.version One → t.side ≡ s.side → t.version ≡ Some version → t.lines ≡ s.lines + 1 → t.whole ≡ s.whole + (length s.rest + 1) → t.rest ≡ [] → Scanned s before → Scanned t (before ++ 10 ∷ [])
+ends_line version s t before number event range text at of known side now lines whole rest h =
     let spelt : s.rest ++ 10 ∷ [] ≡ line_text (record { number = number; event = event }) = ap (λ (l : List ℕ). l ++ 10 ∷ []) text in
     let was = h.lines in let had = h.whole in
     let place : number ≡ length h.events = omega arith in
@@ -107,13 +100,12 @@ ends_line version s t before number event range text at of known side now used l
       torn = subst (Lacks 10) (sym rest) tt;
       lines = omega arith;
       whole = omega arith;
-      words = used ∙ (ap (λ (w : WordSet). with_act w event.act) h.words ∙ sym (with_one empty h.events event));
     }
 
 -- they are the heading of version 2
-pub ends_heading : (s t : ScanState) (before : List ℕ) → s.version ≡ None → s.rest ++ 10 ∷ [] ≡ heading Two → t.side ≡ s.side → t.version ≡ Some Two → t.used ≡ s.used → t.lines ≡ s.lines → t.whole ≡ s.whole + (length s.rest + 1) → t.rest ≡ []
+pub ends_heading : (s t : ScanState) (before : List ℕ) → s.version ≡ None → s.rest ++ 10 ∷ [] ≡ heading Two → t.side ≡ s.side → t.version ≡ Some Two → t.lines ≡ s.lines → t.whole ≡ s.whole + (length s.rest + 1) → t.rest ≡ []
     → Scanned s before → Scanned t (before ++ 10 ∷ [])
-ends_heading s t before none text side now used lines whole rest h =
+ends_heading s t before none text side now lines whole rest h =
     let read : IsRead None h.events h.front = subst (λ (v : Option Version). IsRead v h.events h.front) none h.journal in
     let is : h.front ++ (s.rest ++ 10 ∷ []) ≡ heading Two = ap (λ (l : List ℕ). l ++ (s.rest ++ 10 ∷ [])) read.1 ∙ text in
     let journal : IsJournalOf Two [] (h.front ++ (s.rest ++ 10 ∷ [])) = record { body = []; opens = is ∙ sym (append-nil (heading Two)); lines = (tt, refl) } in
@@ -128,7 +120,6 @@ ends_heading s t before none text side now used lines whole rest h =
       torn = subst (Lacks 10) (sym rest) tt;
       lines = lines ∙ h.lines;
       whole = omega arith;
-      words = used ∙ h.words;
     }
 
 -- a beginning of the heading that lacks one byte lacks its end
@@ -142,8 +133,8 @@ pub has_end : (text : List ℕ) → text ++ 10 ∷ [] ≡ heading Two → length
 has_end text is = sym (length-append text (10 ∷ [])) ∙ ap length is
 
 -- nothing was read
-pub none_read : (s : ScanState) → s.version ≡ None → s.lines ≡ 0 → s.whole ≡ 0 → s.rest ≡ [] → s.used ≡ empty → Scanned s []
-none_read s version lines whole rest used = record {
+pub none_read : (s : ScanState) → s.version ≡ None → s.lines ≡ 0 → s.whole ≡ 0 → s.rest ≡ [] → Scanned s []
+none_read s version lines whole rest = record {
   front = [];
   events = [];
   journal = subst (λ (v : Option Version). IsRead v [] []) (sym version) (refl, refl);
@@ -152,7 +143,6 @@ none_read s version lines whole rest used = record {
   torn = subst (Lacks 10) (sym rest) tt;
   lines = lines;
   whole = whole;
-  words = used;
 }
 
 -- a line was read, with its end

@@ -2,9 +2,16 @@
 use Rattle.amo_journal.specs.declared.fault.JournalFault.{JournalFault}
 use Rattle.amo_journal.specs.declared.fault.JournalFault.TheVariants as journal
 use Rattle.amo_live.specs.declared.fault.LiveFault.{LiveFault}
-use Rattle.amo_live.specs.declared.fault.LiveFault.TheVariants.{NoMemory, Journal}
+use Rattle.amo_lives.specs.declared.fault.BeginFault.{BeginFault}
+use Rattle.amo_lives.specs.declared.fault.BeginFault.TheVariants as begin
+use Rattle.amo_live.specs.declared.fault.LiveFault.TheVariants.{NoMemory, Journal, Lives}
 
 -- of a line that was not written
 abbrev pub note_fault : JournalFault → LiveFault
 note_fault journal.NoMemory = NoMemory
 note_fault _ = Journal
+
+-- of a life that did not begin
+abbrev pub begin_fault : BeginFault → LiveFault
+begin_fault begin.NoMemory = NoMemory
+begin_fault begin.Device = Lives

@@ -3,6 +3,7 @@ pub mod Client
 pub mod Emitted
 pub mod Fault
 pub mod Host
+pub mod HostLives
 pub mod Noted
 pub mod Notices
 pub mod Plans

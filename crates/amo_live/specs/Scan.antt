@@ -12,17 +12,15 @@ use Rattle.amo_journal.specs.declared.version.Version.{Version}
 use Rattle.amo_journal.specs.declared.version.Version.TheVariants.{Two}
 use Rattle.amo_journal.specs.Version.{heading}
 use Rattle.amo_journal.specs.Journal.{InRange, IsJournalOf, fields_of}
-use Rattle.amo_live.specs.Words.{WordSet, used_by}
 
 -- the side that each line is to be of; the version, where a line told it; how many lines of events were read, how many bytes the whole lines have, and
--- the bytes behind the last of them; and the words that the events may have used up
+-- the bytes behind the last of them
 pub record ScanState : Type 0 where
   pub side : End
   pub version : Option Version
   pub lines : ℕ
   pub whole : ℕ
   pub rest : List ℕ
-  pub used : WordSet
 
 -- The bytes are the journal of these events, in the version that its first line tells: the heading of the version, and then the lines. Before there
 -- is a whole line they are none.
@@ -30,8 +28,7 @@ abbrev pub IsRead : Option Version → List Event → List ℕ → Type 0
 IsRead None events bytes = (events ≡ []) × (bytes ≡ [])
 IsRead (Some version) events bytes = IsJournalOf version events bytes
 
--- The bytes are a journal of this side, and then what may be the beginning of a line. The journal has this version and so many lines and bytes, and
--- these words.
+-- The bytes are a journal of this side, and then what may be the beginning of a line. The journal has this version and so many lines and bytes.
 pub record Scanned (s : ScanState) (bytes : List ℕ) : Type 0 where
   pub front : List ℕ
   pub events : List Event
@@ -41,7 +38,6 @@ pub record Scanned (s : ScanState) (bytes : List ℕ) : Type 0 where
   pub torn : Lacks 10 s.rest
   pub lines : s.lines ≡ length events
   pub whole : s.whole ≡ length front
-  pub words : s.used ≡ used_by events
 
 -- what stands in front of the stream in the first line of an event: its number, the number of a live host's pass, and the side
 abbrev pub first_front : End → List ℕ

@@ -8,7 +8,6 @@ use Rattle.amo_journal.specs.declared.version.Version.{Version}
 use Rattle.amo_journal.specs.declared.version.Version.TheVariants.{One, Two}
 use Rattle.amo_book.specs.Pass.{PassState, mine}
 use Rattle.amo_live.specs.Host.{puts_in}
-use Rattle.amo_live.specs.Words.{WordSet}
 use Rattle.amo_live.specs.declared.lines.Spelling.{Spelling}
 use Rattle.amo_live.specs.declared.service.Service.{Service}
 use Rattle.amo_live.specs.declared.service.Setup.{Setup}
@@ -25,9 +24,9 @@ shown_by service = service.shown.items
 abbrev pub got_by : {L S W : Type 0} → Service L S W → ℕ
 got_by service = service.got
 
--- the words that it does not use again
-abbrev pub words_of : {L S W : Type 0} → Service L S W → WordSet
-words_of service = service.words.used
+-- where its next words come from
+abbrev pub words_of : {L S W : Type 0} → Service L S W → W
+words_of service = service.words
 
 -- no message was put
 abbrev pub PutsNone : PassState → PassState → Type 0

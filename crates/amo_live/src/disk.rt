@@ -21,7 +21,7 @@ use std::{fs, io};
 /// How many bytes of a journal are read at once.
 const PIECE: usize = 65536;
 
-/// Messages stand in a journal in clear: its owner alone reads and writes a new one.
+/// Messages stand in a journal in clear, and words follow from the key of a file of lives: its owner alone reads and writes a new one.
 const MODE: u32 = 0o600;
 
 /// How often a write that signals interrupt is tried again.
@@ -73,19 +73,7 @@ impl<'a, L: Ledger> Disk<'a, File, L> {
         requires some { 0 < L.parts }
         ensures calm { IfOk result (λ opened. opened.disk.failures ≡ 0) }
     {
-        let opened: File = OpenOptions::new()
-            .read(true)
-            .append(true)
-            .create(true)
-            .mode(MODE)
-            .open(rt, path)?;
-        // Where a standard stream is closed, the file has its number, and gets what is shown there. A clone has a number of its own.
-        let file = opened.try_clone()?;
-        match file.try_lock() {
-            Ok(()) => (),
-            Err(TryLockError::WouldBlock) => return Err(OpenFault::InUse),
-            Err(TryLockError::Error(error)) => return Err(OpenFault::from(error)),
-        }
+        let file = open_alone(rt, path)?;
         let length = file.metadata()?.len();
         let front = length_without_zeros(&file, length)?;
         if front == 0 && length > 0 {
@@ -96,15 +84,10 @@ impl<'a, L: Ledger> Disk<'a, File, L> {
         file.set_len(scan.whole())?;
         if plan.limits.sync {
             file.sync_all()?;
-            fs::open(rt, directory_of(path))?.sync_all()?;
+            sync_entry(rt, path)?;
         }
-        let disk = Disk {
-            writer: file,
-            failures: Failures::new(blank),
-            cause,
-        };
         Ok(Opened {
-            disk,
+            disk: Disk::new(file, cause, blank),
             scan,
             zeros: length.saturating_sub(front),
         })
@@ -112,6 +95,20 @@ impl<'a, L: Ledger> Disk<'a, File, L> {
 }
 
 impl<'a, W, L: Ledger> Disk<'a, W, L> {
+    /// Lines are appended to this writer, and why a call failed is kept in this cell. The blank becomes the ledger in which contracts count failures.
+    pub(crate) fn new(writer: W, cause: &'a Cell<Option<Cause>>, blank: Blank) -> Disk<'a, W, L>
+        requires name { blank.name ≡ L.name }
+        requires parts { blank.parts ≡ L.parts }
+        requires some { 0 < L.parts }
+        ensures { result ≡ record { writer = writer; failures = 0 } }
+    {
+        Disk {
+            writer,
+            failures: Failures::new(blank),
+            cause,
+        }
+    }
+
     /// Counts a call that failed, and keeps why.
     fn failed(&mut self, cause: Cause) -> SinkFault
         ensures { self.new ≡ record self.old { failures = self.old.failures + 1 } }
@@ -162,6 +159,34 @@ fn write_patiently<W: Write>(writer: &mut W, bytes: &[u8]) -> io::Result<usize>
         }
     }
     writer.write(bytes)
+}
+
+/// Opens a file to be read and appended to, or makes one that is its owner's alone. Nobody else has it.
+pub(crate) fn open_alone<R: Files<File = File>>(rt: &R, path: &str) -> Result<File, TryLockError> {
+    match open_own(rt, path) {
+        Ok(file) => {
+            file.try_lock()?;
+            Ok(file)
+        }
+        Err(error) => Err(TryLockError::Error(error)),
+    }
+}
+
+/// Opens the file, or makes it.
+fn open_own<R: Files<File = File>>(rt: &R, path: &str) -> io::Result<File> {
+    let opened: File = OpenOptions::new()
+        .read(true)
+        .append(true)
+        .create(true)
+        .mode(MODE)
+        .open(rt, path)?;
+    // Where a standard stream is closed, the file has its number, and gets what is shown there. A clone has a number of its own.
+    opened.try_clone()
+}
+
+/// Puts the entry of the file of this path on the disk.
+pub(crate) fn sync_entry<R: Files<File = File>>(rt: &R, path: &str) -> io::Result<()> {
+    fs::open(rt, directory_of(path))?.sync_all()
 }
 
 /// The directory in which the file of this path stands.

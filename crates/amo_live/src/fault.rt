@@ -2,8 +2,10 @@
 ghost use Rattle.std.specs.Prelude.{◌≡◌};
 
 use amo_journal::JournalFault;
+use amo_lives::{BeginFault, BeyondJournal, LivesFault};
 use std::alloc::AllocError;
 use std::fmt::{Display, Formatter};
+use std::fs::TryLockError;
 use std::io::ErrorKind;
 use std::{fmt, io};
 use thiserror::Error;
@@ -56,6 +58,9 @@ pub enum LiveFault {
     /// The journal has as many lines as can be numbered.
     #[error("the journal is full")]
     Full,
+    /// The device of the file of lives failed, so that no word can be drawn.
+    #[error("the file of lives failed")]
+    Lives,
     /// Another call was under way at a side. In a process with one thread there is none.
     #[error("busy")]
     Busy,
@@ -70,6 +75,19 @@ impl From<JournalFault> for LiveFault {
         match fault {
             JournalFault::NoMemory => LiveFault::NoMemory,
             _ => LiveFault::Journal,
+        }
+    }
+}
+
+impl From<BeginFault> for LiveFault {
+    ghost use Rattle.amo_live.specs.Fault.{begin_fault};
+
+    ghost from_gives = { λ fault live. live ≡ begin_fault fault };
+
+    fn from(fault: BeginFault) -> LiveFault {
+        match fault {
+            BeginFault::NoMemory => LiveFault::NoMemory,
+            BeginFault::Device => LiveFault::Lives,
         }
     }
 }
@@ -128,6 +146,73 @@ impl From<io::Error> for OpenFault {
         match error.kind() {
             ErrorKind::OutOfMemory => OpenFault::NoMemory,
             _ => OpenFault::Device(Cause::from(error)),
+        }
+    }
+}
+
+/// The fault of a file that was not opened, or that another process has.
+impl From<TryLockError> for OpenFault {
+    fn from(error: TryLockError) -> OpenFault {
+        match error {
+            TryLockError::WouldBlock => OpenFault::InUse,
+            TryLockError::Error(error) => OpenFault::from(error),
+        }
+    }
+}
+
+/// Why a file of lives cannot go on. It is as it was; but where the device failed, a last line that was torn may be gone, or a heading begun.
+#[derive(Clone, Copy, Debug, PartialEq, Eq, Error)]
+pub enum LivesOpenFault {
+    /// Another process has the file.
+    #[error("another process has it in use")]
+    InUse,
+    /// It is no file of lives of this side.
+    #[error("{0}: it was left as it is")]
+    Unread(LivesFault),
+    /// A life begins beyond the end of the journal.
+    #[error("{0}: give both files of one copy, or move this one away")]
+    Beyond(BeyondJournal),
+    /// The machine's fault: memory was refused.
+    #[error("out of memory")]
+    NoMemory,
+    /// The system gave no seed.
+    #[error("the system gives no random bytes: {0}")]
+    Seed(Cause),
+    /// Its device failed.
+    #[error("{0}")]
+    Device(Cause),
+}
+
+impl From<LivesFault> for LivesOpenFault {
+    fn from(fault: LivesFault) -> LivesOpenFault {
+        match fault {
+            LivesFault::NoMemory => LivesOpenFault::NoMemory,
+            _ => LivesOpenFault::Unread(fault),
+        }
+    }
+}
+
+impl From<BeyondJournal> for LivesOpenFault {
+    fn from(fault: BeyondJournal) -> LivesOpenFault {
+        LivesOpenFault::Beyond(fault)
+    }
+}
+
+/// The fault of a file that was not opened, or that another process has.
+impl From<TryLockError> for LivesOpenFault {
+    fn from(error: TryLockError) -> LivesOpenFault {
+        match error {
+            TryLockError::WouldBlock => LivesOpenFault::InUse,
+            TryLockError::Error(error) => LivesOpenFault::from(error),
+        }
+    }
+}
+
+impl From<io::Error> for LivesOpenFault {
+    fn from(error: io::Error) -> LivesOpenFault {
+        match error.kind() {
+            ErrorKind::OutOfMemory => LivesOpenFault::NoMemory,
+            _ => LivesOpenFault::Device(Cause::from(error)),
         }
     }
 }
@@ -193,9 +278,6 @@ pub enum ProcessFault {
     /// Its turns ended.
     #[error("{0}")]
     Serve(ServeFault),
-    /// The system gave no seed.
-    #[error("the system gives no random bytes: {0}")]
-    Seed(Cause),
 }
 
 impl From<OpenFault> for ProcessFault {
@@ -219,14 +301,5 @@ impl From<LiveFault> for ProcessFault {
 impl From<AllocError> for ProcessFault {
     fn from(_error: AllocError) -> ProcessFault {
         ProcessFault::from(LiveFault::NoMemory)
-    }
-}
-
-impl From<io::Error> for ProcessFault {
-    fn from(error: io::Error) -> ProcessFault {
-        match error.kind() {
-            ErrorKind::OutOfMemory => ProcessFault::from(LiveFault::NoMemory),
-            _ => ProcessFault::Seed(Cause::from(error)),
-        }
     }
 }

@@ -116,6 +116,13 @@ impl<L: Link, S: Sink> Host<L, S> {
         self.journal.version()
     }
 
+    /// The number of the journal's next line.
+    pub fn next_line(&self) -> u64
+        ensures { result ≡ self.now.journal.next }
+    {
+        self.journal.next_line()
+    }
+
     /// The packet that a datagram is, if the journal has a line for its delivery.
     pub fn read<'a>(&self, bytes: &'a [u8]) -> Result<Packet<'a>, ReadFault>
         ensures found { IfOk result (λ p. Spells (newest self.now.journal.version) bytes.now (packet_of p)) }

@@ -105,6 +105,13 @@ impl<S: Sink> Journal<S> {
         self.version
     }
 
+    /// The number of the next line.
+    pub fn next_line(&self) -> u64
+        ensures { result ≡ self.now.next }
+    {
+        self.next
+    }
+
     /// Writes the line of this event, whole, with the next number.
     ///
     /// Where that fails a beginning of the line was written, and the journal can only be opened again. It is full where no number is left, and its

@@ -18,6 +18,10 @@
 //! datagram that would change nothing, and draw no answer but one that left of late, was lost, and that answer is repeated. So a journal grows by
 //! nothing while a peer is away, or hears and is not heard.
 //!
+//! **Words come in lives**, from a [`Lineage`]: no event bears a word that another one bears, in this life or in an earlier one. [`HostLives`] keeps a file with
+//! a key and a line for each life, which is written before the life's first word is drawn; so a host keeps no word that it used. Where the words of a
+//! life are at their end another one begins.
+//!
 //! The contracts say it so. Each call that makes an event asks that the journal has all lines so far, and gives that back with
 //! Ok. It never touches the link: what its row emits is added to the packets that are to leave. [`Host::send`], which hands them to the
 //! link, asks for the same. Where a line fails the call answers a fault, and says only that a beginning of the lines was written: no
@@ -27,7 +31,7 @@
 //! such start would be a line; and it does not tell when it sends again.
 //!
 //! The definitions stand in `specs/`: a journal that goes on in `Noted.antt`, a host and what its calls do in `Host.antt`, packets that leave again in
-//! `Emitted.antt`.
+//! `Emitted.antt`, words that events bear in `Words.antt`, and those of a host's lives in `HostLives.antt`.
 #![tactic(auto)]
 
 mod acts;
@@ -35,9 +39,11 @@ mod calls;
 mod disk;
 mod fault;
 mod host;
+mod host_lives;
 mod input;
 mod journal;
 mod lines;
+mod lives_file;
 mod notices;
 mod noting;
 mod outbox;
@@ -55,11 +61,15 @@ mod words;
 
 pub use amo_journal::Version;
 pub use disk::{Disk, Opened, scan_all};
-pub use fault::{Cause, LiveFault, OpenFault, ProcessFault, ServeFault, SocketFault};
+pub use fault::{
+    Cause, LiveFault, LivesOpenFault, OpenFault, ProcessFault, ServeFault, SocketFault,
+};
 pub use host::Host;
+pub use host_lives::HostLives;
 pub use input::{Input, Line};
 pub use journal::{Durable, Journal};
 pub use lines::{LineFault, Spelling};
+pub use lives_file::OpenedLives;
 pub use notices::Silence;
 pub use plan::Plan;
 pub use process::{run_process, start};
@@ -67,4 +77,4 @@ pub use scan::Scan;
 pub use service::{Service, Setup};
 pub use socket::Socket;
 pub use turns::{Desk, Ended, Limits, serve};
-pub use words::{FreshWords, UsedWords};
+pub use words::Lineage;

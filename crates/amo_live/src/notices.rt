@@ -2,10 +2,9 @@
 ghost use Rattle.std.specs.Prelude.{◌≡◌, ◌&&◌, ◌||◌, None, Some, false, not, unwrap_or, if◌then◌else◌};
 ghost use Rattle.amo_live.specs.Notices.{is_long};
 
-use crate::Service;
+use crate::{Lineage, Service};
 use amo_net::Link;
 use amo_text::Sink;
-use amo_word::Words;
 
 /// How long a peer is silent before that is told, in microseconds.
 const TEN_SECONDS: u64 = 10_000_000;
@@ -86,7 +85,7 @@ impl Notices {
     }
 
     /// Tells what is new since the last turn.
-    pub(crate) fn tell<C: Eprint, L: Link, S: Sink, W: Words>(
+    pub(crate) fn tell<C: Eprint, L: Link, S: Sink, W: Lineage>(
         &mut self,
         rt: &C,
         service: &Service<L, S, W>,

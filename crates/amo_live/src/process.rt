@@ -4,31 +4,31 @@ ghost use Rattle.amo_book.specs.Pass.{mine};
 ghost use Rattle.amo_live.specs.Host.{IsNoted, first_events, sides_from};
 ghost use Rattle.amo_live.specs.Noted.{Holds, IsSameJournal, opening};
 ghost use Rattle.amo_live.specs.Service.{new_version, streams_of, words_of};
+ghost use Rattle.amo_live.specs.Words.{words_in};
 
 use crate::{
-    Desk, Durable, Ended, FreshWords, Host, Input, Journal, Limits, LiveFault, Plan, ProcessFault,
+    Desk, Durable, Ended, Host, Input, Journal, Limits, Lineage, LiveFault, Plan, ProcessFault,
     Scan, Service, Setup, serve,
 };
 use amo_journal::Version;
 use amo_net::Link;
 use amo_object::End;
 use amo_text::Sink;
-use amo_word::{ChaChaWords, Words};
 use std::alloc::Global;
 use std::io::{Read, Write};
 use std::os::fd::AsRawFd;
-use std::random::RandomSource;
 use std::rt::Clock;
 
 /// Runs a host of 1 to 256 streams over this link until its clients are done. The system waits for the link by this number. A host that sends
 /// takes lines from the reader, and one that receives leaves it alone; answers and messages go to the output. The journal goes on in the sink, of
-/// which this was read. It is refused where batches are to be started for which it has no lines.
+/// which this was read, and new handshakes get these words. It is refused where batches are to be started for which it has no lines.
 pub fn run_process<
-    R: AllocGlobal + Clock + Eprint + RandomSource,
+    R: AllocGlobal + Clock + Eprint,
     I: Read + AsRawFd + Drop,
     O: Write + AsRawFd + Drop,
     L: Link + Drop,
     S: Durable + Drop,
+    W: Lineage + Drop,
 >(
     rt: &R,
     plan: Plan,
@@ -38,12 +38,12 @@ pub fn run_process<
     number: i32,
     sink: S,
     scan: Scan,
+    words: W,
 ) -> Result<Ended, ProcessFault>
     requires { (1 ≤ plan.setup.streams) × (plan.setup.streams ≤ 256) }
 {
     scan.admit(plan.setup.batch)?;
     let alloc = rt.alloc();
-    let words = ChaChaWords::new(seed(rt)?, 0);
     let desk = Desk {
         reader_number: reader.as_raw_fd(),
         reader,
@@ -58,19 +58,12 @@ pub fn run_process<
     work(rt, alloc, plan, link, sink, scan, words, desk)
 }
 
-/// A seed from the system.
-fn seed<R: RandomSource>(rt: &R) -> Result<[u8; 32], ProcessFault> {
-    let mut seed = [0; 32];
-    rt.fill_bytes(&mut seed)?;
-    Ok(seed)
-}
-
 /// Starts a host over this link, with a journal of which this was read, and makes its turns.
 fn work<
     C: Clock + Eprint,
     L: Link + Drop,
     S: Durable + Drop,
-    W: Words + Drop,
+    W: Lineage + Drop,
     I: Read + Drop,
     O: Write + Drop,
 >(
@@ -95,7 +88,7 @@ fn work<
 
 /// A host over this link, with a journal of which this was read. Where it has a line of an event, it is noted that each stream's side crashed
 /// and is up again. Where it has no line at all it is begun: its heading is written, before anything else.
-pub fn start<L: Link + Drop, S: Durable + Drop, W: Words + Drop>(
+pub fn start<L: Link + Drop, S: Durable + Drop, W: Lineage + Drop>(
     alloc: Global,
     setup: Setup,
     link: L,
@@ -108,14 +101,14 @@ pub fn start<L: Link + Drop, S: Durable + Drop, W: Words + Drop>(
     // first tells of a crash of each side and its recovery, where it has a line of an event, and else of nothing.
     ensures noted { IfOk result (λ service. IsNoted S.written service.host) }
     ensures journal { IfOk result (λ service. IsSameJournal (opening (new_version setup) scan.version scan.lines sink) service.host.journal) }
-    // It has the streams that it was set up for, and none of the words that the journal tells of is used again.
+    // It has the streams that it was set up for. No word was drawn, and no event of the host bears one.
     ensures streams { IfOk result (λ service. streams_of service ≡ setup.streams) }
-    ensures words { IfOk result (λ service. words_of service ≡ scan.used) }
+    ensures words { IfOk result (λ service. words_of service ≡ words) }
+    ensures unborne { IfOk result (λ service. words_in (mine service.host.pass) ≡ []) }
     ensures back { IfOk result (λ service. mine service.host.pass ≡ first_events service.host.pass.number (sides_from setup.side 1 setup.streams) scan.lines) }
 {
     let lines = scan.lines();
     let journal = open_journal(alloc, sink, scan.version(), lines, setup.new_version())?;
-    let words = FreshWords::new(words, scan.into_used());
     let mut host = Host::open(alloc, setup.side, setup.streams, link, journal)?;
     if lines > 0 {
         host.come_back()?;

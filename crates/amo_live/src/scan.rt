@@ -1,18 +1,15 @@
-//! Reads a journal in pieces: of which version it is, where it ends, and which words it has.
+//! Reads a journal in pieces: of which version it is, and where it ends.
 ghost use Rattle.std.specs.Prelude.{◌≡◌, ◌≢◌, ◌+◌, ◌≤◌, ◌++◌, ◌∷◌, ◌⊎◌, ◌↔◌, ℕ, List, [], length, IfErr, IfSome, IsOk, IsSome, IsTrue, OnOk, true, unwrap_or};
 ghost use Rattle.amo_text.specs.Line.{Lacks};
 ghost use Rattle.amo_journal.specs.Version.{heading};
 ghost use Rattle.amo_live.specs.Scan.{Agree, Begins, BeginsAct, BeginsHeading, BeginsJournal, BeginsLine, BeginsStream, IsTooLong, Scanned, first_front};
-ghost use Rattle.amo_live.specs.Words.{with_act};
 
-use crate::{OpenFault, UsedWords};
-use amo_core::Act;
+use crate::OpenFault;
 use amo_journal::{Version, read_line};
 use amo_object::End;
 use amo_packet::MAX_PACKET;
 use amo_text::{next_field, next_line, read_stream};
-use amo_world::Event;
-use std::alloc::{AllocError, Global};
+use std::alloc::Global;
 use std::marker::Model;
 
 /// A longer text is no line. The longest line is that of a delivery of the longest packet, in HEX; its other fields, which are a number, a pass,
@@ -20,7 +17,7 @@ use std::marker::Model;
 const LONGEST_LINE: usize = 2 * MAX_PACKET + 64;
 
 /// What was read so far. Contracts see the side that each line is of, the version where a line told it, how many lines of events and how many
-/// bytes are whole, the bytes behind them, and the words that the lines may have used up.
+/// bytes are whole, and the bytes behind them.
 #[derive(Drop)]
 pub struct Scan {
     alloc: Global,
@@ -29,19 +26,14 @@ pub struct Scan {
     lines: u64,
     whole: u64,
     rest: Vec<u8>,
-    used: UsedWords,
 }
 
 impl Model for Scan {
-    ghost use Rattle.std.specs.Coded.{codes};
     ghost use Rattle.amo_live.specs.Scan.{ScanState};
-    ghost use Rattle.amo_live.specs.Words.{words_code};
 
     ghost Value = { ScanState };
 
-    ghost coded = { Prim.hlevel (codes, words_code) };
-
-    ghost view = { λ s. record { side = s.side; version = s.version; lines = s.lines; whole = s.whole; rest = s.rest.items; used = s.used } };
+    ghost view = { λ s. record { side = s.side; version = s.version; lines = s.lines; whole = s.whole; rest = s.rest.items } };
 }
 
 impl Scan {
@@ -58,7 +50,6 @@ impl Scan {
             lines: 0,
             whole: 0,
             rest: Vec::new(alloc),
-            used: UsedWords::new(alloc),
         }
     }
 
@@ -81,13 +72,6 @@ impl Scan {
         ensures { result ≡ self.now.whole }
     {
         self.whole
-    }
-
-    /// The words that the journal's host may have used up.
-    pub fn into_used(self) -> UsedWords
-        ensures { result ≡ self.used }
-    {
-        self.used
     }
 
     /// Refuses the journal where starts of batches are wanted, and its version has no lines for them.
@@ -207,9 +191,6 @@ impl Scan {
         let Some(whole) = self.whole_with_rest() else {
             return Err(OpenFault::Malformed(place));
         };
-        let Ok(()) = use_up(&mut self.used, &line.event) else {
-            return Err(OpenFault::NoMemory);
-        };
         self.version = Some(version);
         self.lines = lines;
         self.whole = whole;
@@ -302,15 +283,4 @@ fn is_heading(text: &[u8]) -> bool
     ensures { IsTrue result ↔ (text.now ++ 10 ∷ [] ≡ heading Version.Two) }
 {
     text.len() + 1 == Version::Two.heading().len() && begins_heading(text)
-}
-
-/// Notes the word that an event may have used up.
-fn use_up(used: &mut UsedWords, event: &Event) -> Result<(), AllocError>
-    ensures { OnOk result (used.new ≡ with_act used.old event.now.act) }
-{
-    match &event.act {
-        Act::Start(word) | Act::Batch(word) => used.insert(*word),
-        Act::Deliver(_, word) => used.insert(*word),
-        _ => Ok(()),
-    }
 }

@@ -7,18 +7,17 @@ ghost use Rattle.amo_live.specs.Client.{has};
 ghost use Rattle.amo_live.specs.Host.{Delivered, Did, IsNoted, Puts};
 ghost use Rattle.amo_live.specs.Service.{PutsNone, got_by, new_version, shown_by, spelling_of, start_of, starts_batches, streams_of, words_of};
 ghost use Rattle.amo_live.specs.Shown.{ShowsMore};
-ghost use Rattle.amo_live.specs.Words.{BearsNew};
+ghost use Rattle.amo_live.specs.Words.{BearsNew, IsNew, StaysDrawn};
 
 use crate::lines::{Spelling, Word, push_message, push_word};
 use crate::timer::Timer;
-use crate::{FreshWords, Host, LiveFault};
+use crate::{Host, Lineage, LiveFault};
 use amo_core::{MAX_WAITING, Mode};
 use amo_journal::Version;
 use amo_net::{Link, MAX_DATAGRAM};
 use amo_object::End;
 use amo_packet::{Body, MAX_BATCH, Message, Packet, read};
 use amo_text::Sink;
-use amo_word::Words;
 use std::alloc::{AllocError, Global};
 
 /// How many datagrams a turn takes at most.
@@ -73,7 +72,7 @@ pub struct Service<L, S, W> {
     pub host: Host<L, S>,
     setup: Setup,
     lanes: Vec<Lane>,
-    words: FreshWords<W>,
+    words: W,
     shown: Vec<u8>,
     got: u64,
     /// How many streams' clients have no answer yet.
@@ -117,18 +116,18 @@ impl Setup {
     }
 }
 
-impl<L: Link + Drop, S: Sink + Drop, W: Words + Drop> Service<L, S, W> {
+impl<L: Link + Drop, S: Sink + Drop, W: Lineage + Drop> Service<L, S, W> {
     /// A service of this host.
     pub fn new(
         alloc: Global,
         host: Host<L, S>,
-        words: FreshWords<W>,
+        words: W,
         setup: Setup,
     ) -> Result<Service<L, S, W>, AllocError>
         requires { IsNoted S.written host }
         ensures host { IfOk result (λ service. service.host ≡ host) }
         ensures streams { IfOk result (λ service. streams_of service ≡ setup.streams) }
-        ensures words { IfOk result (λ service. words_of service ≡ words.used) }
+        ensures words { IfOk result (λ service. words_of service ≡ words) }
         ensures shown { IfOk result (λ service. shown_by service ≡ []) }
         ensures spelling { IfOk result (λ service. spelling_of service ≡ setup.spelling) }
     {
@@ -163,7 +162,7 @@ fn lanes_of(alloc: Global, streams: u32, mode: Mode) -> Result<Vec<Lane>, AllocE
     Ok(lanes)
 }
 
-impl<L: Link, S: Sink, W: Words> Service<L, S, W> {
+impl<L: Link, S: Sink, W: Lineage> Service<L, S, W> {
     /// What is to be shown to the clients.
     pub fn shown(&self) -> &[u8]
         ensures { result.now ≡ shown_by self.now }
@@ -288,7 +287,7 @@ impl<L: Link, S: Sink, W: Words> Service<L, S, W> {
         ensures streams { streams_of self.new ≡ streams_of self.old }
         ensures shown { OnOk result (ShowsMore (spelling_of self.old) self.old.host.pass self.new.host.pass (shown_by self.old) (shown_by self.new)) }
         ensures spelling { spelling_of self.new ≡ spelling_of self.old }
-        ensures words { OnOk result (BearsNew (words_of self.old) (words_of self.new) self.old.host.pass self.new.host.pass) }
+        ensures words { OnOk result (BearsNew W.is_drawn (words_of self.old) (words_of self.new) self.old.host.pass self.new.host.pass) }
     {
         let Some(lane) = self.lane(stream) else {
             return Ok(Some(message));
@@ -337,7 +336,7 @@ impl<L: Link, S: Sink, W: Words> Service<L, S, W> {
         ensures streams { streams_of self.new ≡ streams_of self.old }
         ensures shown { OnOk result (ShowsMore (spelling_of self.old) self.old.host.pass self.new.host.pass (shown_by self.old) (shown_by self.new)) }
         ensures spelling { spelling_of self.new ≡ spelling_of self.old }
-        ensures words { OnOk result (BearsNew (words_of self.old) (words_of self.new) self.old.host.pass self.new.host.pass) }
+        ensures words { OnOk result (BearsNew W.is_drawn (words_of self.old) (words_of self.new) self.old.host.pass self.new.host.pass) }
     {
         let Some(lane) = self.lane(stream) else {
             return Ok(());
@@ -355,23 +354,16 @@ impl<L: Link, S: Sink, W: Words> Service<L, S, W> {
         Ok(())
     }
 
-    /// Begins a handshake on a stream under the next word, which is used up by that, if its sender is at rest and a message waits.
-    #[tactic(auto, using(crate::proofs::Fresh::bears_none, crate::proofs::Fresh::bears_word, crate::proofs::Fresh::start_bears, crate::proofs::Fresh::idle_bears))]
+    /// Begins a handshake on a stream under the next word, if its sender is at rest and a message waits.
     fn start_anew(&mut self, stream: u32) -> Result<Option<Mode>, LiveFault>
         requires { IsNoted S.written self.old.host }
         ensures noted { OnOk result (IsNoted S.written self.new.host) }
         ensures did { IfOk result (λ mode. (word : ℕ) × Did self.old.host self.new.host stream (start_of self.old.setup.batch self.old.host.journal.version word) mode) }
-        ensures words { OnOk result (BearsNew (words_of self.old) (words_of self.new) self.old.host.pass self.new.host.pass) }
+        ensures words { OnOk result (BearsNew W.is_drawn (words_of self.old) (words_of self.new) self.old.host.pass self.new.host.pass) }
         ensures same { self.new ≡ record self.old { host = self.new.host; words = self.new.words } }
     {
-        let Some(word) = self.words.peek() else {
-            return Ok(None);
-        };
-        let Some(mode) = self.start(stream, word)? else {
-            return Ok(None);
-        };
-        self.words.use_up()?;
-        Ok(Some(mode))
+        let word = draw(&mut self.words, self.host.next_line())?;
+        self.start(stream, word)
     }
 
     /// Begins a handshake on a stream under this word, if its sender is at rest and a message waits: for one message, or for those that travel
@@ -413,7 +405,7 @@ impl<L: Link, S: Sink, W: Words> Service<L, S, W> {
         ensures streams { streams_of self.new ≡ streams_of self.old }
         ensures shown { OnOk result (ShowsMore (spelling_of self.old) self.old.host.pass self.new.host.pass (shown_by self.old) (shown_by self.new)) }
         ensures spelling { spelling_of self.new ≡ spelling_of self.old }
-        ensures words { OnOk result (BearsNew (words_of self.old) (words_of self.new) self.old.host.pass self.new.host.pass) }
+        ensures words { OnOk result (BearsNew W.is_drawn (words_of self.old) (words_of self.new) self.old.host.pass self.new.host.pass) }
     {
         let mut buffer = [0; MAX_DATAGRAM];
         self.heard = false;
@@ -436,7 +428,7 @@ impl<L: Link, S: Sink, W: Words> Service<L, S, W> {
         ensures streams { streams_of self.new ≡ streams_of self.old }
         ensures shown { OnOk result (ShowsMore (spelling_of self.old) self.old.host.pass self.new.host.pass (shown_by self.old) (shown_by self.new)) }
         ensures spelling { spelling_of self.new ≡ spelling_of self.old }
-        ensures words { OnOk result (BearsNew (words_of self.old) (words_of self.new) self.old.host.pass self.new.host.pass) }
+        ensures words { OnOk result (BearsNew W.is_drawn (words_of self.old) (words_of self.new) self.old.host.pass self.new.host.pass) }
     {
         let Ok(packet) = self.host.read(bytes) else {
             self.miss(bytes);
@@ -499,7 +491,7 @@ impl<L: Link, S: Sink, W: Words> Service<L, S, W> {
         ensures streams { streams_of self.new ≡ streams_of self.old }
         ensures shown { OnOk result (ShowsMore (spelling_of self.old) self.old.host.pass self.new.host.pass (shown_by self.old) (shown_by self.new)) }
         ensures spelling { spelling_of self.new ≡ spelling_of self.old }
-        ensures words { OnOk result (BearsNew (words_of self.old) (words_of self.new) self.old.host.pass self.new.host.pass) }
+        ensures words { OnOk result (BearsNew W.is_drawn (words_of self.old) (words_of self.new) self.old.host.pass self.new.host.pass) }
     {
         match after {
             Mode::Rcvd => self.get_all(stream, now),
@@ -513,9 +505,8 @@ impl<L: Link, S: Sink, W: Words> Service<L, S, W> {
         self.got >= self.setup.most
     }
 
-    /// Delivers the packet that a datagram is: a needuid under the next word, which is used up by that, if a message is wanted, and any other
-    /// under none.
-    #[tactic(auto, using(crate::proofs::Fresh::bears_none, crate::proofs::Fresh::bears_word, crate::proofs::Fresh::none_delivered))]
+    /// Delivers the packet that a datagram is: a needuid under the next word, if a message is wanted, and any other under none.
+    #[tactic(auto, using(crate::proofs::Fresh::bears_none))]
     fn deliver_anew(
         &mut self,
         packet: &Packet<'_>,
@@ -525,7 +516,7 @@ impl<L: Link, S: Sink, W: Words> Service<L, S, W> {
         requires spelt { Spells (newest self.old.host.journal.version) bytes.now (packet_of packet.now) }
         ensures noted { OnOk result (IsNoted S.written self.new.host) }
         ensures delivered { IfOk result (λ did. (word : ℕ) × Delivered self.old.host self.new.host bytes.now word did) }
-        ensures words { OnOk result (BearsNew (words_of self.old) (words_of self.new) self.old.host.pass self.new.host.pass) }
+        ensures words { OnOk result (BearsNew W.is_drawn (words_of self.old) (words_of self.new) self.old.host.pass self.new.host.pass) }
         ensures same { self.new ≡ record self.old { host = self.new.host; words = self.new.words } }
     {
         let Body::NeedUid(_) = packet.body else {
@@ -534,14 +525,8 @@ impl<L: Link, S: Sink, W: Words> Service<L, S, W> {
         if self.has_enough() {
             return Ok(None);
         }
-        let Some(word) = self.words.peek() else {
-            return Ok(None);
-        };
-        let Some(did) = self.host.deliver(bytes, word)? else {
-            return Ok(None);
-        };
-        self.words.use_up()?;
-        Ok(Some(did))
+        let word = draw(&mut self.words, self.host.next_line())?;
+        self.host.deliver(bytes, word)
     }
 
     /// Gets the messages that have come to a stream, in their order, and acknowledges them together. Where no more are wanted they stay where
@@ -554,7 +539,7 @@ impl<L: Link, S: Sink, W: Words> Service<L, S, W> {
         ensures streams { streams_of self.new ≡ streams_of self.old }
         ensures shown { OnOk result (ShowsMore (spelling_of self.old) self.old.host.pass self.new.host.pass (shown_by self.old) (shown_by self.new)) }
         ensures spelling { spelling_of self.new ≡ spelling_of self.old }
-        ensures words { OnOk result (BearsNew (words_of self.old) (words_of self.new) self.old.host.pass self.new.host.pass) }
+        ensures words { OnOk result (BearsNew W.is_drawn (words_of self.old) (words_of self.new) self.old.host.pass self.new.host.pass) }
     {
         let Some(lane) = self.lane(stream) else {
             return Ok(());
@@ -581,7 +566,7 @@ impl<L: Link, S: Sink, W: Words> Service<L, S, W> {
         ensures streams { streams_of self.new ≡ streams_of self.old }
         ensures shown { OnOk result (ShowsMore (spelling_of self.old) self.old.host.pass self.new.host.pass (shown_by self.old) (shown_by self.new)) }
         ensures spelling { spelling_of self.new ≡ spelling_of self.old }
-        ensures words { OnOk result (BearsNew (words_of self.old) (words_of self.new) self.old.host.pass self.new.host.pass) }
+        ensures words { OnOk result (BearsNew W.is_drawn (words_of self.old) (words_of self.new) self.old.host.pass self.new.host.pass) }
     {
         let Some(message) = self.host.get(stream)? else {
             return Ok(false);
@@ -604,7 +589,7 @@ impl<L: Link, S: Sink, W: Words> Service<L, S, W> {
         ensures streams { streams_of self.new ≡ streams_of self.old }
         ensures shown { OnOk result (ShowsMore (spelling_of self.old) self.old.host.pass self.new.host.pass (shown_by self.old) (shown_by self.new)) }
         ensures spelling { spelling_of self.new ≡ spelling_of self.old }
-        ensures words { OnOk result (BearsNew (words_of self.old) (words_of self.new) self.old.host.pass self.new.host.pass) }
+        ensures words { OnOk result (BearsNew W.is_drawn (words_of self.old) (words_of self.new) self.old.host.pass self.new.host.pass) }
     {
         let Some(lane) = self.lane(stream) else {
             return Ok(());
@@ -637,7 +622,7 @@ impl<L: Link, S: Sink, W: Words> Service<L, S, W> {
         ensures streams { streams_of self.new ≡ streams_of self.old }
         ensures shown { OnOk result (ShowsMore (spelling_of self.old) self.old.host.pass self.new.host.pass (shown_by self.old) (shown_by self.new)) }
         ensures spelling { spelling_of self.new ≡ spelling_of self.old }
-        ensures words { OnOk result (BearsNew (words_of self.old) (words_of self.new) self.old.host.pass self.new.host.pass) }
+        ensures words { OnOk result (BearsNew W.is_drawn (words_of self.old) (words_of self.new) self.old.host.pass self.new.host.pass) }
     {
         let streams = self.setup.streams;
         'streams: for place in 0..streams {
@@ -661,7 +646,7 @@ impl<L: Link, S: Sink, W: Words> Service<L, S, W> {
         ensures streams { streams_of self.new ≡ streams_of self.old }
         ensures shown { OnOk result (ShowsMore (spelling_of self.old) self.old.host.pass self.new.host.pass (shown_by self.old) (shown_by self.new)) }
         ensures spelling { spelling_of self.new ≡ spelling_of self.old }
-        ensures words { OnOk result (BearsNew (words_of self.old) (words_of self.new) self.old.host.pass self.new.host.pass) }
+        ensures words { OnOk result (BearsNew W.is_drawn (words_of self.old) (words_of self.new) self.old.host.pass self.new.host.pass) }
     {
         if self.host.repeat(stream)? {
             self.enter(stream, mode, true, now);
@@ -679,12 +664,24 @@ impl<L: Link, S: Sink, W: Words> Service<L, S, W> {
         ensures streams { streams_of self.new ≡ streams_of self.old }
         ensures shown { OnOk result (ShowsMore (spelling_of self.old) self.old.host.pass self.new.host.pass (shown_by self.old) (shown_by self.new)) }
         ensures spelling { spelling_of self.new ≡ spelling_of self.old }
-        ensures words { OnOk result (BearsNew (words_of self.old) (words_of self.new) self.old.host.pass self.new.host.pass) }
+        ensures words { OnOk result (BearsNew W.is_drawn (words_of self.old) (words_of self.new) self.old.host.pass self.new.host.pass) }
     {
         if let Some(mode) = self.host.resend(stream)? {
             self.enter(stream, mode, true, now);
         }
         Ok(())
+    }
+}
+
+/// The next word. Where this life has no more, another one begins, whose next line in the journal has this number.
+#[tactic(auto, using(crate::proofs::Fresh::new_behind, crate::proofs::Fresh::stays_on))]
+fn draw<W: Lineage>(words: &mut W, next_line: u64) -> Result<u64, LiveFault>
+    ensures new { IfOk result (IsNew (W.is_drawn words.old) (W.is_drawn words.new)) }
+    ensures stays { OnOk result (StaysDrawn (W.is_drawn words.old) (W.is_drawn words.new)) }
+{
+    match words.next() {
+        Some(word) => Ok(word),
+        None => words.begin(next_line),
     }
 }
 

@@ -11,10 +11,9 @@ ghost use Rattle.amo_live.specs.declared.turns.Ended.TheVariants.{AtRest};
 use crate::lines::LineFault;
 use crate::notices::Notices;
 use crate::ready::{Waited, wait};
-use crate::{Durable, Input, Line, LiveFault, ServeFault, Service, Spelling};
+use crate::{Durable, Input, Line, Lineage, LiveFault, ServeFault, Service, Spelling};
 use amo_net::Link;
 use amo_packet::Message;
-use amo_word::Words;
 use std::io::{Read, Write};
 use std::rt::Clock;
 use std::time::Instant;
@@ -76,7 +75,7 @@ pub enum Ended {
 }
 
 /// Makes one turn after another until the clients are done.
-pub fn serve<C: Clock + Eprint, L: Link, S: Durable, W: Words, I: Read, O: Write>(
+pub fn serve<C: Clock + Eprint, L: Link, S: Durable, W: Lineage, I: Read, O: Write>(
     rt: &C,
     service: &mut Service<L, S, W>,
     desk: &mut Desk<I, O>,
@@ -91,8 +90,8 @@ pub fn serve<C: Clock + Eprint, L: Link, S: Durable, W: Words, I: Read, O: Write
     // What clients are shown are the replies of the host's events, in the order in which they happened.
     ensures shown { OnOk result (IsShown (spelling_of service.old) service.old.host.pass service.new.host.pass (shown_by service.old) (shown_by service.new)
         (O.contents desk.old.output) (O.contents desk.new.output)) }
-    // No word that was used up before is borne by an event, nor one twice.
-    ensures words { OnOk result (BearsNew (words_of service.old) (words_of service.new) service.old.host.pass service.new.host.pass) }
+    // Each word that an event bears was drawn meanwhile, and none is borne twice.
+    ensures words { OnOk result (BearsNew W.is_drawn (words_of service.old) (words_of service.new) service.old.host.pass service.new.host.pass) }
     // It does not end at rest where the last line was not taken, as it had no end.
     ensures whole { IfOk result (λ ended. is_torn desk.new.input ≡ true → ended ≢ AtRest) }
     ensures unread { OnOk result (desk.old.puts ≡ false → desk.new.reader ≡ desk.old.reader) }
@@ -129,7 +128,7 @@ pub fn serve<C: Clock + Eprint, L: Link, S: Durable, W: Words, I: Read, O: Write
 }
 
 /// One turn, which waits at most so many milliseconds.
-fn turn<C: Clock + Eprint, L: Link, S: Durable, W: Words, I: Read, O: Write>(
+fn turn<C: Clock + Eprint, L: Link, S: Durable, W: Lineage, I: Read, O: Write>(
     rt: &C,
     service: &mut Service<L, S, W>,
     desk: &mut Desk<I, O>,
@@ -145,7 +144,7 @@ fn turn<C: Clock + Eprint, L: Link, S: Durable, W: Words, I: Read, O: Write>(
     ensures streams { streams_of service.new ≡ streams_of service.old }
     ensures shown { OnOk result (IsShown (spelling_of service.old) service.old.host.pass service.new.host.pass (shown_by service.old) (shown_by service.new)
         (O.contents desk.old.output) (O.contents desk.new.output)) }
-    ensures words { OnOk result (BearsNew (words_of service.old) (words_of service.new) service.old.host.pass service.new.host.pass) }
+    ensures words { OnOk result (BearsNew W.is_drawn (words_of service.old) (words_of service.new) service.old.host.pass service.new.host.pass) }
     ensures spells { spelling_of service.new ≡ spelling_of service.old }
     ensures spelling { desk.new.spelling ≡ desk.old.spelling }
     ensures puts { desk.new.puts ≡ desk.old.puts }
@@ -167,7 +166,7 @@ fn turn<C: Clock + Eprint, L: Link, S: Durable, W: Words, I: Read, O: Write>(
 }
 
 /// Puts what came: first the message that was kept, then each line, until a message is not taken.
-fn take_lines<C: Eprint, L: Link, S: Durable, W: Words, I: Read, O: Write>(
+fn take_lines<C: Eprint, L: Link, S: Durable, W: Lineage, I: Read, O: Write>(
     rt: &C,
     service: &mut Service<L, S, W>,
     desk: &mut Desk<I, O>,
@@ -179,7 +178,7 @@ fn take_lines<C: Eprint, L: Link, S: Durable, W: Words, I: Read, O: Write>(
         (moment desk.old.input desk.old.kept service.old.host.pass) (moment desk.new.input desk.new.kept service.new.host.pass)) }
     ensures streams { streams_of service.new ≡ streams_of service.old }
     ensures shown { OnOk result (ShowsMore (spelling_of service.old) service.old.host.pass service.new.host.pass (shown_by service.old) (shown_by service.new)) }
-    ensures words { OnOk result (BearsNew (words_of service.old) (words_of service.new) service.old.host.pass service.new.host.pass) }
+    ensures words { OnOk result (BearsNew W.is_drawn (words_of service.old) (words_of service.new) service.old.host.pass service.new.host.pass) }
     ensures spells { spelling_of service.new ≡ spelling_of service.old }
     ensures same { desk.new ≡ record desk.old { input = desk.new.input; kept = desk.new.kept } }
 {
@@ -198,7 +197,7 @@ fn take_lines<C: Eprint, L: Link, S: Durable, W: Words, I: Read, O: Write>(
 
 /// Puts the message that was kept, if there is one.
 #[tactic(auto, using(crate::proofs::Fresh::bears_none))]
-fn put_kept<L: Link, S: Durable, W: Words, I: Read, O: Write>(
+fn put_kept<L: Link, S: Durable, W: Lineage, I: Read, O: Write>(
     service: &mut Service<L, S, W>,
     desk: &mut Desk<I, O>,
     now: u64,
@@ -208,7 +207,7 @@ fn put_kept<L: Link, S: Durable, W: Words, I: Read, O: Write>(
     ensures moves { OnOk result (Moves [] desk.old.kept desk.new.kept service.old.host.pass service.new.host.pass) }
     ensures streams { streams_of service.new ≡ streams_of service.old }
     ensures shown { OnOk result (ShowsMore (spelling_of service.old) service.old.host.pass service.new.host.pass (shown_by service.old) (shown_by service.new)) }
-    ensures words { OnOk result (BearsNew (words_of service.old) (words_of service.new) service.old.host.pass service.new.host.pass) }
+    ensures words { OnOk result (BearsNew W.is_drawn (words_of service.old) (words_of service.new) service.old.host.pass service.new.host.pass) }
     ensures spells { spelling_of service.new ≡ spelling_of service.old }
     ensures same { desk.new ≡ record desk.old { kept = desk.new.kept } }
 {
@@ -220,7 +219,7 @@ fn put_kept<L: Link, S: Durable, W: Words, I: Read, O: Write>(
 
 /// Puts the message of a line, if it is one for a stream of this host.
 #[tactic(auto, using(crate::proofs::Fresh::bears_none))]
-fn put_line<C: Eprint, L: Link, S: Durable, W: Words, I: Read, O: Write>(
+fn put_line<C: Eprint, L: Link, S: Durable, W: Lineage, I: Read, O: Write>(
     rt: &C,
     service: &mut Service<L, S, W>,
     desk: &mut Desk<I, O>,
@@ -233,7 +232,7 @@ fn put_line<C: Eprint, L: Link, S: Durable, W: Words, I: Read, O: Write>(
     ensures moves { OnOk result (Moves (message_of desk.old.puts (streams_of service.old) line) None desk.new.kept service.old.host.pass service.new.host.pass) }
     ensures streams { streams_of service.new ≡ streams_of service.old }
     ensures shown { OnOk result (ShowsMore (spelling_of service.old) service.old.host.pass service.new.host.pass (shown_by service.old) (shown_by service.new)) }
-    ensures words { OnOk result (BearsNew (words_of service.old) (words_of service.new) service.old.host.pass service.new.host.pass) }
+    ensures words { OnOk result (BearsNew W.is_drawn (words_of service.old) (words_of service.new) service.old.host.pass service.new.host.pass) }
     ensures spells { spelling_of service.new ≡ spelling_of service.old }
     ensures same { desk.new ≡ record desk.old { kept = desk.new.kept } }
 {
@@ -251,7 +250,7 @@ fn put_line<C: Eprint, L: Link, S: Durable, W: Words, I: Read, O: Write>(
 }
 
 /// Puts a message. One that is not taken is to be kept, with its stream.
-fn put_or_keep<L: Link, S: Durable, W: Words>(
+fn put_or_keep<L: Link, S: Durable, W: Lineage>(
     service: &mut Service<L, S, W>,
     stream: u32,
     message: Message,
@@ -262,7 +261,7 @@ fn put_or_keep<L: Link, S: Durable, W: Words>(
     ensures moves { IfOk result (λ kept. Moves ((stream, message) ∷ []) None kept service.old.host.pass service.new.host.pass) }
     ensures streams { streams_of service.new ≡ streams_of service.old }
     ensures shown { OnOk result (ShowsMore (spelling_of service.old) service.old.host.pass service.new.host.pass (shown_by service.old) (shown_by service.new)) }
-    ensures words { OnOk result (BearsNew (words_of service.old) (words_of service.new) service.old.host.pass service.new.host.pass) }
+    ensures words { OnOk result (BearsNew W.is_drawn (words_of service.old) (words_of service.new) service.old.host.pass service.new.host.pass) }
     ensures spells { spelling_of service.new ≡ spelling_of service.old }
 {
     match service.put(stream, message, now)? {

@@ -1,122 +1,25 @@
-//! Words that a host has not used up, in this life or in those that its journal tells of.
-ghost use Rattle.std.specs.Prelude.{◌≡◌, IfSome, OnOk};
-ghost use Rattle.std.specs.FinSet as set;
-ghost use Rattle.amo_live.specs.Words.{IsNew, with_next};
+//! Where a host's next words come from.
+ghost use Rattle.std.specs.Prelude.{IfOk, IfSome, OnOk};
+ghost use Rattle.amo_live.specs.Words.{IsNew, StaysDrawn};
 
-use amo_word::Words;
-use std::alloc::{AllocError, Global};
-use std::collections::HashSet;
-use std::marker::Model;
+use crate::LiveFault;
 
-/// How often a word is drawn again.
-const TRIES: u32 = 64;
+/// Words that come in lives: each life has some, and where they are at their end another life begins. No word comes twice, in one life or in two.
+///
+/// Contracts see whether a word was drawn, in this life or in an earlier one. The word 0 is none, as it stands for none where a packet needs none.
+pub trait Lineage {
+    ghost use Rattle.std.specs.Prelude.{ℕ};
 
-/// The words that a host used up. Contracts see their set.
-#[derive(Drop)]
-pub struct UsedWords {
-    words: HashSet<u64>,
-}
+    /// Whether this word was drawn, or was left out.
+    ghost is_drawn: { Self → ℕ → Type 0 };
 
-impl Model for UsedWords {
-    ghost use Rattle.std.specs.FinSet.{from_list};
-    ghost use Rattle.amo_live.specs.Words.{WordSet, words_code};
+    /// The next word of this life. None where it has no more, or no life has begun.
+    fn next(&mut self) -> Option<u64>
+        ensures new { IfSome result (IsNew (is_drawn self.old) (is_drawn self.new)) }
+        ensures stays { StaysDrawn (is_drawn self.old) (is_drawn self.new) };
 
-    ghost Value = { WordSet };
-
-    ghost coded = { words_code };
-
-    ghost view = { λ used. from_list used.words.keys };
-}
-
-impl UsedWords {
-    /// None yet.
-    pub fn new(alloc: Global) -> UsedWords
-        ensures { result ≡ set.empty }
-    {
-        UsedWords {
-            words: HashSet::new(alloc),
-        }
-    }
-
-    /// Whether this word was used up.
-    pub fn contains(&self, word: u64) -> bool
-        ensures { result ≡ set.contains self.now word }
-    {
-        self.words.contains(&word)
-    }
-
-    /// From now on this word is used up.
-    pub fn insert(&mut self, word: u64) -> Result<(), AllocError>
-        ensures { OnOk result (self.new ≡ set.insert self.old word) }
-    {
-        self.words.insert(word)?;
-        Ok(())
-    }
-}
-
-/// Where a host's next words come from. One is drawn ahead, and drawn again where it was used up before. Contracts see the words that were
-/// used up, and the next one.
-#[derive(Drop)]
-pub struct FreshWords<W> {
-    words: W,
-    used: UsedWords,
-    next: Option<u64>,
-}
-
-impl<W> Model for FreshWords<W> {
-    ghost use Rattle.std.specs.Prelude.{IfSome};
-    ghost use Rattle.std.specs.Coded.{codes};
-    ghost use Rattle.amo_live.specs.Words.{FreshState, IsNew, words_code};
-
-    ghost Value = { FreshState };
-
-    ghost coded = { Prim.hlevel (codes, words_code) };
-
-    ghost view = { λ fresh. record { used = fresh.used; next = fresh.next } };
-
-    ghost invariant = { λ fresh. IfSome fresh.next (IsNew fresh.used) };
-}
-
-impl<W: Words> FreshWords<W> {
-    /// Words that are none of those that were used up.
-    pub fn new(words: W, used: UsedWords) -> FreshWords<W>
-        ensures { result.used ≡ used }
-    {
-        let mut words = words;
-        let next = draw(&mut words, &used);
-        FreshWords { words, used, next }
-    }
-
-    /// The next word, which was not used up. None where the words have an end, or have repeated themselves many times.
-    pub fn peek(&self) -> Option<u64>
-        ensures next { result ≡ self.now.next }
-        ensures new { IfSome result (IsNew self.now.used) }
-    {
-        self.next
-    }
-
-    /// The next word is used up.
-    pub fn use_up(&mut self) -> Result<(), AllocError>
-        ensures { OnOk result (self.new.used ≡ with_next self.old.used self.old.next) }
-    {
-        if let Some(word) = self.next.take() {
-            self.used.insert(word)?;
-        }
-        self.next = draw(&mut self.words, &self.used);
-        Ok(())
-    }
-}
-
-/// The next of these words that was not used up. The word 0 is none, as it stands for none where a packet needs none.
-fn draw<W: Words>(words: &mut W, used: &UsedWords) -> Option<u64>
-    ensures { IfSome result (IsNew used.now) }
-{
-    for _try in 0..TRIES {
-        match words.next() {
-            Some(word) if word != 0 && !used.contains(word) => return Some(word),
-            Some(_) => (),
-            None => return None,
-        }
-    }
-    None
+    /// Begins one life more, whose next line in the journal has this number, and draws its first word.
+    fn begin(&mut self, next_line: u64) -> Result<u64, LiveFault>
+        ensures new { IfOk result (IsNew (is_drawn self.old) (is_drawn self.new)) }
+        ensures stays { OnOk result (StaysDrawn (is_drawn self.old) (is_drawn self.new)) };
 }

@@ -4,7 +4,9 @@ ghost use Rattle.std.specs.IoError.{error_kind, raw_os_error};
 ghost use Rattle.amo_tool.specs.Failure.{IsOfFile, IsOfOutput, IsOfUnknown, IsOfUntold, output_failure, replay_failure, report_failure};
 
 use amo_journal::JournalFault;
-use amo_live::{Cause, LiveFault, OpenFault, ProcessFault, ServeFault, SocketFault};
+use amo_live::{
+    Cause, LiveFault, LivesOpenFault, OpenFault, ProcessFault, ServeFault, SocketFault,
+};
 use amo_replay::ToolFault;
 use amo_run::RunFault;
 use std::alloc::{AllocError, Global};
@@ -54,6 +56,9 @@ pub(crate) enum Failure {
     /// A host cannot go on with the journal in this file.
     #[error("amo: {0}: {1}")]
     Journal(String, OpenFault),
+    /// A host cannot go on with the lives in this file.
+    #[error("amo: {0}: {1}")]
+    Lives(String, LivesOpenFault),
     /// A file of a host failed, as that of its journal while it was written.
     #[error("amo: {0}: {1}")]
     Disk(String, Cause),
@@ -190,6 +195,14 @@ impl Failure {
         }
     }
 
+    /// The lives in this file cannot be gone on with.
+    pub(crate) fn of_lives(alloc: Global, path: &str, fault: LivesOpenFault) -> Failure {
+        match String::from_str(alloc, path) {
+            Ok(path) if fault != LivesOpenFault::NoMemory => Failure::Lives(path, fault),
+            _ => Failure::NoMemory,
+        }
+    }
+
     /// A file of a host failed, for this cause.
     pub(crate) fn of_disk(alloc: Global, path: &str, cause: Cause) -> Failure {
         match String::from_str(alloc, path) {
@@ -207,9 +220,10 @@ impl Failure {
     ) -> Failure {
         match (fault, cause) {
             (ProcessFault::Open(fault), _) => Failure::of_journal(alloc, path, fault),
-            (ProcessFault::Serve(ServeFault::Host(LiveFault::Journal)), Some(cause)) => {
-                Failure::of_disk(alloc, path, cause)
-            }
+            (
+                ProcessFault::Serve(ServeFault::Host(LiveFault::Journal | LiveFault::Lives)),
+                Some(cause),
+            ) => Failure::of_disk(alloc, path, cause),
             _ => Failure::Host(fault),
         }
     }

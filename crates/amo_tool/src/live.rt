@@ -3,9 +3,13 @@ ghost use Rattle.std.specs.Prelude.{◌≡◌, ◌<◌, ◌≤◌};
 ghost use Rattle.amo_settings.specs.Limits.{IsHostWithin};
 
 use crate::failure::Failure;
-use amo_live::{Cause, Disk, Ended, Opened, Plan, Socket, run_process};
+use amo_live::{
+    Cause, Disk, Ended, HostLives, LiveFault, Opened, OpenedLives, Plan, ProcessFault, Socket,
+    run_process,
+};
 use amo_object::End;
 use amo_settings::{HostSettings, ReceiveSettings, SendSettings};
+use std::alloc::Global;
 use std::cell::Cell;
 use std::fs;
 use std::fs::File;
@@ -28,6 +32,9 @@ const STANDARD_INPUT: i32 = 0;
 
 /// The number of standard output.
 const STANDARD_OUTPUT: i32 = 1;
+
+/// What the name of a file of lives has behind that of its journal.
+const LIVES: &str = ".lives";
 
 /// A file that is there, and has nothing.
 const NOTHING: &str = "/dev/null";
@@ -71,12 +78,13 @@ fn run_host<
     check_address(rt, host.listen.as_str())?;
     check_address(rt, host.peer.as_str())?;
     let _held = hold_numbers(rt, plan.setup.side)?;
-    let ended = run_opened::<R, I, O, Brand, Brand>(
+    let ended = run_opened::<R, I, O, Brand, Brand, Brand>(
         rt,
         host,
         plan,
         input,
         output,
+        Blank::new(1),
         Blank::new(1),
         Blank::new(1),
     )?;
@@ -123,14 +131,15 @@ fn open_nothing<R: AllocGlobal + Files<File = File>>(rt: &R) -> Result<File, Fai
     }
 }
 
-/// Opens the socket, then the journal, and runs the host with both. The blanks become the ledgers in which contracts count their
-/// failures.
+/// Opens the socket, then the journal and the file of lives beside it, and runs the host with them. The blanks become the ledgers in which
+/// contracts count their failures.
 fn run_opened<
     R: AllocGlobal + Clock + Eprint + Files<File = File> + Net + RandomSource,
     I: Read + AsRawFd + Drop,
     O: Write + AsRawFd + Drop,
     L: Ledger,
     M: Ledger,
+    N: Ledger,
 >(
     rt: &R,
     host: &HostSettings,
@@ -139,27 +148,72 @@ fn run_opened<
     output: O,
     link: Blank,
     lines: Blank,
+    lives: Blank,
 ) -> Result<Ended, Failure>
     requires link { (link.name ≡ L.name) × (link.parts ≡ L.parts) × (0 < L.parts) }
     requires lines { (lines.name ≡ M.name) × (lines.parts ≡ M.parts) × (0 < M.parts) }
+    requires lives { (lives.name ≡ N.name) × (lives.parts ≡ N.parts) × (0 < N.parts) }
     requires streams { (1 ≤ plan.setup.streams) × (plan.setup.streams ≤ 256) }
 {
     let alloc = rt.alloc();
     let path = host.journal.as_str();
     let (socket, port) = open_socket::<R, L>(rt, host, link)?;
     let cause = Cell::new(None);
-    let opened = match Disk::<File, M>::open(rt, alloc, path, &plan, &cause, lines) {
+    let opened = Disk::<File, M>::open(rt, alloc, path, &plan, &cause, lines);
+    let Opened { disk, scan, zeros } = match opened {
         Ok(opened) => opened,
         Err(fault) => return Err(Failure::of_journal(alloc, path, fault)),
     };
-    let Opened { disk, scan, zeros } = opened;
     tell_of_zeros(rt, path, zeros);
+    let file = path_of_lives(alloc, path)?;
+    let why = Cell::new(None);
+    let words = open_lives::<R, N>(rt, file.as_str(), &plan, scan.lines(), &why, lives)?;
     tell_of_start(rt, host.listen.as_str(), port, path, scan.lines());
     let number = socket.number();
-    match run_process(rt, plan, input, output, socket, number, disk, scan) {
+    match run_process(rt, plan, input, output, socket, number, disk, scan, words) {
         Ok(ended) => Ok(ended),
+        Err(fault) if fault == ProcessFault::from(LiveFault::Lives) => {
+            Err(Failure::of_host(alloc, file.as_str(), fault, why.get()))
+        }
         Err(fault) => Err(Failure::of_host(alloc, path, fault, cause.get())),
     }
+}
+
+/// The path of the file of lives beside the journal at this path.
+fn path_of_lives(alloc: Global, journal: &str) -> Result<String, Failure> {
+    let mut path = String::from_str(alloc, journal)?;
+    path.push_str(LIVES)?;
+    Ok(path)
+}
+
+/// Opens the file of lives at this path, beside a journal of so many lines.
+fn open_lives<'a, R: AllocGlobal + Eprint + Files<File = File> + RandomSource, N: Ledger>(
+    rt: &R,
+    path: &str,
+    plan: &Plan,
+    lines: u64,
+    cause: &'a Cell<Option<Cause>>,
+    blank: Blank,
+) -> Result<HostLives<Disk<'a, File, N>>, Failure>
+    requires { (blank.name ≡ N.name) × (blank.parts ≡ N.parts) × (0 < N.parts) }
+{
+    let alloc = rt.alloc();
+    let opened = match OpenedLives::open(rt, alloc, path, plan.setup.side) {
+        Ok(opened) => opened,
+        Err(fault) => return Err(Failure::of_lives(alloc, path, fault)),
+    };
+    if opened.is_new() && lines > 0 {
+        tell_of_new_lives(rt, path);
+    }
+    match opened.go_on(rt, alloc, path, lines, plan.limits.sync, cause, blank) {
+        Ok(lives) => Ok(lives),
+        Err(fault) => Err(Failure::of_lives(alloc, path, fault)),
+    }
+}
+
+/// Tells that a journal goes on, and that the key of its words is not known any more.
+fn tell_of_new_lives<R: Eprint>(rt: &R, path: &str) {
+    let _ = eprintln!(rt; "amo: {path}: it is begun with a new key, beside a journal that goes on");
 }
 
 /// Opens the socket. Answers its port, too.

@@ -1,11 +1,13 @@
-use Rattle.std.proofs.Common.{◌≡◌, ℕ, ◌<◌, Option, sym, ap, ◌∙◌, subst, arith}
+use Rattle.std.proofs.Common.{◌≡◌, ℕ, ◌<◌, Option, List, sym, ap, ◌∙◌, subst, arith}
+use Rattle.amo_world.specs.declared.event.Event.{Event}
 use Rattle.amo_book.specs.Pass.{mine}
 use Rattle.amo_live.specs.Host.{HostState, first_events, sides_from}
 use Rattle.amo_journal.specs.declared.version.Version.{Version}
 use Rattle.amo_live.specs.Noted.{IsSameJournal, opening}
 use Rattle.amo_live.specs.Service.{new_version}
 use Rattle.amo_live.proofs.Onwards.{same_on}
-use Rattle.amo_live.proofs.Returning.{first_back, none_made}
+use Rattle.amo_live.specs.Words.{words_in}
+use Rattle.amo_live.proofs.Returning.{first_back, first_bears_none, none_made}
 use Rattle.amo_live.proofs.process.start.Goals as goal
 use Rattle.amo_live.proofs.process.start.Goals.{then-lines-gt0+in_ok-come_back, else-lines-gt0}
 
@@ -42,3 +44,7 @@ returns-clause-journal g c =
           (same_on first c.in_ok-host.host.journal w.come_back.new.self.journal before w.in_ok-come_back.ensures.stays.journal)
       | else-lines-gt0 w ↦ subst (λ (t : HostState g.row.L.Denot g.row.S.Denot). IsSameJournal first t.journal) (sym (c.in_ok-new.ensures.host ∙ w.host-is)) before
     ]
+
+pub returns-clause-unborne : goal.returns-clause-unborne
+returns-clause-unborne g c =
+    ap (λ (l : List Event). words_in l) (returns-clause-back g c) ∙ first_bears_none _ (sides_from c.args.setup.side 1 c.args.setup.streams) c.args.scan.lines

@@ -16,7 +16,7 @@ invariant-turns g l = record {
   serves : Serves l.fn.desk.spelling l.fn.desk.puts (streams_of l.fn.service) bytes (moment l.fn.desk.input l.fn.desk.kept l.fn.service.host.pass) (moment l.desk.input l.desk.kept l.service.host.pass);
   streams : streams_of l.service ≡ streams_of l.fn.service;
   shown : IsShown (spelling_of l.fn.service) l.fn.service.host.pass l.service.host.pass (shown_by l.fn.service) (shown_by l.service) (g.O.Write.contents l.fn.desk.output) (g.O.Write.contents l.desk.output);
-  words : BearsNew (words_of l.fn.service) (words_of l.service) l.fn.service.host.pass l.service.host.pass;
+  words : BearsNew g.W.Lineage.is_drawn (words_of l.fn.service) (words_of l.service) l.fn.service.host.pass l.service.host.pass;
   spells : spelling_of l.service ≡ spelling_of l.fn.service;
   spelling : l.desk.spelling ≡ l.fn.desk.spelling;
   puts : l.desk.puts ≡ l.fn.desk.puts;

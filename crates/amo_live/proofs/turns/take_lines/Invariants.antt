@@ -13,7 +13,7 @@ invariant-lines g l = record {
   serves : Serves l.fn.desk.spelling l.fn.desk.puts (streams_of l.fn.service) [] (moment l.fn.desk.input l.fn.desk.kept l.fn.service.host.pass) (moment l.desk.input l.desk.kept l.service.host.pass);
   streams : streams_of l.service ≡ streams_of l.fn.service;
   shown : ShowsMore (spelling_of l.fn.service) l.fn.service.host.pass l.service.host.pass (shown_by l.fn.service) (shown_by l.service);
-  words : BearsNew (words_of l.fn.service) (words_of l.service) l.fn.service.host.pass l.service.host.pass;
+  words : BearsNew g.W.Lineage.is_drawn (words_of l.fn.service) (words_of l.service) l.fn.service.host.pass l.service.host.pass;
   spells : spelling_of l.service ≡ spelling_of l.fn.service;
   same : l.desk ≡ record l.fn.desk { input = l.desk.input; kept = l.desk.kept };
 }

@@ -6,3 +6,6 @@ ghosts-run_opened-L-Ledger g a = record { name = a.link.name; parts = a.link.par
 
 abbrev pub ghosts-run_opened-M-Ledger : goal.ghosts-run_opened-M-Ledger
 ghosts-run_opened-M-Ledger g a = record { name = a.lines.name; parts = a.lines.parts }
+
+abbrev pub ghosts-run_opened-N-Ledger : goal.ghosts-run_opened-N-Ledger
+ghosts-run_opened-N-Ledger g a = record { name = a.lives.name; parts = a.lives.parts }

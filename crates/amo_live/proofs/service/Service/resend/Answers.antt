@@ -1,4 +1,4 @@
-use Rattle.std.proofs.Common.{◌≡◌, ◌∙◌, refl, rules, sym}
+use Rattle.std.proofs.Common.{◌≡◌, refl, rules}
 use Rattle.amo_live.specs.Service.{shown_by, spelling_of, words_of}
 use Rattle.amo_live.specs.Shown.{ShowsMore}
 use Rattle.amo_live.specs.Words.{BearsNew}
@@ -26,7 +26,7 @@ streams-preserved g c =
           (shows_after spelling (spelling_of c.streams.self) first middle w.send_again.new.self.host.pass old before (shown_by w.send_again.new.self) so_far.spelling so_far.shown w.in_ok-send_again.ensures.shown)
       | else-is_due w ↦ search rules
     ] in
-    let words : BearsNew (words_of c.args.self.now) has first last = elim c.if-is_due.branch [
+    let words : BearsNew g.W.Lineage.is_drawn (words_of c.args.self.now) has first last = elim c.if-is_due.branch [
       | then-is_due+in_ok-send_again w ↦
           let pass : last ≡ w.send_again.new.self.host.pass = search rules in
           let same : has ≡ words_of w.send_again.new.self = search rules in

@@ -13,5 +13,5 @@ invariant-streams g l = record {
   streams : streams_of l.self ≡ streams_of l.fn.self;
   shown : ShowsMore (spelling_of l.fn.self) l.fn.self.host.pass l.self.host.pass (shown_by l.fn.self) (shown_by l.self);
   spelling : spelling_of l.self ≡ spelling_of l.fn.self;
-  words : BearsNew (words_of l.fn.self) (words_of l.self) l.fn.self.host.pass l.self.host.pass;
+  words : BearsNew g.W.Lineage.is_drawn (words_of l.fn.self) (words_of l.self) l.fn.self.host.pass l.self.host.pass;
 }

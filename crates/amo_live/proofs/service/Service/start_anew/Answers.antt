@@ -1,19 +1,12 @@
-use Rattle.std.proofs.Common.{◌≡◌, ◌∙◌, ℕ, Option, Some, ap, subst, sym}
-use Rattle.std.specs.FinSet.{insert}
-use Rattle.amo_core.specs.declared.mode.Mode.{Mode}
-use Rattle.amo_live.specs.Host.{Did}
-use Rattle.amo_live.specs.Service.{start_of, words_of}
-use Rattle.amo_live.specs.Words.{FreshState, with_next}
-use Rattle.amo_live.proofs.Fresh.{bears_word, start_bears}
+use Rattle.std.proofs.Common.{◌≡◌, OnOk, ap, subst, sym}
+use Rattle.amo_live.specs.Service.{words_of}
+use Rattle.amo_live.specs.Words.{BearsNew}
+use Rattle.amo_live.proofs.Fresh.{start_is_new}
 use Rattle.amo_live.proofs.service.Service.start_anew.Goals as goal
 
 pub returns-clause-words : goal.returns-clause-words
 returns-clause-words g c =
-    let old = c.args.self.now in let new = c.start.new.self.host in let word = c.in-Some.word in
-    let words : c.start.new.self.words ≡ old.words = ap (λ s. s.words) c.start.ensures.same in
-    let next : old.words.next ≡ Some word = sym c.peek.ensures.next ∙ c.in-Some.is in
-    let used : c.use_up.new.self.used ≡ insert (words_of old) word =
-    c.in_ok-use_up.ensures ∙ (ap (λ (f : FreshState). with_next f.used f.next) words ∙ ap (λ (n : Option ℕ). with_next (words_of old) n) next) in
-    let did = subst (λ (m : Option Mode). Did old.host new c.args.stream (start_of old.setup.batch old.host.journal.version word) m) c.in-Some-2.is c.in_ok-mode.ensures.did in
-    bears_word (words_of old) c.use_up.new.self.used word old.host.pass new.pass c.in-Some.ensures.new used
-    (start_bears old.host new c.args.stream word old.setup.batch old.host.journal.version c.in-Some-2.mode did)
+    let old = c.args.self.now in let host = c.start.new.self.host in let first = words_of old in let drawn = g.W.Lineage.is_drawn in
+    let words : words_of c.start.new.self ≡ c.draw.new.words = ap (λ s. s.words) c.start.ensures.same in
+    subst (λ (w : g.row.W.Denot). OnOk c.start.result (BearsNew drawn first w old.host.pass host.pass)) (sym words)
+    (start_is_new drawn old.host host first c.draw.new.words c.args.stream c.in_ok-word.word old.setup.batch old.host.journal.version c.start.result c.in_ok-word.ensures.new c.in_ok-word.ensures.stays c.start.ensures.did)

@@ -1,0 +1,135 @@
+//! The words of a live host: each of its lives has some of its own, and a line in a file that outlives it.
+ghost use Rattle.std.specs.Prelude.{◌≡◌, None, true, IfOk, IfSome, IsNone, OnOk, ◌⊎◌};
+ghost use Rattle.std.specs.Io.KnownBytes.{Keeps};
+ghost use Rattle.amo_word.specs.Distinct.{AreDistinct};
+ghost use Rattle.amo_live.specs.HostLives.{BeginsLife, Draws, IsBehind, IsDrawn, to_come};
+ghost use Rattle.amo_live.specs.Words.{IsNew, StaysDrawn};
+
+use crate::{Durable, Lineage, LiveFault};
+use amo_lives::{BootId, Life, Lives};
+use amo_word::{ChaChaWords, DistinctWords, Words};
+use std::alloc::Global;
+use std::marker::Model;
+
+/// The lives of a host, kept in a sink, and the words of the last one. A life begins when its first word is drawn: one that draws none has no line.
+///
+/// Contracts see the lives, how far the words of the last one have come, the sink, and what each next life is to tell.
+#[derive(Drop)]
+pub struct HostLives<S> {
+    lives: Lives,
+    words: Option<DistinctWords>,
+    tags: ChaChaWords,
+    sink: S,
+    // The line of a life is made whole here before it is written.
+    room: Vec<u8>,
+    boot: Option<BootId>,
+    sync: bool,
+}
+
+impl<S> Model for HostLives<S> {
+    ghost use Rattle.std.specs.Prelude.{IfSome};
+    ghost use Rattle.amo_live.specs.HostLives.{AreOwn, HostLivesState};
+
+    ghost Value = { HostLivesState S };
+
+    ghost view = { λ h. record { lives = h.lives; words = h.words; sink = h.sink; boot = h.boot; sync = h.sync } };
+
+    ghost invariant = { λ h. IfSome h.words (AreOwn h.lives) };
+}
+
+impl<S> HostLives<S> {
+    /// The lives that a sink has the lines of, behind which lines of more are written. The next ones have tags of these words, which are to be random,
+    /// and tell of this start of the machine, and of whether the journal and their lines are put on the disk.
+    pub fn new(
+        alloc: Global,
+        lives: Lives,
+        tags: ChaChaWords,
+        sink: S,
+        boot: Option<BootId>,
+        sync: bool,
+    ) -> HostLives<S>
+        ensures { result ≡ record { lives = lives; words = None; sink = sink; boot = boot; sync = sync } }
+    {
+        HostLives {
+            lives,
+            words: None,
+            tags,
+            sink,
+            room: Vec::new(alloc),
+            boot,
+            sync,
+        }
+    }
+}
+
+impl<S: Durable> HostLives<S> {
+    /// Begins one life more, whose next line in the journal has this number, and draws its first word. Its line is written before that, and put on
+    /// its disk where lines are to be there.
+    pub fn begin_life(&mut self, next_line: u64) -> Result<u64, LiveFault>
+        ensures life { OnOk result (BeginsLife S.written self.old self.new next_line) }
+        ensures on_disk { OnOk result (self.old.sync ≡ true → S.on_disk self.new.sink ≡ S.written self.new.sink) }
+        ensures new { IfOk result (IsNew (IsDrawn self.old.lives self.old.words) (IsDrawn self.new.lives self.new.words)) }
+        ensures stays { OnOk result (StaysDrawn (IsDrawn self.old.lives self.old.words) (IsDrawn self.new.lives self.new.words)) }
+    {
+        if next_line < self.lives.reach() {
+            return Err(LiveFault::Lives);
+        }
+        let Ok(tag) = self.lives.draw_tag(&mut self.tags) else {
+            return Err(LiveFault::Lives);
+        };
+        let life = Life {
+            tag,
+            first_line: next_line,
+            boot: self.boot,
+            sync: self.sync,
+        };
+        self.words = None;
+        let mut words = self.lives.begin(&mut self.room, life, &mut self.sink)?;
+        put_on_disk(&mut self.sink, self.sync)?;
+        let Some(word) = next_nonzero(&mut words) else {
+            unreachable!()
+        };
+        self.words = Some(words);
+        Ok(word)
+    }
+}
+
+impl<S: Durable> Lineage for HostLives<S> {
+    ghost is_drawn = { λ h. IsDrawn h.lives h.words };
+
+    fn next(&mut self) -> Option<u64> {
+        next_nonzero(self.words.as_mut()?)
+    }
+
+    fn begin(&mut self, next_line: u64) -> Result<u64, LiveFault> {
+        self.begin_life(next_line)
+    }
+}
+
+/// Puts the lines on their disk, where they are to be there.
+#[tactic(auto, using(crate::proofs::OwnWords::keeps_itself))]
+fn put_on_disk<S: Durable>(sink: &mut S, sync: bool) -> Result<(), LiveFault>
+    ensures kept { Keeps (S.written sink.old) (S.written sink.new) }
+    ensures on_disk { OnOk result (sync ≡ true → S.on_disk sink.new ≡ S.written sink.new) }
+{
+    if !sync {
+        return Ok(());
+    }
+    match sink.sync() {
+        Ok(()) => Ok(()),
+        Err(_) => Err(LiveFault::Lives),
+    }
+}
+
+/// The next of these words that is not 0, of which no two are equal.
+fn next_nonzero(words: &mut DistinctWords) -> Option<u64>
+    requires { AreDistinct (to_come words.old) }
+    ensures drawn { IfSome result (Draws (to_come words.old) (to_come words.new)) }
+    ensures behind { IsBehind (to_come words.old) (to_come words.new) }
+    ensures none { IsNone result → (to_come words.old 0 ≡ None) ⊎ (to_come words.old 1 ≡ None) }
+{
+    match words.next()? {
+        0 => words.next(),
+        word => Some(word),
+    }
+}
