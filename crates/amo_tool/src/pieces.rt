@@ -3,7 +3,7 @@ use crate::failure::Failure;
 use amo_pieces::{Pieces, piece_number};
 use amo_text::cut;
 use std::alloc::{AllocError, Global};
-use std::io::Read;
+use std::io::{ErrorKind, Read};
 use std::rt::Files;
 use std::{fs, io};
 use thiserror::Error;
@@ -22,18 +22,19 @@ pub(crate) struct Journal {
 }
 
 impl Journal {
-    /// Reads the journal of this name: where commas stand in it, and no file has it, the pieces that it lists; else the file of this name
-    /// and the numbered pieces before it.
+    /// Reads the journal of this name: where commas stand in it, and neither a file nor a numbered piece has it, the pieces that it lists; else
+    /// the file of this name and the numbered pieces before it.
     pub(crate) fn read<R: AllocGlobal + Files>(rt: &R, name: &str) -> Result<Journal, Failure> {
         let mut journal = Journal {
             pieces: Pieces::new(rt.alloc()),
             names: Vec::new(rt.alloc()),
             missing: None,
         };
-        if name.contains(',') && !is_there(rt, name) {
+        let numbers = numbers_of(rt, name)?;
+        if name.contains(',') && numbers.is_empty() && !is_there(rt, name) {
             journal.add_listed(rt, name)?;
         } else {
-            journal.add_numbered(rt, name)?;
+            journal.add_numbered(rt, name, numbers.as_slice())?;
         }
         Ok(journal)
     }
@@ -52,14 +53,18 @@ impl Journal {
         Ok(())
     }
 
-    /// Adds the numbered pieces of this name in their order, and the file of the name itself. A host that is ended while it begins a piece may
+    /// Adds the pieces of this name that have these numbers, and the file of the name itself. A host that is ended while it begins a piece may
     /// leave the others alone.
-    fn add_numbered<R: AllocGlobal + Files>(&mut self, rt: &R, name: &str) -> Result<(), Failure> {
-        let numbers = numbers_of(rt, name)?;
+    fn add_numbered<R: AllocGlobal + Files>(
+        &mut self,
+        rt: &R,
+        name: &str,
+        numbers: &[u64],
+    ) -> Result<(), Failure> {
         for place in 0..numbers.len() {
             self.add(rt, piece_name(rt.alloc(), name, numbers[place])?)?;
         }
-        if let Some(number) = first_missing(numbers.as_slice()) {
+        if let Some(number) = first_missing(numbers) {
             self.missing = Some(piece_name(rt.alloc(), name, number)?);
         }
         if numbers.is_empty() || is_there(rt, name) {
@@ -107,9 +112,13 @@ impl Journal {
     }
 }
 
-/// Whether there is a file of this name. Where that is not told it is taken to be there, and opening it tells why.
+/// Whether there is a file of this name, or a link, though it leads nowhere. Where that is not told it is taken to be there, and opening it
+/// tells why.
 fn is_there<R: Files>(rt: &R, name: &str) -> bool {
-    fs::exists(rt, name).unwrap_or(true)
+    match fs::symlink_metadata(rt, name) {
+        Ok(_) => true,
+        Err(error) => error.kind() != ErrorKind::NotFound,
+    }
 }
 
 /// The name of the file of a numbered piece.
