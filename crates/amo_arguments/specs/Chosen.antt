@@ -107,6 +107,7 @@ pub record HasHost (rows : List Row) (host : HostSettings) : Type 0 where
   pub json : HasFlag rows (codes "json") host.json
   pub sync : HasFlag rows (codes "sync") host.sync
   pub wait : HasNumberOrNone rows (codes "wait") host.wait
+  pub piece : HasNumberOrNone rows (codes "piece") host.piece
   pub within : IsHostWithin host
 
 -- the matches of `send` have these values, of which no two contradict each other

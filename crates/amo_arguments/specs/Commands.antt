@@ -80,7 +80,9 @@ placed name = with_rule (with_rule (with_rule (with_rule (new_app name) (text (c
 
 -- and what else both may be told
 abbrev pub host : Text → App
-host name = with_rule (with_rule (with_rule (with_rule (placed name) tick) (flag (codes "json"))) (flag (codes "sync"))) (optional_number (codes "wait") 0 1000000)
+host name =
+    with_rule (with_rule (with_rule (with_rule (with_rule (placed name) tick) (flag (codes "json"))) (flag (codes "sync"))) (optional_number (codes "wait") 0 1000000))
+    (optional_number (codes "piece") 1024 1000000000000)
 
 abbrev pub send : App
 send = with_rule (with_rule (with_rule (host (codes "send")) (flag (codes "each"))) (flag (codes "batch"))) (flag (codes "hex"))

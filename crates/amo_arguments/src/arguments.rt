@@ -7,7 +7,7 @@ ghost use Rattle.amo_arguments.specs.Arguments.{AreTaken, IsRefusalOf, IsToldOf}
 ghost use Rattle.amo_arguments.specs.Chosen.{Chooses, ChoosesBy, ChoosesRun, HasAddress, HasFlag, HasGot, HasHost, HasJournal, HasNoSeed, HasNumber, HasNumberOrNone, HasOutcomes, HasReceive, HasSend, HasText, HasTextOrNone, LacksSeed, Matches, MeetsSeedless, link_name, shell_name};
 
 use crate::ArgumentsFault;
-use crate::commands::{CLIENTS, CRASHES, PUMPS, STREAMS, TICK, WAIT, command};
+use crate::commands::{CLIENTS, CRASHES, LEAST_PIECE, PIECE, PUMPS, STREAMS, TICK, WAIT, command};
 use crate::refusal::{Refusal, Unfit, told};
 use crate::values::{check_address, check_apart, number_in};
 use amo_settings::{
@@ -203,6 +203,7 @@ fn parse_host(alloc: Global, matches: &ArgMatches<'_>) -> Result<HostSettings, U
     let json = flag_of(alloc, matches, "json")?;
     let sync = flag_of(alloc, matches, "sync")?;
     let wait = number_or_none_of(alloc, matches, "wait", 0, WAIT)?;
+    let piece = number_or_none_of(alloc, matches, "piece", LEAST_PIECE, PIECE)?;
     Ok(HostSettings {
         listen,
         peer,
@@ -212,6 +213,7 @@ fn parse_host(alloc: Global, matches: &ArgMatches<'_>) -> Result<HostSettings, U
         json,
         sync,
         wait,
+        piece,
     })
 }
 

@@ -25,6 +25,11 @@ pub(crate) const TICK: u32 = 60_000_000;
 
 pub(crate) const WAIT: u64 = 1_000_000;
 
+/// How many bytes a piece of a journal has at least, and at most, before another one is begun.
+pub(crate) const LEAST_PIECE: u64 = 1024;
+
+pub(crate) const PIECE: u64 = 1_000_000_000_000;
+
 /// What may carry the packets of a run.
 static LINKS: [&str; 2] = ["memory", "udp"];
 
@@ -223,6 +228,14 @@ fn host<'a>(
             0,
             WAIT,
             "How long it waits at its end for what is on its way, 0 to 1000000",
+        ))?
+        .arg(optional_number(
+            alloc,
+            "piece",
+            "BYTES",
+            LEAST_PIECE,
+            PIECE,
+            "How long its journal is when it begins a new piece, 1024 to 1000000000000",
         ))
 }
 

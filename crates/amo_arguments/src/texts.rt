@@ -138,6 +138,10 @@ torn is cut off, and it is noted that each stream crashed and recovered. What wa
 answer by then may or may not be got. `amo audit` takes the journals of both hosts. A power failure
 loses lines that the disk has not: --sync waits for it.
 
+Where FILE is 64 MiB long, or as long as --piece says, it gets the next number, as FILE.000001, and
+FILE is begun anew. A start reads its end alone. `amo audit` takes FILE with all its pieces. FILE.lives
+belongs to it: what new identifiers are made of stands there.
+
 Status:
   0  all is answered
   2  arguments that do not parse; or all is answered, and the last line had no end
@@ -146,8 +150,10 @@ Status:
      `amo: cannot listen on ADDR: CAUSE`, `amo: no way to ADDR: CAUSE`: the socket cannot be opened;
      later faults of it lose packets and no more
      `amo: FILE: another process has it in use`
-     `amo: FILE: it has no whole line, ..`, `amo: FILE: line L ..`: it is no journal of a host that
-     sends, and was not changed
+     `amo: FILE: it has no whole line, ..`, `amo: FILE: line L ..`, `amo: FILE: its end ..`: it is no
+     journal of a host that sends, and was not changed
+     `amo: FILE: it does not go on where the piece before it ends: ..`, `amo: FILE: the piece before it
+     is of another version: ..`: its pieces are not those of one journal, and were not changed
      `amo: FILE: it is of version 1, ..`: it has no lines for batches, and was not changed
      `amo: FILE: CAUSE`, `amo: the journal is full`: the file, or the disk
      `amo: standard input failed: ..`, `amo: standard output failed: ..`, or `.. is closed`
@@ -181,6 +187,10 @@ message is shown. So the host may be killed, and started again on its journal: a
 torn is cut off, and it is noted that each stream crashed and recovered. A message whose line was
 written and which was not shown by then is lost, and none is shown twice. `amo audit` takes the
 journals of both hosts. A power failure loses lines that the disk has not: --sync waits for it.
+
+Where FILE is 64 MiB long, or as long as --piece says, it gets the next number, as FILE.000001, and
+FILE is begun anew. A start reads its end alone. `amo audit` takes FILE with all its pieces. FILE.lives
+belongs to it: what new identifiers are made of stands there.
 
 Status:
   0  done

@@ -38,3 +38,17 @@ impl<R: Files<File = File>, L: Ledger> Durable for Disk<'_, Roll<Directory<'_, R
         }
     }
 }
+
+/// The same of one file.
+impl<L: Ledger> Durable for Disk<'_, File, L> {
+    ghost use Rattle.std.specs.Prelude.{None};
+
+    ghost on_disk = { λ _. None };
+
+    fn sync(&mut self) -> Result<(), SinkFault> {
+        match self.writer.sync_data() {
+            Ok(()) => Ok(()),
+            Err(error) => Err(self.failed(Cause::from(error))),
+        }
+    }
+}

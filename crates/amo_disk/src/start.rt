@@ -49,7 +49,7 @@ impl Start {
     }
 
     /// Behind the newest piece alone.
-    fn alone(newest: Ending) -> Start
+    pub fn alone(newest: Ending) -> Start
         ensures { result ≡ start_alone newest }
     {
         Start {

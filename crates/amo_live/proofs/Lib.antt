@@ -1,13 +1,10 @@
-pub mod Beginnings
 pub mod Clients
-pub mod Longest
 pub mod Conserving
 pub mod Emissions
 pub mod Showing
 pub mod Onwards
 pub mod OwnWords
 pub mod Opens
-pub mod Scans
 pub mod Suiting
 pub mod Readers
 pub mod Repeating
@@ -15,4 +12,3 @@ pub mod Returning
 pub mod Putting
 pub mod Delivering
 pub mod Fresh
-pub mod Writers

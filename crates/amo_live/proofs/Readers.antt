@@ -1,7 +1,6 @@
 -- A journal that a reader brings in pieces.
 use Rattle.std.proofs.Common.{ℕ, Option, Some, None, IfSome, List, [], ◌++◌, refl, sym, ap, ◌∙◌, subst, append_assoc, append-nil}
 use Rattle.std.specs.Io.KnownBytes.{Consumes, IsAtEnd}
-use Rattle.amo_live.specs.Scan.{ScanState, Scanned}
 
 -- nothing was read
 pub none_taken : (a : Option (List ℕ)) → Consumes a a []
@@ -14,10 +13,3 @@ more_taken None b c xs ys first second = tt
 more_taken (Some u) None c xs ys first second = absurd first
 more_taken (Some u) (Some v) None xs ys first second = absurd second
 more_taken (Some u) (Some v) (Some w) xs ys first second = first ∙ (ap (λ (l : List ℕ). xs ++ l) second ∙ sym (append_assoc xs ys w))
-
--- all was read
-pub all_taken : (a b c : Option (List ℕ)) (xs : List ℕ) (s : ScanState) → Consumes a b xs → Consumes b c [] → IsAtEnd c → Scanned s xs → IfSome a (Scanned s)
-all_taken None b c xs s first second end h = tt
-all_taken (Some u) None c xs s first second end h = absurd first
-all_taken (Some u) (Some v) None xs s first second end h = absurd second
-all_taken (Some u) (Some v) (Some w) xs s first second end h = subst (Scanned s) (sym (first ∙ (ap (λ (l : List ℕ). xs ++ l) (second ∙ end) ∙ append-nil xs))) h

@@ -7,7 +7,6 @@ pub mod HostLives
 pub mod Noted
 pub mod Notices
 pub mod Plans
-pub mod Scan
 pub mod Service
 pub mod Shown
 pub mod Words

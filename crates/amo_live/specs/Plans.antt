@@ -1,6 +1,8 @@
 -- What a host in a process of its own does, by what it was told.
 use Rattle.std.specs.Prelude.{ℕ, ◌*◌, Option, None, option_map, unwrap_or, true, false}
 use Rattle.amo_object.specs.declared.step.End.TheVariants.{Sender, Receiver}
+use Rattle.amo_disk.specs.declared.opening.Wanted.{Wanted}
+use Rattle.amo_live.specs.Service.{new_version}
 use Rattle.amo_live.specs.declared.plan.Plan.{Plan}
 use Rattle.amo_settings.specs.declared.settings.ReceiveSettings.{ReceiveSettings}
 use Rattle.amo_settings.specs.declared.settings.SendSettings.{SendSettings}
@@ -13,6 +15,7 @@ abbrev pub sends : SendSettings → Plan
 sends s = record {
   setup = record { side = Sender; streams = s.host.streams; tick = s.host.tick; each = s.each; batch = s.batch; most = 18446744073709551615; spelling = record { hex = s.hex; json = s.host.json } };
   limits = record { count = None; wait = microseconds s.host.wait; lingers = false; sync = s.host.sync };
+  piece = unwrap_or s.host.piece 67108864;
 }
 
 -- it gets messages, no more than it was told, and waits a moment at its end
@@ -20,4 +23,9 @@ abbrev pub receives : ReceiveSettings → Plan
 receives r = record {
   setup = record { side = Receiver; streams = r.host.streams; tick = r.host.tick; each = false; batch = false; most = unwrap_or r.count 18446744073709551615; spelling = record { hex = false; json = r.host.json } };
   limits = record { count = r.count; wait = microseconds r.host.wait; lingers = true; sync = r.host.sync };
+  piece = unwrap_or r.host.piece 67108864;
 }
+
+-- what its host wants of its journal
+abbrev pub wanted : Plan → Wanted
+wanted p = record { side = p.setup.side; version = new_version p.setup; batch = p.setup.batch; sync = p.limits.sync; piece = p.piece }

@@ -1,39 +1,14 @@
 //! Why a live host ends.
 ghost use Rattle.std.specs.Prelude.{◌≡◌};
 
+use amo_disk::{Cause, OpenFault};
 use amo_journal::JournalFault;
 use amo_lives::{BeginFault, BeyondJournal, LivesFault};
 use std::alloc::AllocError;
-use std::fmt::{Display, Formatter};
 use std::fs::TryLockError;
+use std::io;
 use std::io::ErrorKind;
-use std::{fmt, io};
 use thiserror::Error;
-
-/// Why a call of the system failed.
-#[derive(Clone, Copy, Debug, PartialEq, Eq)]
-pub struct Cause {
-    code: Option<i32>,
-    kind: ErrorKind,
-}
-
-impl From<io::Error> for Cause {
-    fn from(error: io::Error) -> Cause {
-        Cause {
-            code: error.raw_os_error(),
-            kind: error.kind(),
-        }
-    }
-}
-
-impl Display for Cause {
-    fn fmt<W: fmt::Write>(&self, f: &mut Formatter<W>) -> fmt::Result {
-        match self.code {
-            Some(code) => Display::fmt(&io::Error::from_raw_os_error(code), f),
-            None => Display::fmt(&self.kind, f),
-        }
-    }
-}
 
 /// Why a host's socket did not open.
 #[derive(Clone, Copy, Debug, PartialEq, Eq, Error)]
@@ -99,64 +74,6 @@ impl From<AllocError> for LiveFault {
 
     fn from(_error: AllocError) -> LiveFault {
         LiveFault::NoMemory
-    }
-}
-
-/// Why a journal cannot go on. It is as it was; but where the device failed, a last line that was torn may be gone.
-#[derive(Clone, Copy, Debug, PartialEq, Eq, Error)]
-pub enum OpenFault {
-    /// Another process has the journal.
-    #[error("another process has it in use")]
-    InUse,
-    /// The file has something, but no whole line, and no journal of this side begins so.
-    #[error("it has no whole line, and does not begin as a journal of this side: it was left as it is")]
-    Foreign,
-    /// This line, counted from 1, is the first that is no line.
-    #[error("line {0} is none of a journal: it was left as it is")]
-    Malformed(u64),
-    /// This line, counted from 1, has a number that is not how many events are before it.
-    #[error("line {0} has another number: it was left as it is")]
-    Gap(u64),
-    /// This line, counted from 1, is an event of the other side.
-    #[error("line {0} is of the other side: it was left as it is")]
-    OtherSide(u64),
-    /// Starts of batches are wanted, and the journal is of version 1, which has no lines for them.
-    #[error("it is of version 1, which tells of no batches: begin new journals at both hosts, or leave out --batch")]
-    NoBatches,
-    /// The machine's fault: memory was refused.
-    #[error("out of memory")]
-    NoMemory,
-    /// The journal's device failed.
-    #[error("{0}")]
-    Device(Cause),
-}
-
-impl From<AllocError> for OpenFault {
-    ghost use Rattle.amo_live.specs.declared.fault.OpenFault.TheVariants.{NoMemory};
-
-    ghost from_gives = { λ _ fault. fault ≡ NoMemory };
-
-    fn from(_error: AllocError) -> OpenFault {
-        OpenFault::NoMemory
-    }
-}
-
-impl From<io::Error> for OpenFault {
-    fn from(error: io::Error) -> OpenFault {
-        match error.kind() {
-            ErrorKind::OutOfMemory => OpenFault::NoMemory,
-            _ => OpenFault::Device(Cause::from(error)),
-        }
-    }
-}
-
-/// The fault of a file that was not opened, or that another process has.
-impl From<TryLockError> for OpenFault {
-    fn from(error: TryLockError) -> OpenFault {
-        match error {
-            TryLockError::WouldBlock => OpenFault::InUse,
-            TryLockError::Error(error) => OpenFault::from(error),
-        }
     }
 }
 

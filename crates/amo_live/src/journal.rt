@@ -4,31 +4,13 @@ ghost use Rattle.amo_world.specs.declared.event.Event.{Event};
 ghost use Rattle.amo_journal.specs.Journal.{CanSpell};
 ghost use Rattle.amo_live.specs.Noted.{Adds, AddsFront, Holds, IsSameJournal, beginning, going_on};
 
-use crate::LiveFault;
+use crate::{Durable, LiveFault};
 use amo_journal::{Version, write_line};
-use amo_text::{Sink, SinkFault, write_all};
+use amo_text::{Sink, write_all};
 use amo_world::Event;
 use std::alloc::Global;
 use std::marker::Model;
 use std::snapshot::Snapshot;
-
-/// A sink that can be put on its disk.
-pub trait Durable: Sink {
-    ghost use Rattle.std.specs.Prelude.{ℕ, List, Option};
-    ghost use Rattle.std.specs.Io.KnownBytes.{Keeps};
-
-    /// What of it a loss of power leaves, where the sink tells that.
-    ghost on_disk: { Self → Option (List ℕ) };
-
-    /// Puts what was written on the disk.
-    ///
-    /// A call that fails is counted once, and says nothing of what is there.
-    fn sync(&mut self) -> Result<(), SinkFault>
-        ensures kept { Keeps (Self.written self.old) (Self.written self.new) }
-        ensures on_disk { OnOk result (on_disk self.new ≡ Self.written self.new) }
-        ensures calm { OnOk result (Self.failures self.new ≡ Self.failures self.old) }
-        ensures failed { OnErr result (Self.failures self.new ≡ Self.failures self.old + 1) };
-}
 
 /// A journal that goes on. Contracts see its version, its sink and the number of its next line; and of when it was opened its sink, the number
 /// of the first line to come, and what was to stand in front of that.

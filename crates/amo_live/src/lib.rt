@@ -36,7 +36,6 @@
 
 mod acts;
 mod calls;
-mod disk;
 mod fault;
 mod host;
 mod host_lives;
@@ -47,33 +46,30 @@ mod lives_file;
 mod notices;
 mod noting;
 mod outbox;
+mod own_file;
 mod parcel;
 mod plan;
 mod process;
 mod ready;
 mod recent;
-mod scan;
 mod service;
 mod socket;
 mod timer;
 mod turns;
 mod words;
 
+pub use amo_disk::{Cause, Durable, OpenFault};
 pub use amo_journal::Version;
-pub use disk::{Disk, Opened, scan_all};
-pub use fault::{
-    Cause, LiveFault, LivesOpenFault, OpenFault, ProcessFault, ServeFault, SocketFault,
-};
+pub use fault::{LiveFault, LivesOpenFault, ProcessFault, ServeFault, SocketFault};
 pub use host::Host;
 pub use host_lives::HostLives;
 pub use input::{Input, Line};
-pub use journal::{Durable, Journal};
+pub use journal::Journal;
 pub use lines::{LineFault, Spelling};
 pub use lives_file::OpenedLives;
 pub use notices::Silence;
 pub use plan::Plan;
 pub use process::{run_process, start};
-pub use scan::Scan;
 pub use service::{Service, Setup};
 pub use socket::Socket;
 pub use turns::{Desk, Ended, Limits, serve};

@@ -3,8 +3,9 @@ ghost use Rattle.std.specs.Prelude.{◌≡◌, ◌<◌, ◌≤◌, [], None, IfO
 ghost use Rattle.amo_lives.specs.Lives.{reach};
 ghost use Rattle.amo_live.specs.HostLives.{found_in};
 
-use crate::disk::{open_alone, sync_entry};
-use crate::{Cause, Disk, Durable, HostLives, LivesOpenFault};
+use crate::own_file::{open_alone, sync_entry};
+use crate::{Cause, Durable, HostLives, LivesOpenFault};
+use amo_disk::Disk;
 use amo_lives::{BeginFault, BootId, Lives, LivesFault};
 use amo_object::End;
 use amo_word::ChaChaWords;

@@ -1,13 +1,17 @@
 //! What a process is to do, by what it was told.
 ghost use Rattle.std.specs.Prelude.{◌≡◌, ◌≤◌, IfSome};
 ghost use Rattle.amo_settings.specs.Limits.{IsHostWithin};
-ghost use Rattle.amo_live.specs.Plans.{microseconds, receives, sends};
+ghost use Rattle.amo_live.specs.Plans.{microseconds, receives, sends, wanted};
 
 use crate::{Limits, Setup, Spelling};
+use amo_disk::Wanted;
 use amo_object::End;
 use amo_settings::{ReceiveSettings, SendSettings};
 
 const SECOND: u64 = 1_000_000;
+
+/// How many bytes a piece of a journal has where that was not told: 64 MiB.
+const PIECE: u64 = 67_108_864;
 
 /// What a process is to do.
 #[derive(Clone, Copy)]
@@ -16,6 +20,8 @@ pub struct Plan {
     pub setup: Setup,
     /// When it ends.
     pub limits: Limits,
+    /// How many bytes a piece of its journal has before another one is begun.
+    pub piece: u64,
 }
 
 impl Plan {
@@ -44,6 +50,7 @@ impl Plan {
                 lingers: false,
                 sync: host.sync,
             },
+            piece: host.piece.unwrap_or(PIECE),
         }
     }
 
@@ -72,6 +79,22 @@ impl Plan {
                 lingers: true,
                 sync: host.sync,
             },
+            piece: host.piece.unwrap_or(PIECE),
+        }
+    }
+}
+
+impl Plan {
+    /// What its host wants of its journal.
+    pub fn wanted(&self) -> Wanted
+        ensures { result ≡ wanted self.now }
+    {
+        Wanted {
+            side: self.setup.side,
+            version: self.setup.new_version(),
+            batch: self.setup.batch,
+            sync: self.limits.sync,
+            piece: self.piece,
         }
     }
 }

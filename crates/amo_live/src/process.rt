@@ -8,8 +8,9 @@ ghost use Rattle.amo_live.specs.Words.{words_in};
 
 use crate::{
     Desk, Durable, Ended, Host, Input, Journal, Limits, Lineage, LiveFault, Plan, ProcessFault,
-    Scan, Service, Setup, serve,
+    Service, Setup, serve,
 };
+use amo_disk::Start;
 use amo_journal::Version;
 use amo_net::Link;
 use amo_object::End;
@@ -20,8 +21,8 @@ use std::os::fd::AsRawFd;
 use std::rt::Clock;
 
 /// Runs a host of 1 to 256 streams over this link until its clients are done. The system waits for the link by this number. A host that sends
-/// takes lines from the reader, and one that receives leaves it alone; answers and messages go to the output. The journal goes on in the sink, of
-/// which this was read, and new handshakes get these words. It is refused where batches are to be started for which it has no lines.
+/// takes lines from the reader, and one that receives leaves it alone; answers and messages go to the output. The journal goes on in the sink, in
+/// this place, and new handshakes get these words. It is refused where batches are to be started for which it has no lines.
 pub fn run_process<
     R: AllocGlobal + Clock + Eprint,
     I: Read + AsRawFd + Drop,
@@ -37,12 +38,12 @@ pub fn run_process<
     link: L,
     number: i32,
     sink: S,
-    scan: Scan,
+    place: Start,
     words: W,
 ) -> Result<Ended, ProcessFault>
     requires { (1 ≤ plan.setup.streams) × (plan.setup.streams ≤ 256) }
 {
-    scan.admit(plan.setup.batch)?;
+    place.admit(plan.setup.batch)?;
     let alloc = rt.alloc();
     let desk = Desk {
         reader_number: reader.as_raw_fd(),
@@ -55,10 +56,10 @@ pub fn run_process<
         puts: plan.setup.side == End::Sender,
         kept: None,
     };
-    work(rt, alloc, plan, link, sink, scan, words, desk)
+    work(rt, alloc, plan, link, sink, place, words, desk)
 }
 
-/// Starts a host over this link, with a journal of which this was read, and makes its turns.
+/// Starts a host over this link, with a journal that goes on in this place, and makes its turns.
 fn work<
     C: Clock + Eprint,
     L: Link + Drop,
@@ -72,43 +73,43 @@ fn work<
     plan: Plan,
     link: L,
     sink: S,
-    scan: Scan,
+    place: Start,
     words: W,
     desk: Desk<I, O>,
 ) -> Result<Ended, ProcessFault>
     requires { (1 ≤ plan.setup.streams) × (plan.setup.streams ≤ 256) }
 {
     let mut desk = desk;
-    let mut service = start(alloc, plan.setup, link, sink, scan, words)?;
+    let mut service = start(alloc, plan.setup, link, sink, place, words)?;
     match serve(rt, &mut service, &mut desk, plan.limits) {
         Ok(ended) => Ok(ended),
         Err(fault) => Err(ProcessFault::Serve(fault)),
     }
 }
 
-/// A host over this link, with a journal of which this was read. Where it has a line of an event, it is noted that each stream's side crashed
+/// A host over this link, with a journal that goes on in this place. Where it has a line of an event, it is noted that each stream's side crashed
 /// and is up again. Where it has no line at all it is begun: its heading is written, before anything else.
 pub fn start<L: Link + Drop, S: Durable + Drop, W: Lineage + Drop>(
     alloc: Global,
     setup: Setup,
     link: L,
     sink: S,
-    scan: Scan,
+    place: Start,
     words: W,
 ) -> Result<Service<L, S, W>, LiveFault>
     requires { (1 ≤ setup.streams) × (setup.streams ≤ 256) }
     // The journal has all lines so far. It goes on in its version where it was read to the end, or begins with its heading. What it was handed
     // first tells of a crash of each side and its recovery, where it has a line of an event, and else of nothing.
     ensures noted { IfOk result (λ service. IsNoted S.written service.host) }
-    ensures journal { IfOk result (λ service. IsSameJournal (opening (new_version setup) scan.version scan.lines sink) service.host.journal) }
+    ensures journal { IfOk result (λ service. IsSameJournal (opening (new_version setup) place.version place.lines sink) service.host.journal) }
     // It has the streams that it was set up for. No word was drawn, and no event of the host bears one.
     ensures streams { IfOk result (λ service. streams_of service ≡ setup.streams) }
     ensures words { IfOk result (λ service. words_of service ≡ words) }
     ensures unborne { IfOk result (λ service. words_in (mine service.host.pass) ≡ []) }
-    ensures back { IfOk result (λ service. mine service.host.pass ≡ first_events service.host.pass.number (sides_from setup.side 1 setup.streams) scan.lines) }
+    ensures back { IfOk result (λ service. mine service.host.pass ≡ first_events service.host.pass.number (sides_from setup.side 1 setup.streams) place.lines) }
 {
-    let lines = scan.lines();
-    let journal = open_journal(alloc, sink, scan.version(), lines, setup.new_version())?;
+    let lines = place.lines;
+    let journal = open_journal(alloc, sink, place.version, lines, setup.new_version())?;
     let mut host = Host::open(alloc, setup.side, setup.streams, link, journal)?;
     if lines > 0 {
         host.come_back()?;

@@ -43,6 +43,8 @@ pub struct HostSettings {
     pub json: bool,
     /// Whether the journal is put on its disk before packets leave.
     pub sync: bool,
+    /// How many bytes a piece of its journal has before another one is begun, 1024 to 10^12, where it was told.
+    pub piece: Option<u64>,
     /// How many seconds it waits at its end for what is still on its way, if that has a limit.
     pub wait: Option<u64>,
 }

@@ -2,7 +2,7 @@
 use Rattle.std.specs.Prelude.{◌≡◌, ℕ, List, Option, Some, None, string_bytes}
 use Rattle.amo_journal.specs.declared.fault.JournalFault.{JournalFault}
 use Rattle.amo_journal.specs.declared.fault.JournalFault.TheVariants as journal
-use Rattle.amo_live.specs.declared.fault.Cause.{Cause}
+use Rattle.amo_disk.specs.declared.fault.Cause.{Cause}
 use Rattle.amo_replay.specs.declared.fault.ToolFault.{ToolFault}
 use Rattle.amo_replay.specs.declared.fault.ToolFault.TheVariants as replay
 use Rattle.amo_run.specs.declared.fault.RunFault.{RunFault}

@@ -3,10 +3,9 @@ ghost use Rattle.std.specs.Prelude.{◌≡◌, ◌≢◌, IsNone, IsSome};
 ghost use Rattle.std.specs.IoError.{error_kind, raw_os_error};
 ghost use Rattle.amo_tool.specs.Failure.{IsOfFile, IsOfOutput, IsOfUnknown, IsOfUntold, output_failure, replay_failure, report_failure};
 
+use amo_disk::{Cause, OpenFault};
 use amo_journal::JournalFault;
-use amo_live::{
-    Cause, LiveFault, LivesOpenFault, OpenFault, ProcessFault, ServeFault, SocketFault,
-};
+use amo_live::{LiveFault, LivesOpenFault, ProcessFault, ServeFault, SocketFault};
 use amo_replay::ToolFault;
 use amo_run::RunFault;
 use std::alloc::{AllocError, Global};

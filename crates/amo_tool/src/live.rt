@@ -3,10 +3,8 @@ ghost use Rattle.std.specs.Prelude.{◌≡◌, ◌<◌, ◌≤◌};
 ghost use Rattle.amo_settings.specs.Limits.{IsHostWithin};
 
 use crate::failure::Failure;
-use amo_live::{
-    Cause, Disk, Ended, HostLives, LiveFault, Opened, OpenedLives, Plan, ProcessFault, Socket,
-    run_process,
-};
+use amo_disk::{Cause, Disk, Opened, open};
+use amo_live::{Ended, HostLives, LiveFault, OpenedLives, Plan, ProcessFault, Socket, run_process};
 use amo_object::End;
 use amo_settings::{HostSettings, ReceiveSettings, SendSettings};
 use std::alloc::Global;
@@ -73,7 +71,8 @@ fn run_host<
     I: Read + AsRawFd + Drop,
     O: Write + AsRawFd + Drop,
 >(rt: &R, host: &HostSettings, plan: Plan, input: I, output: O) -> Result<u8, Failure>
-    requires { (1 ≤ plan.setup.streams) × (plan.setup.streams ≤ 256) }
+    requires streams { (1 ≤ plan.setup.streams) × (plan.setup.streams ≤ 256) }
+    requires piece { 1024 ≤ plan.piece }
 {
     check_address(rt, host.listen.as_str())?;
     check_address(rt, host.peer.as_str())?;
@@ -154,23 +153,24 @@ fn run_opened<
     requires lines { (lines.name ≡ M.name) × (lines.parts ≡ M.parts) × (0 < M.parts) }
     requires lives { (lives.name ≡ N.name) × (lives.parts ≡ N.parts) × (0 < N.parts) }
     requires streams { (1 ≤ plan.setup.streams) × (plan.setup.streams ≤ 256) }
+    requires piece { 1024 ≤ plan.piece }
 {
     let alloc = rt.alloc();
     let path = host.journal.as_str();
     let (socket, port) = open_socket::<R, L>(rt, host, link)?;
     let cause = Cell::new(None);
-    let opened = Disk::<File, M>::open(rt, alloc, path, &plan, &cause, lines);
-    let Opened { disk, scan, zeros } = match opened {
+    let opened = open::<R, M>(rt, alloc, path, &plan.wanted(), &cause, lines);
+    let Opened { disk, start, zeros } = match opened {
         Ok(opened) => opened,
         Err(fault) => return Err(Failure::of_journal(alloc, path, fault)),
     };
     tell_of_zeros(rt, path, zeros);
     let file = path_of_lives(alloc, path)?;
     let why = Cell::new(None);
-    let words = open_lives::<R, N>(rt, file.as_str(), &plan, scan.lines(), &why, lives)?;
-    tell_of_start(rt, host.listen.as_str(), port, path, scan.lines());
+    let words = open_lives::<R, N>(rt, file.as_str(), &plan, start.lines, &why, lives)?;
+    tell_of_start(rt, host.listen.as_str(), port, path, start.lines);
     let number = socket.number();
-    match run_process(rt, plan, input, output, socket, number, disk, scan, words) {
+    match run_process(rt, plan, input, output, socket, number, disk, start, words) {
         Ok(ended) => Ok(ended),
         Err(fault) if fault == ProcessFault::from(LiveFault::Lives) => {
             Err(Failure::of_host(alloc, file.as_str(), fault, why.get()))

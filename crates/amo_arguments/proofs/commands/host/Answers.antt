@@ -14,6 +14,7 @@ returns c =
     let json : rule_of c.flag.result ≡ flag (codes "json") = search rules in
     let sync : rule_of c.flag-2.result ≡ flag (codes "sync") = search rules in
     let wait : rule_of c.optional_number.result ≡ optional_number (codes "wait") 0 1000000 = search rules in
+    let piece : rule_of c.optional_number-2.result ≡ optional_number (codes "piece") 1024 1000000000000 = search rules in
     let none : IsCommand (new_app c.args.name.now) c.with_texts.result = c.with_texts.ensures in
     let one = with_argument c.in_ok-arg.ensures listen c.text.ensures.local none in
     let two = with_argument c.in_ok-arg-2.ensures peer c.text-2.ensures.local one in
@@ -22,4 +23,5 @@ returns c =
     let five = with_argument c.in_ok-arg-5.ensures c.tick.ensures.rule c.tick.ensures.local four in
     let six = with_argument c.in_ok-arg-6.ensures json c.flag.ensures.local five in
     let seven = with_argument c.in_ok-arg-7.ensures sync c.flag-2.ensures.local six in
-    IfOk-weaker c.arg-8.result _ _ (λ m h. with_argument h wait c.optional_number.ensures.local seven) c.arg-8.ensures
+    let eight = with_argument c.in_ok-arg-8.ensures wait c.optional_number.ensures.local seven in
+    IfOk-weaker c.arg-9.result _ _ (λ m h. with_argument h piece c.optional_number-2.ensures.local eight) c.arg-9.ensures
