@@ -9,7 +9,7 @@ ghost use Rattle.amo_core.specs.declared.act.Act.TheVariants as act;
 use crate::outcome::write_emission;
 use crate::receiver::{Receiver, ReceiverMode};
 use crate::{Act, Advanced, Messages, Outcome, Reply};
-use amo_packet::{MAX_PACKET, OwnedBody};
+use amo_packet::{MAX_PACKET, Message, OwnedBody};
 
 impl Receiver {
     /// Makes an act, exactly as its row says. What it emits is written at the front of the buffer.
@@ -63,7 +63,7 @@ impl Receiver {
                 self.advance_on_needuid(jd, word);
             }
             OwnedBody::Send(id, message) => {
-                self.advance_on_batch(id, Messages::from(message));
+                self.advance_on_send(id, message);
             }
             OwnedBody::Batch(id, batch) => {
                 self.advance_on_batch(id, Messages::of(batch.into_messages()));
@@ -88,21 +88,41 @@ impl Receiver {
         }
     }
 
-    /// Holds messages that were sent under the identifier accepted, and says whether they were.
-    // Inlined, or a message that comes alone is moved with the room of a batch.
+    /// Holds a message that was sent under the identifier accepted, and says whether it was.
+    // Beside the batch, or each send that is dropped makes room for a batch first.
+    #[inline(always)]
+    pub(crate) fn advance_on_send(&mut self, id: u64, message: Message) -> bool
+        ensures state { self.new ≡ (table.send self.old self.old.mode id message).state }
+        ensures held { IsTrue result → table.send self.old self.old.mode id message ≡ done self.new None }
+        ensures other { IsFalse result → (self.new ≡ self.old) × (is_accepting self.old.mode id ≡ false) }
+    {
+        let accepted = self.is_accepting(id);
+        if accepted {
+            self.mode = ReceiverMode::Rcvd(id, Messages::from(message));
+        }
+        accepted
+    }
+
+    /// Holds messages that were sent together under the identifier accepted, and says whether they were.
     #[inline(always)]
     pub(crate) fn advance_on_batch(&mut self, id: u64, messages: Messages) -> bool
         ensures state { self.new ≡ (table.batch self.old self.old.mode id messages).state }
         ensures held { IsTrue result → table.batch self.old self.old.mode id messages ≡ done self.new None }
         ensures other { IsFalse result → (self.new ≡ self.old) × (is_accepting self.old.mode id ≡ false) }
     {
-        match self.mode {
-            ReceiverMode::Accept(_, accepted) if accepted == id => {
-                self.mode = ReceiverMode::Rcvd(id, messages);
-                true
-            }
-            _ => false,
+        let accepted = self.is_accepting(id);
+        if accepted {
+            self.mode = ReceiverMode::Rcvd(id, messages);
         }
+        accepted
+    }
+
+    /// Whether what is sent under this identifier is accepted.
+    #[inline(always)]
+    pub(crate) fn is_accepting(&self, id: u64) -> bool
+        ensures { result ≡ is_accepting self.now.mode id }
+    {
+        matches!(self.mode, ReceiverMode::Accept(_, accepted) if accepted == id)
     }
 
     /// Comes to rest if the identifier is accepted, or all its messages were got.

@@ -75,9 +75,10 @@ impl Receiver {
         ensures value { (b : Batch) → option_map packet_of result ≡ (table.batch self.now self.now.mode id b).emitted }
         ensures fits { IfSome result (λ p. CanBeWritten (body_of p.body)) }
     {
-        match &self.mode {
-            ReceiverMode::Accept(_, accepted) if *accepted == id => None,
-            _ => self.ack_on_batch(id),
+        if self.is_accepting(id) {
+            None
+        } else {
+            self.ack_on_batch(id)
         }
     }
 

@@ -38,7 +38,7 @@ impl Receiver {
         ensures* row { sem 𝓛 (Rests the_row self.entry (λ new. table.send self.old self.old.mode id message ≡ done new (option_map packet_of result))) }
         ensures fits { IfSome result (λ p. CanBeWritten (body_of p.body)) }
     {
-        if self.advance_on_batch(id, Messages::from(message)) {
+        if self.advance_on_send(id, message) {
             None
         } else {
             self.ack_on_batch(id)
