@@ -12,3 +12,5 @@ pub mod Together
 pub mod Marked
 pub mod Entries
 pub mod Named
+pub mod Lone
+pub mod Senders

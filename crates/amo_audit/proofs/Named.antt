@@ -18,7 +18,7 @@ use Rattle.amo_audit.specs.Judgement as judgement
 use Rattle.amo_audit.specs.Merge.{Interleaves}
 use Rattle.amo_audit.proofs.Greedy.{preferred_interleaves}
 
-few_events : (lines : Lines) (events : List Event) → Tell events lines → length events ≤ length lines.text.now
+pub few_events : (lines : Lines) (events : List Event) → Tell events lines → length events ≤ length lines.text.now
 few_events lines events told =
     let few = lines_within lines.version lines.text.now (numbered 0 events) told in
     let long = length-numbered 0 events in
@@ -45,7 +45,7 @@ judged_within lines (verdict.WrongReply at) judged = fault_within lines at _ jud
 judged_within lines (verdict.Unsent at) judged = fault_within lines at _ judged
 judged_within lines (verdict.Repeat at) judged = fault_within lines at _ judged
 
-none_within : (lines : Lines) (v : Verdict) → TellNone lines v → audit.line_named v ≤ length lines.text.now + 1
+pub none_within : (lines : Lines) (v : Verdict) → TellNone lines v → audit.line_named v ≤ length lines.text.now + 1
 none_within lines (verdict.Malformed at) found = malformed_within lines.version lines.text.now at found
 none_within lines (verdict.Gap at) found = gap_within lines.version lines.text.now at found
 none_within lines verdict.NoMemory found = omega arith

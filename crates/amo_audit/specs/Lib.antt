@@ -12,3 +12,5 @@ pub mod Merging
 pub mod Report
 pub mod Explanation
 pub mod Outcomes
+pub mod Alone
+pub mod Sender

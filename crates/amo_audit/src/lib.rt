@@ -9,6 +9,8 @@
 //!   other bytes it answers the verdict, which [`tell`] writes.
 //! - [`outcomes_of`] tells what became of each put of two journals that are judged yes; of others it answers what is found, as
 //!   [`tell_judgement`] writes it.
+//! - [`audit_alone`] judges the events of one host, without the other's: whether each reply is right and no word is used twice. [`whose_are`] tells
+//!   whose events a journal has. [`sender_events`] reads a sender's journal alone, and judges it so; of another it answers [`SenderFound`].
 //! - [`merge`] makes one list of the events of two hosts, in the preferred interleaving: at each place the first list's next
 //!   event, unless it delivers a packet that was not emitted yet, else the second's. Otherwise a side of a stream has events
 //!   in both lists, or no interleaving is honest.
@@ -26,6 +28,7 @@
 //! is said first of the lines of events, counted from 1, and then of a file, in which a heading may stand before them.
 #![tactic(auto)]
 
+mod alone;
 mod auditing;
 mod auditor;
 mod coming;
@@ -34,17 +37,23 @@ mod hosts;
 mod judgement;
 mod judging;
 pub mod laws;
+mod lone_side;
+mod lone_sides;
 mod marking;
 mod merge_fault;
 mod merging;
 mod outcomes;
 mod reading;
 mod reporting;
+mod sender;
+mod sender_found;
 mod side;
 mod sides;
 mod site;
 mod verdict;
+mod whose;
 
+pub use alone::audit_alone;
 pub use amo_journal::JournalFault;
 pub use amo_text::{Out, Sink};
 pub use auditing::audit;
@@ -54,4 +63,7 @@ pub use merge_fault::MergeFault;
 pub use merging::merge;
 pub use outcomes::outcomes_of;
 pub use reporting::{report, tell, tell_judgement};
+pub use sender::sender_events;
+pub use sender_found::SenderFound;
 pub use verdict::Verdict;
+pub use whose::{Whose, whose_are};
