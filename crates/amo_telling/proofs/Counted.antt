@@ -1,11 +1,11 @@
 -- How many puts were taken.
-use Rattle.std.proofs.Common.{◌≡◌, ◌∙◌, ℕ, ◌+◌, ◌≤◌, Bool, true, false, List, [], ◌∷◌, ◌++◌, length, length-append, reverse, refl, sym, ap, arith, inl, inr}
+use Rattle.std.proofs.Common.{◌≡◌, ◌∙◌, ℕ, ◌+◌, ◌≤◌, Bool, true, false, eqb, Option, Some, List, [], ◌∷◌, ◌++◌, length, length-append, reverse, refl, sym, ap, subst, arith, inl, inr}
 use Rattle.std.specs.Prelude.{◌==◌, ◌&&◌}
 use Rattle.std.specs.Option.{option_to_list}
+use Rattle.std.proofs.lemmas.Bool.{eqb-true}
 use Rattle.std.proofs.lemmas.List.{reverse-append}
 use Rattle.std.proofs.lemmas.List.Elements.{filter_map-append}
 use Rattle.amo_object.specs.declared.step.End.{End}
-use Rattle.amo_object.specs.declared.step.Step.{Step}
 use Rattle.amo_object.specs.Delivery.{message_put, messages_put}
 use Rattle.amo_core.specs.declared.act.Act.{Act}
 use Rattle.amo_core.specs.declared.act.Act.TheVariants as act
@@ -13,7 +13,16 @@ use Rattle.amo_core.specs.declared.reply.Reply.{Reply}
 use Rattle.amo_core.specs.declared.reply.Reply.TheVariants as reply
 use Rattle.amo_world.specs.declared.event.Event.{Event}
 use Rattle.amo_world.specs.Served.{call_of, calls, calls_and}
-use Rattle.amo_outcomes.specs.Puts.{puts_after}
+use Rattle.amo_core.specs.Sender as sender
+use Rattle.amo_core.specs.Receiver as receiver
+use Rattle.amo_core.specs.declared.sender.SenderMode.{SenderMode}
+use Rattle.amo_core.specs.declared.sender.SenderMode.TheVariants as sending
+use Rattle.amo_core.specs.declared.receiver.ReceiverMode.{ReceiverMode}
+use Rattle.amo_core.specs.declared.receiver.ReceiverMode.TheVariants as receiving
+use Rattle.amo_object.specs.declared.step.End.TheVariants.{Sender, Receiver}
+use Rattle.amo_world.specs.Stream.{Stream, reply_of}
+use Rattle.amo_world.specs.History.{HasRightReply, IsRight, stream_after}
+use Rattle.amo_outcomes.specs.Puts.{Puts, acted, acted_if, called, puts_after, receiver_moved, sender_moved}
 use Rattle.amo_outcomes.proofs.Histories.{told}
 use Rattle.amo_audit.specs.Audit.{IsSound}
 use Rattle.amo_audit.specs.Merge.{Interleaves}
@@ -117,3 +126,52 @@ few_puts number (e ∷ events) = let rest = few_puts number events in let one = 
 -- one event more in the order of time
 pub turned_more : (events : List Event) (e : Event) → reverse (events ++ e ∷ []) ≡ e ∷ reverse events
 turned_more events e = reverse-append events (e ∷ [])
+
+-- a call takes a put, or none
+called_counts : (a : Act) (r : Reply) (p : Puts) → (called a (Some r) p).count ≡ p.count + one_if (is_put a r)
+called_counts (act.Put m) reply.Ok p = omega arith
+called_counts (act.Put m) r p = omega arith
+called_counts act.Get (reply.Got m) p = omega arith
+called_counts a r p = omega arith
+
+-- a sender or a receiver that moves takes none
+sender_moves : (before now : SenderMode) (p : Puts) → (sender_moved before now p).count ≡ p.count
+sender_moves (sending.Quiet got) (sending.NeedId jd load) p = refl
+sender_moves (sending.NeedId jd load) (sending.Send id sent) p = refl
+sender_moves before sending.Down p = refl
+sender_moves before now p = refl
+
+receiver_moves : (before now : ReceiverMode) (p : Puts) → (receiver_moved before now p).count ≡ p.count
+receiver_moves (receiving.Accept jd accepted) (receiving.Rcvd id b) p = refl
+receiver_moves before receiving.Down p = refl
+receiver_moves before now p = refl
+
+-- so an act with its right reply takes as many as it tells
+act_counts : (s : Stream) (side : End) (a : Act) (r : Reply) (p : Puts) → reply_of s side a ≡ Some r → (acted s side a p).count ≡ p.count + one_if (is_put a r)
+act_counts s Sender a r p is =
+    sender_moves s.sender.state.mode (sender.row s.sender.state a).state.mode (called a (reply_of s Sender a) p)
+    ∙ ap (λ (o : Option Reply). (called a o p).count) is ∙ called_counts a r p
+act_counts s Receiver a r p is =
+    receiver_moves s.receiver.state.mode (receiver.row s.receiver.state a).state.mode (called a (reply_of s Receiver a) p)
+    ∙ ap (λ (o : Option Reply). (called a o p).count) is ∙ called_counts a r p
+
+one_counts : (number : ℕ) (past : List Event) (e : Event) → HasRightReply past e → (puts_after number past).count ≡ puts_in number past
+    → (puts_after number (e ∷ past)).count ≡ puts_in number (e ∷ past)
+one_counts number past e right before = by (eqb number e.stream) refl
+  where
+    by : (own : Bool) → eqb number e.stream ≡ own
+        → (acted_if (eqb number e.stream) (stream_after number past) e (puts_after number past)).count ≡ puts_in number past + one_if (eqb number e.stream && is_put e.act e.reply)
+    by true is =
+        let same : e.stream ≡ number = sym (eqb-true number e.stream is) in
+        let reply = subst (λ (n : ℕ). reply_of (stream_after n past) e.side e.act ≡ Some e.reply) same right in
+        let more = act_counts (stream_after number past) e.side e.act e.reply (puts_after number past) reply in
+        rw is (omega (arith, more, before))
+    by false is = rw is (omega (arith, before))
+
+right_counts : (number : ℕ) (past : List Event) → IsRight past → (puts_after number past).count ≡ puts_in number past
+right_counts number [] right = refl
+right_counts number (e ∷ past) right = one_counts number past e right.0 (right_counts number past right.1)
+
+-- a journal with right replies took as many puts as it tells of
+pub puts_alone : (number : ℕ) (events : List Event) → IsRight (reverse events) → (puts_after number (reverse events)).count ≡ puts_in number events
+puts_alone number events right = right_counts number (reverse events) right ∙ puts_reverse number events

@@ -1,17 +1,16 @@
 -- How far a receiver's journal was read.
-use Rattle.std.proofs.Common.{◌≡◌, ◌≢◌, ◌∙◌, ℕ, ◌+◌, Bool, true, false, Option, List, [], ◌∷◌, ◌++◌, length, length-append, refl, sym, ap, arith, append_assoc, subst, eqb, inl, inr, ◌⊎◌, ◌<◌, ◌^◌, ◌≤◌}
+use Rattle.std.proofs.Common.{◌≡◌, ◌∙◌, ℕ, ◌+◌, Bool, true, false, Option, List, [], ◌∷◌, ◌++◌, length, length-append, refl, sym, ap, arith, append_assoc, subst, eqb, inl, inr, ◌⊎◌, ◌≤◌}
 use Rattle.std.specs.Prelude.{◌==◌, ◌||◌, if◌then◌else◌}
 use Rattle.std.proofs.lemmas.Bool.Decides.{eqb_tells}
 use Rattle.std.specs.List.{AllByRecursion, flat_map}
 use Rattle.std.proofs.lemmas.List.{append-nil}
 use Rattle.std.proofs.lemmas.List.Folds.{list_any-append}
 use Rattle.amo_text.specs.Line.{Lacks}
-use Rattle.amo_text.proofs.Readings.{IsReadTo}
 use Rattle.amo_world.specs.declared.event.Event.{Event}
 use Rattle.amo_journal.specs.declared.lines.Lines.{Lines}
 use Rattle.amo_journal.specs.declared.numbered.Numbered.{Numbered}
 use Rattle.amo_journal.specs.declared.version.Version.{Version}
-use Rattle.amo_journal.specs.Journal.{InRange, fields_of, line_text, numbered}
+use Rattle.amo_journal.specs.Journal.{InRange, line_text, numbered}
 use Rattle.amo_journal.proofs.Gaps.{length-numbered, next_number}
 use Rattle.amo_journal.proofs.ReadOn.{HasRead}
 use Rattle.amo_telling.specs.declared.got.Gets.{Gets}

@@ -3,3 +3,4 @@ pub mod Outcomes
 pub mod Told
 pub mod Got
 pub mod Gets
+pub mod Alone

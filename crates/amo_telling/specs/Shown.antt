@@ -1,11 +1,13 @@
 -- The lines that are written of messages.
-use Rattle.std.specs.Prelude.{ℕ, Bool, not, ◌==◌, ◌||◌, ◌&&◌, if◌then◌else◌, List, [], ◌∷◌, ◌++◌, codes}
+use Rattle.std.specs.Prelude.{ℕ, Bool, true, false, not, ◌==◌, ◌||◌, ◌&&◌, if◌then◌else◌, List, [], ◌∷◌, ◌++◌, codes}
 use Rattle.std.specs.Char.{is_ascii_control, is_control}
 use Rattle.std.specs.List.{flat_map, list_any}
 use Rattle.std.specs.Str.{chars, is_utf8}
 use Rattle.std.specs.Fmt.{decimal}
-use Rattle.amo_outcomes.specs.declared.outcome.Outcome.{Outcome}
 use Rattle.amo_outcomes.specs.declared.outcome.Outcome.TheVariants.{Got, Gone, Open}
+use Rattle.amo_outcomes.specs.declared.sender_outcome.SenderOutcome.TheVariants as told
+use Rattle.amo_telling.specs.declared.put_outcome.PutOutcome.{PutOutcome}
+use Rattle.amo_telling.specs.declared.put_outcome.PutOutcome.TheVariants.{ByBoth, BySender}
 use Rattle.amo_text.specs.Hexadecimal.{hex}
 
 -- whether a character is not shown as it is: on a line a control character, but for a tab; in an object the same of the characters of one byte, and a tab
@@ -46,13 +48,28 @@ event_shown json = if json then codes "\"event\":\"got\"," else []
 abbrev pub got_line : Bool → ℕ → ℕ → List ℕ → List ℕ
 got_line json number stream message = line_front json number stream ++ event_shown json ++ line_end json message
 
--- the word for an outcome
-abbrev pub outcome_text : Outcome → List ℕ
-outcome_text Got = codes "got"
-outcome_text Gone = codes "gone"
-outcome_text Open = codes "open"
+-- what is told of a put, as a field of a line
+abbrev pub outcome_field : PutOutcome → List ℕ
+outcome_field (ByBoth Got) = codes "got "
+outcome_field (ByBoth Gone) = codes "gone "
+outcome_field (ByBoth Open) = codes "open "
+outcome_field (BySender told.Got) = codes "got "
+outcome_field (BySender told.Gone) = codes "gone "
+outcome_field (BySender told.Open) = codes "open "
+outcome_field (BySender (told.Unknown true)) = codes "unknown,settled "
+outcome_field (BySender (told.Unknown false)) = codes "unknown "
+
+-- and as members of an object, which say where a sender's journal alone tells it
+abbrev pub outcome_members : PutOutcome → List ℕ
+outcome_members (ByBoth Got) = codes "\"outcome\":\"got\","
+outcome_members (ByBoth Gone) = codes "\"outcome\":\"gone\","
+outcome_members (ByBoth Open) = codes "\"outcome\":\"open\","
+outcome_members (BySender told.Got) = codes "\"outcome\":\"got\",\"by\":\"sender\","
+outcome_members (BySender told.Gone) = codes "\"outcome\":\"gone\",\"by\":\"sender\","
+outcome_members (BySender told.Open) = codes "\"outcome\":\"open\",\"by\":\"sender\","
+outcome_members (BySender (told.Unknown true)) = codes "\"outcome\":\"unknown\",\"settled\":true,\"by\":\"sender\","
+outcome_members (BySender (told.Unknown false)) = codes "\"outcome\":\"unknown\",\"settled\":false,\"by\":\"sender\","
 
 -- the line of a message that was put
-abbrev pub outcome_line : Bool → ℕ → ℕ → Outcome → List ℕ → List ℕ
-outcome_line json number stream outcome message = line_front json number stream
-    ++ (if json then codes "\"outcome\":\"" ++ outcome_text outcome ++ codes "\"," else (outcome_text outcome ++ codes " ")) ++ line_end json message
+abbrev pub outcome_line : Bool → ℕ → ℕ → PutOutcome → List ℕ → List ℕ
+outcome_line json number stream outcome message = line_front json number stream ++ (if json then outcome_members outcome else outcome_field outcome) ++ line_end json message

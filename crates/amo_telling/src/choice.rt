@@ -1,7 +1,8 @@
 //! Which outcomes are told, and how.
 ghost use Rattle.std.specs.Prelude.{◌≡◌};
 
-use amo_outcomes::Outcome;
+use crate::put_outcome::PutOutcome;
+use amo_outcomes::{Outcome, SenderOutcome};
 
 /// Which outcomes are told, and how. Where neither `open` nor `gone` is chosen, all are told.
 #[derive(Clone, Copy, Debug, PartialEq, Eq)]
@@ -18,16 +19,20 @@ impl Choice {
     ghost use Rattle.amo_telling.specs.Outcomes.{is_chosen};
 
     /// Whether this outcome is told.
-    pub(crate) fn has(self, outcome: Outcome) -> bool
+    pub(crate) fn has(self, outcome: PutOutcome) -> bool
         ensures { result ≡ is_chosen self outcome }
     {
         if !self.open && !self.gone {
             return true;
         }
         match outcome {
-            Outcome::Got => false,
-            Outcome::Gone => self.gone,
-            Outcome::Open => self.open,
+            PutOutcome::ByBoth(Outcome::Gone) | PutOutcome::BySender(SenderOutcome::Gone) => {
+                self.gone
+            }
+            PutOutcome::ByBoth(Outcome::Open) | PutOutcome::BySender(SenderOutcome::Open) => {
+                self.open
+            }
+            _ => false,
         }
     }
 }

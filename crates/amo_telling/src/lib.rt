@@ -3,23 +3,30 @@
 //!
 //! - [`tell_outcomes`] writes, of two journals whose audit is a yes, a line for each put that was taken: its number, its stream, whether it
 //!   was got, is gone or is open, and its message. [`Choice`] tells which of them are written. Of others it answers what the audit finds.
+//! - [`tell_outcomes_of_sender`] writes the same of a sender's journal alone, as far as that tells it: what was sent and not acknowledged is
+//!   unknown, and settled where it is final all the same.
 //! - [`tell_got`] writes, of a receiver's journal, a line for each message that a get answered, as far as it reads; [`Reading`] is how far
 //!   that was.
 //!
 //! The number is that of the line in its journal, as it stands there in front. So it stays the same while a journal goes on, and an
 //! application may keep it beside its own work. A message is spelt as `amo receive` shows it, or as a member of a JSON object.
 //!
-//! A text is made whole, and then written. Of outcomes the events of one journal lie in memory at a time, once both were judged.
+//! A text is made whole, and then written. Of outcomes the events of one journal lie in memory at a time, of two once both were judged.
 //!
-//! Lines are defined in `specs/Shown.antt`, what is told of puts in `specs/Outcomes.antt`, and of gets in `specs/Got.antt`.
+//! Lines are defined in `specs/Shown.antt`, what is told of puts in `specs/Outcomes.antt` and `specs/Alone.antt`, and of gets in `specs/Got.antt`.
 #![tactic(auto)]
 
+mod alone;
 mod choice;
 mod got;
+mod listing;
 mod outcomes;
+mod put_outcome;
+mod puts;
 mod reading;
 mod shown;
 
+pub use alone::tell_outcomes_of_sender;
 pub use choice::Choice;
 pub use got::tell_got;
 pub use outcomes::tell_outcomes;

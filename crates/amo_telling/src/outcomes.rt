@@ -1,23 +1,19 @@
 //! What became of each put of two journals.
-ghost use Rattle.std.specs.Prelude.{◌≡◌, ◌≢◌, ◌<◌, ◌↔◌, ◌⊎◌, ◌+◌, ◌^◌, ◌++◌, ◌∷◌, ℕ, List, [], false, IfErr, IfNone, IfOk, IfSome, IsErrOf, OnErr, OnOk, length, map, reverse, slice_get};
-ghost use Rattle.std.specs.List.{All};
+ghost use Rattle.std.specs.Prelude.{◌≡◌, ◌≢◌, ◌<◌, ◌↔◌, ◌⊎◌, ◌++◌, ℕ, List, [], IfErr, IfOk, IsErrOf, OnErr};
 ghost use Rattle.std.specs.Io.KnownBytes.{Appends, Keeps};
 ghost use Rattle.amo_text.specs.Sink.{AppendsFront};
 ghost use Rattle.amo_world.specs.declared.event.Event.{Event};
-ghost use Rattle.amo_world.specs.Stream.{IsStream};
 ghost use Rattle.amo_journal.specs.Lines.{Tell};
 ghost use Rattle.amo_audit.specs.Judgement.{JudgesBoth, judgement_status};
-ghost use Rattle.amo_audit.specs.Outcomes.{TellOutcomes};
-ghost use Rattle.amo_telling.specs.Outcomes.{IsTelling, TellsIf, is_put};
-ghost use Rattle.amo_telling.specs.Told.{HasTold, in_list, listed_line, told_text};
+ghost use Rattle.amo_telling.specs.Outcomes.{IsTelling, TellsIf};
+ghost use Rattle.amo_telling.specs.Told.{told_text};
 
 use crate::Choice;
-use crate::shown::push_outcome;
+use crate::listing::Listing;
+use crate::puts::told_of;
 use amo_audit::{Judgement, Verdict, outcomes_of};
-use amo_journal::{JournalFault, Lines, open, read_events};
-use amo_outcomes::Outcome;
+use amo_journal::{JournalFault, Lines, open};
 use amo_text::{Sink, write_all};
-use amo_world::{Act, Event, Reply, STREAMS};
 use std::alloc::{AllocError, Global};
 
 /// The status where memory was refused.
@@ -66,135 +62,33 @@ fn text_of(alloc: Global, first: &[u8], second: &[u8], choice: Choice) -> Result
     ensures judged { IfErr result (λ judgement. JudgesBoth first.now second.now judgement × (judgement ≢ Judgement.Whole Verdict.Yes)) }
 {
     let all = outcomes_of(alloc, first, second)?;
-    match told_of_both(alloc, open(first), open(second), choice, all.as_slice()) {
+    match told_of_both(
+        alloc,
+        open(first),
+        open(second),
+        choice,
+        Listing::OfBoth(all.as_slice()),
+    ) {
         Ok(text) => Ok(text),
         Err(AllocError) => Err(Judgement::Whole(Verdict::NoMemory)),
     }
 }
 
-/// The lines of the puts of two journals, of which this became.
+/// The lines of the puts of two journals, of which this is told.
 fn told_of_both(
     alloc: Global,
     first: Lines<'_>,
     second: Lines<'_>,
     choice: Choice,
-    all: &[Vec<Outcome>],
+    listing: Listing<'_>,
 ) -> Result<Vec<u8>, AllocError>
     requires first { (events : List Event) × Tell events first }
     requires second { (events : List Event) × Tell events second }
     ensures { IfOk result (λ text. (x : List Event) × (y : List Event) × Tell x first.entry × Tell y second.entry
-        × (text.items ≡ told_text choice (map (λ told. told.items) all.now) [] x ++ told_text choice (map (λ told. told.items) all.now) [] y)) }
+        × (text.items ≡ told_text choice listing.entry [] x ++ told_text choice listing.entry [] y)) }
 {
-    let mut text = told_of(alloc, first, choice, all)?;
-    let more = told_of(alloc, second, choice, all)?;
+    let mut text = told_of(alloc, first, choice, listing)?;
+    let more = told_of(alloc, second, choice, listing)?;
     text.extend_from_slice(more.as_slice())?;
     Ok(text)
-}
-
-/// The lines of the puts of a journal, in a history in which this became of them.
-fn told_of(
-    alloc: Global,
-    lines: Lines<'_>,
-    choice: Choice,
-    all: &[Vec<Outcome>],
-) -> Result<Vec<u8>, AllocError>
-    requires { (events : List Event) × Tell events lines }
-    ensures { IfOk result (λ text. (events : List Event) × Tell events lines.entry
-        × (text.items ≡ told_text choice (map (λ told. told.items) all.now) [] events)) }
-{
-    match read_events(alloc, lines) {
-        Ok(events) => told_of_events(alloc, events.as_slice(), choice, all),
-        Err(JournalFault::NoMemory) => Err(AllocError),
-        Err(_) => unreachable!(),
-    }
-}
-
-/// The same of the events of a journal.
-fn told_of_events(
-    alloc: Global,
-    events: &[Event],
-    choice: Choice,
-    all: &[Vec<Outcome>],
-) -> Result<Vec<u8>, AllocError>
-    requires { All (λ e. IsStream e.stream) events.now }
-    ensures { IfOk result (λ text. text.items ≡ told_text choice (map (λ told. told.items) all.now) [] events.now) }
-{
-    let mut text = Vec::new(alloc);
-    let mut counts = [0; STREAMS as usize];
-    let mut number = 0;
-    for event in events {
-        tell_event(&mut text, &mut counts, choice, all, number, event)?;
-        number += 1;
-    }
-    Ok(text)
-}
-
-/// Tells of one event more, on the line of this number, and counts the puts of each stream.
-fn tell_event(
-    text: &mut Vec<u8>,
-    counts: &mut [usize; STREAMS as usize],
-    choice: Choice,
-    all: &[Vec<Outcome>],
-    number: usize,
-    event: &Event,
-) -> Result<(), AllocError>
-    requires stream { IsStream event.now.stream }
-    requires few { number + 1 < 2 ^ 64 }
-    ensures { OnOk result ((past : List Event) → number ≡ length past
-        → HasTold choice (map (λ told. told.items) all.now) counts.old text.old.items past
-        → HasTold choice (map (λ told. told.items) all.now) counts.new text.new.items (past ++ event.now ∷ [])) }
-{
-    let Some(message) = message_put(event) else {
-        return Ok(());
-    };
-    let place = event.stream as usize - 1;
-    let put = counts[place];
-    // There are fewer puts than lines.
-    counts[place] = put.saturating_add(1);
-    push_listed(
-        text,
-        choice,
-        number as u64,
-        event.stream,
-        message,
-        outcome_at(all, place, put),
-    )
-}
-
-/// What became of a put of the stream of this place, if it is listed.
-fn outcome_at(all: &[Vec<Outcome>], place: usize, put: usize) -> Option<Outcome>
-    ensures { result ≡ in_list (slice_get (map (λ told. told.items) all.now) place) put }
-{
-    let told = all.get(place)?;
-    told.as_slice().get(put).copied()
-}
-
-/// The message that an event puts, if it is a put that was taken.
-fn message_put(event: &Event) -> Option<&[u8]>
-    ensures some { IfSome result (λ message. (event.now.act ≡ Act.Put message.now) × (event.now.reply ≡ Reply.Ok)) }
-    ensures none { IfNone result (is_put event.now.act event.now.reply ≡ false) }
-{
-    match (&event.act, &event.reply) {
-        (Act::Put(message), Reply::Ok) => Some(message.bytes()),
-        _ => None,
-    }
-}
-
-/// Appends the line of a put, if its outcome is listed and told.
-fn push_listed(
-    text: &mut Vec<u8>,
-    choice: Choice,
-    number: u64,
-    stream: u32,
-    message: &[u8],
-    outcome: Option<Outcome>,
-) -> Result<(), AllocError>
-    ensures { OnOk result (text.new.items ≡ text.old.items ++ listed_line choice number stream message.now outcome) }
-{
-    match outcome {
-        Some(outcome) if choice.has(outcome) => {
-            push_outcome(text, number, stream, outcome, message, choice.json)
-        }
-        _ => Ok(()),
-    }
 }

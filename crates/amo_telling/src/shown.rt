@@ -2,9 +2,10 @@
 ghost use Rattle.std.specs.Prelude.{◌≡◌, ◌++◌, OnOk};
 ghost use Rattle.std.specs.List.{flat_map, list_any};
 ghost use Rattle.std.specs.Str.{chars};
-ghost use Rattle.amo_telling.specs.Shown.{escaped, event_shown, got_line, hex_shown, is_hidden, is_text, line_end, line_front, message_shown, outcome_line, outcome_text, text_shown};
+ghost use Rattle.amo_telling.specs.Shown.{escaped, event_shown, got_line, hex_shown, is_hidden, is_text, line_end, line_front, message_shown, outcome_field, outcome_line, outcome_members, text_shown};
 
-use amo_outcomes::Outcome;
+use crate::put_outcome::PutOutcome;
+use amo_outcomes::{Outcome, SenderOutcome};
 use amo_text::{push_decimal, push_hex};
 use std::alloc::AllocError;
 use std::str;
@@ -40,7 +41,7 @@ pub(crate) fn push_outcome(
     text: &mut Vec<u8>,
     number: u64,
     stream: u32,
-    outcome: Outcome,
+    outcome: PutOutcome,
     message: &[u8],
     json: bool,
 ) -> Result<(), AllocError>
@@ -48,24 +49,43 @@ pub(crate) fn push_outcome(
 {
     push_front(text, number, stream, json)?;
     if json {
-        text.extend_from_slice(b"\"outcome\":\"")?;
-        text.extend_from_slice(word_of(outcome).as_bytes())?;
-        text.extend_from_slice(b"\",")?;
+        text.extend_from_slice(members_of(outcome).as_bytes())?;
     } else {
-        text.extend_from_slice(word_of(outcome).as_bytes())?;
-        text.extend_from_slice(b" ")?;
+        text.extend_from_slice(field_of(outcome).as_bytes())?;
     }
     push_end(text, message, json)
 }
 
-/// The word for an outcome.
-fn word_of(outcome: Outcome) -> &'static str
-    ensures { result.now ≡ outcome_text outcome }
+/// What is told of a put, as a field of a line.
+fn field_of(outcome: PutOutcome) -> &'static str
+    ensures { result.now ≡ outcome_field outcome }
 {
     match outcome {
-        Outcome::Got => "got",
-        Outcome::Gone => "gone",
-        Outcome::Open => "open",
+        PutOutcome::ByBoth(Outcome::Got) | PutOutcome::BySender(SenderOutcome::Got) => "got ",
+        PutOutcome::ByBoth(Outcome::Gone) | PutOutcome::BySender(SenderOutcome::Gone) => "gone ",
+        PutOutcome::ByBoth(Outcome::Open) | PutOutcome::BySender(SenderOutcome::Open) => "open ",
+        PutOutcome::BySender(SenderOutcome::Unknown { settled: true }) => "unknown,settled ",
+        PutOutcome::BySender(SenderOutcome::Unknown { settled: false }) => "unknown ",
+    }
+}
+
+/// What is told of a put, as members of an object. What a sender's journal alone tells has a member more, which says so.
+fn members_of(outcome: PutOutcome) -> &'static str
+    ensures { result.now ≡ outcome_members outcome }
+{
+    match outcome {
+        PutOutcome::ByBoth(Outcome::Got) => "\"outcome\":\"got\",",
+        PutOutcome::ByBoth(Outcome::Gone) => "\"outcome\":\"gone\",",
+        PutOutcome::ByBoth(Outcome::Open) => "\"outcome\":\"open\",",
+        PutOutcome::BySender(SenderOutcome::Got) => "\"outcome\":\"got\",\"by\":\"sender\",",
+        PutOutcome::BySender(SenderOutcome::Gone) => "\"outcome\":\"gone\",\"by\":\"sender\",",
+        PutOutcome::BySender(SenderOutcome::Open) => "\"outcome\":\"open\",\"by\":\"sender\",",
+        PutOutcome::BySender(SenderOutcome::Unknown { settled: true }) => {
+            "\"outcome\":\"unknown\",\"settled\":true,\"by\":\"sender\","
+        }
+        PutOutcome::BySender(SenderOutcome::Unknown { settled: false }) => {
+            "\"outcome\":\"unknown\",\"settled\":false,\"by\":\"sender\","
+        }
     }
 }
 

@@ -5,16 +5,19 @@ use Rattle.amo_telling.proofs.Journals.{are_good, first_tells, second_tells, is_
 use Rattle.amo_telling.proofs.outcomes.text_of.Goals as goal
 
 pub told_of_both-requires-clause-first : goal.told_of_both-requires-clause-first
-told_of_both-requires-clause-first c = first_tells c.args.choice c.args.first.now c.args.second.now _ c.open.result c.open-2.result c.open.ensures c.open-2.ensures c.in_ok-all.ensures.told
+told_of_both-requires-clause-first c = first_tells c.args.choice c.args.first.now c.args.second.now c.as_slice.result c.open.result c.open-2.result c.open.ensures c.open-2.ensures
+    (rw c.as_slice.ensures.value c.in_ok-all.ensures.told)
 
 pub told_of_both-requires-clause-second : goal.told_of_both-requires-clause-second
-told_of_both-requires-clause-second c = second_tells c.args.choice c.args.first.now c.args.second.now _ c.open.result c.open-2.result c.open.ensures c.open-2.ensures c.in_ok-all.ensures.told
+told_of_both-requires-clause-second c = second_tells c.args.choice c.args.first.now c.args.second.now c.as_slice.result c.open.result c.open-2.result c.open.ensures c.open-2.ensures
+    (rw c.as_slice.ensures.value c.in_ok-all.ensures.told)
 
 pub returns-in-Ok-clause-good : goal.returns-in-Ok-clause-good
 returns-in-Ok-clause-good c = are_good c.args.first.now c.args.second.now _ c.in_ok-all.ensures.told
 
 pub returns-in-Ok-clause-told : goal.returns-in-Ok-clause-told
-returns-in-Ok-clause-told c = is_telling c.args.choice c.args.first.now c.args.second.now _ c.open.result c.open-2.result c.open.ensures c.open-2.ensures c.in_ok-all.ensures.told c.in-Ok.text.items (rw c.as_slice.ensures.value at c.in-Ok.ensures)
+returns-in-Ok-clause-told c = is_telling c.args.choice c.args.first.now c.args.second.now c.as_slice.result c.open.result c.open-2.result c.open.ensures c.open-2.ensures
+    (rw c.as_slice.ensures.value c.in_ok-all.ensures.told) c.in-Ok.text.items c.in-Ok.ensures
 
 pub returns-clause-judged : goal.returns-clause-judged
 returns-clause-judged c = (record { ours = c.open.result; theirs = c.open-2.result; opens = (c.open.ensures, c.open-2.ensures); found = Whole NoMemory; judged = tt; is = refl }, λ e. cc)

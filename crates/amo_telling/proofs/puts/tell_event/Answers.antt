@@ -1,9 +1,9 @@
 use Rattle.std.proofs.Common.{◌≡◌, ◌∙◌, ℕ, ◌+◌, ◌-◌, ◌<◌, ◌++◌, Option, ap, arith, get_or, length, set}
 use Rattle.std.proofs.lemmas.Result.{IfOk-weaker}
-use Rattle.amo_outcomes.specs.declared.outcome.Outcome.{Outcome}
+use Rattle.amo_telling.specs.declared.put_outcome.PutOutcome.{PutOutcome}
 use Rattle.amo_telling.specs.Told.{listed_line}
 use Rattle.amo_telling.proofs.Telling.{few_counted, nothing_put, one_put}
-use Rattle.amo_telling.proofs.outcomes.tell_event.Goals as goal
+use Rattle.amo_telling.proofs.puts.tell_event.Goals as goal
 
 pub returns-in_default : goal.returns-in_default
 returns-in_default c = λ past long told. nothing_put c.args.choice _ c.args.counts.now c.args.text.now.items past told c.args.event.now c.in_default.ensures.none
@@ -21,6 +21,6 @@ returns c =
     let few = few_counted c.args.choice _ counts text past told e place is small in
     let next : c.saturating_add.result ≡ get_or counts place 0 + 1 = omega (arith, c.saturating_add.ensures, few, long, c.requires.few) in
     one_put c.args.choice _ counts text past told e m place is small c.in-Some.ensures.some.0 c.in-Some.ensures.some.1 _ _
-    (pushed ∙ ap (λ (n : ℕ). text ++ listed_line c.args.choice n e.stream m c.outcome_at.result) long
-    ∙ ap (λ (o : Option Outcome). text ++ listed_line c.args.choice (length past) e.stream m o) c.outcome_at.ensures)
+    (pushed ∙ ap (λ (n : ℕ). text ++ listed_line c.args.choice n e.stream m c.told_at.result) long
+    ∙ ap (λ (o : Option PutOutcome). text ++ listed_line c.args.choice (length past) e.stream m o) c.told_at.ensures)
     (ap (λ (n : ℕ). set counts place n) next)) c.push_listed.ensures

@@ -1,7 +1,7 @@
 use Rattle.std.proofs.Common.{◌≡◌, rules}
 use Rattle.amo_journal.specs.declared.fault.JournalFault.TheVariants.{NoMemory}
 use Rattle.amo_telling.proofs.Journals.{no_fault}
-use Rattle.amo_telling.proofs.outcomes.told_of.Goals as goal
+use Rattle.amo_telling.proofs.puts.told_of.Goals as goal
 
 pub unreachable-requires : goal.unreachable-requires
 unreachable-requires c =

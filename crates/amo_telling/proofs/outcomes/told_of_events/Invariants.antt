@@ -1,7 +1,0 @@
-use Rattle.std.proofs.Common.{◌≡◌, map, take}
-use Rattle.amo_telling.specs.Told.{HasTold}
-use Rattle.amo_telling.proofs.outcomes.told_of_events.Given as goal
-
--- the events so far were told of
-abbrev pub invariant-loop-event : goal.invariant-loop-event
-invariant-loop-event l = (l.number ≡ l.event-index) × HasTold l.fn.choice (map (λ told. told.items) l.fn.all) l.counts l.text.items (take l.event-index l.events)
