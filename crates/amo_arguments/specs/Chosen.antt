@@ -124,10 +124,10 @@ pub record HasReceive (rows : List Row) (receive : ReceiveSettings) : Type 0 whe
   pub count : HasNumberOrNone rows (codes "count") receive.count
   pub some : IfSome receive.count (λ count. 1 ≤ count)
 
--- the matches of `outcomes` have these values, of which the second file is one
+-- the matches of `outcomes` have these values
 pub record HasOutcomes (rows : List Row) (settings : OutcomesSettings) : Type 0 where
   pub first : HasText rows (codes "FILE") (string_bytes settings.first)
-  pub second : HasText rows (codes "SECOND") (string_bytes settings.second)
+  pub second : HasTextOrNone rows (codes "SECOND") (option_map string_bytes settings.second)
   pub open_is : HasFlag rows (codes "open") settings.open
   pub gone : HasFlag rows (codes "gone") settings.gone
   pub json : HasFlag rows (codes "json") settings.json

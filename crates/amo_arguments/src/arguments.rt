@@ -166,13 +166,9 @@ fn parse_receive(alloc: Global, matches: &ArgMatches<'_>) -> Result<ReceiveSetti
 fn parse_outcomes(alloc: Global, matches: &ArgMatches<'_>) -> Result<OutcomesSettings, Unfit>
     ensures { IfOk result (HasOutcomes (rows_of (found_of matches.now))) }
 {
-    let first = text_of(alloc, matches, "FILE")?;
-    let Some(second) = second_file_of(alloc, matches)? else {
-        return Err(Unfit::OneJournal);
-    };
     Ok(OutcomesSettings {
-        first,
-        second,
+        first: text_of(alloc, matches, "FILE")?,
+        second: second_file_of(alloc, matches)?,
         open: flag_of(alloc, matches, "open")?,
         gone: flag_of(alloc, matches, "gone")?,
         json: flag_of(alloc, matches, "json")?,

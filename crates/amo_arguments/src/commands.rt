@@ -259,7 +259,7 @@ fn explain<'a>(alloc: Global) -> Result<Command<'a>, AllocError>
     .arg(file(alloc, "The journal"))
 }
 
-pub(crate) fn outcomes<'a>(alloc: Global) -> Result<Command<'a>, AllocError>
+fn outcomes<'a>(alloc: Global) -> Result<Command<'a>, AllocError>
     ensures { IfOk result (described.IsCommand described.outcomes) }
 {
     with_texts(
@@ -268,7 +268,7 @@ pub(crate) fn outcomes<'a>(alloc: Global) -> Result<Command<'a>, AllocError>
         texts::OUTCOMES_ABOUT,
         texts::OUTCOMES_AFTER_HELP,
     )
-    .arg(file(alloc, "The journal of one side"))?
+    .arg(file(alloc, "The journal of a sender, or of one side of two"))?
     .arg(second_file(alloc))?
     .arg(flag(alloc, "open", "Shows the puts that are open"))?
     .arg(flag(alloc, "gone", "Shows the puts that are gone"))?

@@ -4,7 +4,7 @@ ghost use Rattle.amo_arguments.specs.Arguments as arguments;
 ghost use Rattle.amo_arguments.specs.Arguments.{IsMistake, IsTextWith, IsToldAs};
 
 use crate::ArgumentsFault;
-use crate::commands::{command, outcomes, send};
+use crate::commands::{command, send};
 use clap::error::ErrorKind;
 use clap::{Command, Error};
 use std::alloc::{AllocError, Global};
@@ -30,8 +30,6 @@ pub(crate) enum Unfit {
     Value(String),
     /// `--each` and `--batch` of `send` contradict each other.
     EachAndBatch,
-    /// One journal is given to `outcomes`, which needs two.
-    OneJournal,
     /// Memory was refused.
     NoMemory,
 }
@@ -59,7 +57,6 @@ pub(crate) fn told(alloc: Global, refusal: &Refusal) -> ArgumentsFault
         Refusal::Unfit(Unfit::Absent) => absent(alloc),
         Refusal::Unfit(Unfit::Value(advice)) => unfit_value(alloc, advice.as_str()),
         Refusal::Unfit(Unfit::EachAndBatch) => each_and_batch(alloc),
-        Refusal::Unfit(Unfit::OneJournal) => one_journal(alloc),
         Refusal::Unfit(Unfit::NoMemory) => ArgumentsFault::NoMemory,
     }
 }
@@ -114,26 +111,6 @@ fn each_and_batch(alloc: Global) -> ArgumentsFault
 /// The command `send`, under the name by which its usage is told.
 fn sender<'a>(alloc: Global) -> Result<Command<'a>, AllocError> {
     send(alloc)?.bin_name("amo send")
-}
-
-/// The fault of `outcomes` with one journal.
-fn one_journal(alloc: Global) -> ArgumentsFault
-    ensures mistake { IsMistake result }
-{
-    match teller(alloc) {
-        Ok(teller) => mistake(
-            alloc,
-            teller,
-            ErrorKind::MissingRequiredArgument,
-            "two journals are needed, a sender's and a receiver's: give the other side's too",
-        ),
-        Err(AllocError) => ArgumentsFault::NoMemory,
-    }
-}
-
-/// The command `outcomes`, under the name by which its usage is told.
-fn teller<'a>(alloc: Global) -> Result<Command<'a>, AllocError> {
-    outcomes(alloc)?.bin_name("amo outcomes")
 }
 
 /// The fault of this kind with this message, in `clap`'s words on this command.

@@ -287,7 +287,7 @@ Example:
   amo explain examples/good_journal.journal";
 
 pub(crate) const OUTCOMES_ABOUT: &str =
-    "Tells what became of each message that was put: it was got, is gone, or is open";
+    "Tells what became of each message that was put: it was got, is gone, is open, or unknown";
 
 pub(crate) const OUTCOMES_AFTER_HELP: &str =
     "Of a sender's and a receiver's journal, in either order, of which `amo audit` prints `yes`, a line
@@ -303,6 +303,16 @@ OUTCOME is one of these:
   open  it may still be got: ask again later. Once a later message of its stream was got it is none
 --open and --gone print only those; both print both.
 
+Of a sender's journal alone the same is printed, as far as that tells it. OUTCOME is then one of these:
+  got              an ack said so; it stays so
+  gone             a crash forgot it before it was sent: it may be put again
+  open             it waits to be sent
+  unknown          it was sent, and may have been got, may still be, or never will be
+  unknown,settled  the same, but that what became of it is final: it was got, or never will be
+With --json `unknown` has a field, \"settled\":true or \"settled\":false, and each line \"by\":\"sender\".
+A last line on standard error says that it is one side's journal. Both together tell of each message
+whether it was got, is gone or is open. A journal of both sides, as of `amo run`, is told of as two.
+
 Got means that the message is in the receiver's journal and was handed to its standard output. It does
 not mean that anybody acted on it.
 
@@ -310,18 +320,21 @@ Stop both hosts first: of hosts at work one journal may be ahead of the other, o
 a line, and then nothing is told but that. A loss of power may have taken last lines of a host without
 --sync, whose packets had left: then gone may be said of a message that is got all the same.
 
-Of any other files the line that `amo audit` prints goes to standard error. Journals may be in
-pieces, as of `amo audit`.
+Of any other files the line that `amo audit` prints goes to standard error. Of a sender's journal alone
+it is not asked whether what came was sent, which both together tell. Journals may be in pieces, as of
+`amo audit`.
 
 Status:
   0  all is told
   1 to 3, as of `amo audit`: nothing is told
-  2  also arguments that do not parse, or one journal
+  2  also arguments that do not parse, or
+     `amo: FILE: a receiver's journal: the sender's is needed; amo got tells what was got`
   4  `amo: out of memory`
      `amo: device`: a file or standard output failed, or there is no such file
 
-Example:
-  amo outcomes send.journal receive.journal --open";
+Examples:
+  amo outcomes send.journal receive.journal --open
+  amo outcomes send.journal";
 
 pub(crate) const GOT_ABOUT: &str = "Tells which messages a receiver's journal says were got";
 

@@ -16,7 +16,7 @@ pub enum Settings {
     Audit(String, Option<String>),
     /// Explain the journal in this file.
     Explain(String),
-    /// Tell what became of each put of two journals.
+    /// Tell what became of each put, by two journals or a sender's alone.
     Outcomes(OutcomesSettings),
     /// Tell which messages a receiver's journal says were got.
     Got(GotSettings),
@@ -72,9 +72,10 @@ pub struct ReceiveSettings {
 /// Which outcomes are told, and how. Where neither `open` nor `gone` is chosen, all are.
 #[derive(Debug, Drop)]
 pub struct OutcomesSettings {
-    /// The files of the two journals, of which each may come first.
+    /// The file of a journal.
     pub first: String,
-    pub second: String,
+    /// That of the other side's, if it is given. Each may come first.
+    pub second: Option<String>,
     /// Those of puts that are open.
     pub open: bool,
     /// Those of puts that are gone.

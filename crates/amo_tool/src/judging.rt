@@ -68,7 +68,7 @@ fn no_journal_at<R: AllocGlobal>(rt: &R, journal: &Journal) -> usize {
 }
 
 /// The line that a verdict names, or 0.
-fn line_of(verdict: Verdict) -> usize {
+pub(crate) fn line_of(verdict: Verdict) -> usize {
     match verdict {
         Verdict::Malformed(line)
         | Verdict::Gap(line)

@@ -1,4 +1,4 @@
-use Rattle.amo_tool.proofs.telling.tell_outcomes_of.Given as goal
+use Rattle.amo_tool.proofs.telling.tell_outcomes_by_both.Given as goal
 
 -- the counts of failures are the blanks' ledgers
 abbrev pub ghosts-write_outcomes : goal.ghosts-write_outcomes
