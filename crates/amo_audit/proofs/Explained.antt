@@ -50,7 +50,7 @@ none_judged lines (verdict.Repeat at) found = absurd found
 pub refused_within : (events : List Event) (place : ℕ) (why : WorldFault) → IsFirstRefused events place why → place < length events
 refused_within events place why refused = slice_get_within events place refused.event refused.here
 
-fault_at : (events : List Event) (place : ℕ) (why : WorldFault) → IsFirstRefused events place why → IsFaultAt events (place + 1) why
+pub fault_at : (events : List Event) (place : ℕ) (why : WorldFault) → IsFirstRefused events place why → IsFaultAt events (place + 1) why
 fault_at events place why refused =
     let within = refused_within events place why refused in
     let here = get_or_from_slice_get events place refused.event refused.event refused.here in

@@ -14,3 +14,4 @@ pub mod Entries
 pub mod Named
 pub mod Lone
 pub mod Senders
+pub mod Exchanged

@@ -15,6 +15,11 @@ use Rattle.amo_audit.specs.declared.verdict.Verdict.TheVariants as verdict
 use Rattle.amo_journal.specs.declared.lines.Lines.{Lines}
 use Rattle.amo_journal.specs.Lines.{Tell}
 use Rattle.amo_audit.specs.Audit.{AreOf}
+use Rattle.amo_audit.specs.declared.judgement.Judgement.{Judgement}
+use Rattle.amo_audit.specs.declared.judgement.Judgement.TheVariants.{Whole}
+use Rattle.amo_audit.specs.Judgement.{AreApart, OfBoth}
+use Rattle.amo_audit.specs.Merge.{IsPreferred}
+use Rattle.amo_resolve.specs.Explanation.{Explains}
 
 -- the fields of a step
 abbrev pub step_fields : Step → List (List ℕ)
@@ -47,6 +52,33 @@ ExplainsLines lines text = (events : List Event) × (runs : List Run) × Tell ev
 -- the text explains the journal that the bytes are
 abbrev pub IsExplanation : List ℕ → List ℕ → Type 0
 IsExplanation bytes text = (lines : Lines) × AreOf bytes lines × ExplainsLines lines text
+
+-- the events are the preferred interleaving of lists that share no side
+abbrev pub IsMerged : List Event → List Event → List Event → Type 0
+IsMerged merged x y = AreApart x y × IsPreferred x y merged
+
+-- these runs explain each stream of it
+abbrev pub MergeIsResolved : List Run → List Event → List Event → Type 0
+MergeIsResolved runs x y = (merged : List Event) × IsMerged merged x y × IsResolved runs merged
+
+-- the text spells runs that explain each stream of the merged events of two journals
+abbrev pub ExplainsTwo : Lines → Lines → List ℕ → Type 0
+ExplainsTwo first second text = (runs : List Run) × OfBoth first second (MergeIsResolved runs) × (text ≡ runs_text runs)
+
+pub record IsExplanationOfBoth (first second text : List ℕ) : Type 0 where
+  pub ours : Lines
+  pub theirs : Lines
+  pub opens : AreOf first ours × AreOf second theirs
+  pub explains : ExplainsTwo ours theirs text
+
+-- what is written of two files of which this is found
+abbrev pub ExplainsBothIf : Judgement → List ℕ → List ℕ → List ℕ → Type 0
+ExplainsBothIf (Whole verdict.Yes) first second text = IsExplanationOfBoth first second text
+ExplainsBothIf _ first second text = text ≡ []
+
+-- steps explain whatever others explain
+abbrev pub ExplainsAsWell : List Step → List Step → Type 0
+ExplainsAsWell others steps = (calls : List Step) → Explains others calls → Explains steps calls
 
 -- what is written of bytes that are judged so
 abbrev pub ExplainsIf : Verdict → List ℕ → List ℕ → Type 0

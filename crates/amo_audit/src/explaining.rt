@@ -11,14 +11,16 @@ ghost use Rattle.amo_audit.specs.Explanation.{ExplainsIf, ExplainsLines, IsExpla
 
 use crate::Verdict;
 use crate::reading::events_of;
+use crate::runs::runs_of_events;
 use amo_journal::{JournalFault, Lines, open};
 use amo_object::{Bytes, End};
-use amo_resolve::{ResolveFault, Run, Step, resolve};
+use amo_resolve::{Run, Step};
 use amo_text::{Sink, push_decimal, push_hex, push_side, write_all};
 use std::alloc::{AllocError, Global};
 
 /// Writes the run of the at-most-once queue that explains each stream of a journal, where the audit of it is a yes: a line
-/// `STREAM STEP` a step, streams rising, and in each the run in its order. Which of several runs is written is open.
+/// `STREAM STEP` a step, streams rising, and in each the run in its order. Which of several runs is written is open, but that a message that
+/// may still be got is not lost where some run keeps all of these.
 ///
 /// Of other bytes nothing is written. The answer is the verdict on the bytes, which [`crate::tell`] tells.
 ///
@@ -66,17 +68,11 @@ fn runs_of(alloc: Global, lines: Lines<'_>) -> Result<Vec<Run>, Verdict>
     ensures judged { IfErr result (λ verdict. JudgesLines lines.entry verdict × (verdict ≢ Verdict.Yes)) }
 {
     let events = events_of(alloc, lines)?;
-    match resolve(alloc, &events) {
-        Ok(runs) => Ok(runs),
-        Err(ResolveFault::NoMemory) => Err(Verdict::NoMemory),
-        Err(ResolveFault::WrongReply(place)) => Err(Verdict::WrongReply(place + 1)),
-        Err(ResolveFault::Unsent(place)) => Err(Verdict::Unsent(place + 1)),
-        Err(ResolveFault::Repeat(place)) => Err(Verdict::Repeat(place + 1)),
-    }
+    runs_of_events(alloc, events.as_slice())
 }
 
 /// Appends the lines of each run.
-fn push_runs(text: &mut Vec<u8>, runs: &[Run]) -> Result<(), AllocError>
+pub(crate) fn push_runs(text: &mut Vec<u8>, runs: &[Run]) -> Result<(), AllocError>
     ensures { OnOk result (text.new.items ≡ text.old.items ++ runs_text runs.now) }
 {
     for place in 0..runs.len() {

@@ -6,7 +6,8 @@
 //!   comes before a gap, and a gap before the first event at fault, in the order in which a world finds faults.
 //! - [`report`] writes the line that tells what is found of a journal, or of two that are merged, and answers the exit status.
 //! - [`explain`] writes, of a journal that is judged yes, the run of the at-most-once queue that its clients saw of each stream; of
-//!   other bytes it answers the verdict, which [`tell`] writes.
+//!   other bytes it answers the verdict, which [`tell`] writes. [`explain_both`] does so of two journals. What may still be got is not lost
+//!   there, wherever some run keeps all of it.
 //! - [`outcomes_of`] tells what became of each put of two journals that are judged yes; of others it answers what is found, as
 //!   [`tell_judgement`] writes it.
 //! - [`audit_alone`] judges the events of one host, without the other's: whether each reply is right and no word is used twice. [`whose_are`] tells
@@ -31,11 +32,13 @@
 mod alone;
 mod auditing;
 mod auditor;
+mod both;
 mod coming;
 mod explaining;
 mod hosts;
 mod judgement;
 mod judging;
+mod keeping;
 pub mod laws;
 mod lone_side;
 mod lone_sides;
@@ -45,6 +48,7 @@ mod merging;
 mod outcomes;
 mod reading;
 mod reporting;
+mod runs;
 mod sender;
 mod sender_found;
 mod side;
@@ -57,6 +61,7 @@ pub use alone::audit_alone;
 pub use amo_journal::JournalFault;
 pub use amo_text::{Out, Sink};
 pub use auditing::audit;
+pub use both::explain_both;
 pub use explaining::explain;
 pub use judgement::Judgement;
 pub use merge_fault::MergeFault;
