@@ -146,7 +146,8 @@ ChoosesBy met (Send send) = (rows : List Row) × (met ≡ Some (codes "send", ro
 ChoosesBy met (Receive receive) = (rows : List Row) × (met ≡ Some (codes "receive", rows)) × HasReceive rows receive
 ChoosesBy met (Audit file second) = (rows : List Row) × (met ≡ Some (codes "audit", rows))
     × HasText rows (codes "FILE") (string_bytes file) × HasTextOrNone rows (codes "SECOND") (option_map string_bytes second)
-ChoosesBy met (Explain file) = (rows : List Row) × (met ≡ Some (codes "explain", rows)) × HasText rows (codes "FILE") (string_bytes file)
+ChoosesBy met (Explain file second) = (rows : List Row) × (met ≡ Some (codes "explain", rows))
+    × HasText rows (codes "FILE") (string_bytes file) × HasTextOrNone rows (codes "SECOND") (option_map string_bytes second)
 ChoosesBy met (Outcomes settings) = (rows : List Row) × (met ≡ Some (codes "outcomes", rows)) × HasOutcomes rows settings
 ChoosesBy met (Got settings) = (rows : List Row) × (met ≡ Some (codes "got", rows)) × HasGot rows settings
 ChoosesBy met Manual = (rows : List Row) × (met ≡ Some (codes "man", rows))

@@ -94,7 +94,7 @@ abbrev pub audit : App
 audit = with_rule (with_rule (new_app (codes "audit")) file) second_file
 
 abbrev pub explain : App
-explain = with_rule (new_app (codes "explain")) file
+explain = with_rule (with_rule (new_app (codes "explain")) file) second_file
 
 abbrev pub outcomes : App
 outcomes = with_rule (with_rule (with_rule (with_rule (with_rule (new_app (codes "outcomes")) file) second_file) (flag (codes "open"))) (flag (codes "gone"))) (flag (codes "json"))

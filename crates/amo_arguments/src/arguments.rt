@@ -73,7 +73,8 @@ fn parse(alloc: Global, matches: &ArgMatches<'_>) -> Result<Option<Settings>, Un
         return Ok(Some(Settings::Audit(file, second_file_of(alloc, audit)?)));
     }
     if let Some(explain) = matches.subcommand_matches("explain") {
-        return Ok(Some(Settings::Explain(text_of(alloc, explain, "FILE")?)));
+        let file = text_of(alloc, explain, "FILE")?;
+        return Ok(Some(Settings::Explain(file, second_file_of(alloc, explain)?)));
     }
     if let Some(outcomes) = matches.subcommand_matches("outcomes") {
         return Ok(Some(Settings::Outcomes(parse_outcomes(alloc, outcomes)?)));

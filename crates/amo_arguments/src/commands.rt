@@ -256,7 +256,8 @@ fn explain<'a>(alloc: Global) -> Result<Command<'a>, AllocError>
         texts::EXPLAIN_ABOUT,
         texts::EXPLAIN_AFTER_HELP,
     )
-    .arg(file(alloc, "The journal"))
+    .arg(file(alloc, "The journal"))?
+    .arg(second_file(alloc))
 }
 
 fn outcomes<'a>(alloc: Global) -> Result<Command<'a>, AllocError>

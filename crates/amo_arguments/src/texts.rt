@@ -257,10 +257,10 @@ Examples:
   amo audit a.000001,a.000002,a";
 
 pub(crate) const EXPLAIN_ABOUT: &str =
-    "Explains a journal: what the at-most-once queue did for each stream";
+    "Explains a journal, or those of two processes: what the at-most-once queue did for each stream";
 
 pub(crate) const EXPLAIN_AFTER_HELP: &str =
-    "A journal of which `amo audit` prints `yes` is explained by lines, streams rising:
+    "A journal, or two, of which `amo audit` prints `yes` is explained by lines, streams rising:
   STREAM STEP
 
 STEP is what a client of the stream saw the at-most-once queue do, or a loss, which nobody saw:
@@ -272,19 +272,22 @@ STEP is what a client of the stream saw the at-most-once queue do, or a loss, wh
   recover s, recover r  that side recovered
   lose I                the message at place I of the queue, counted from 0, was lost
   lose-ack              what became of the last put was lost
-Where several runs of the queue explain a stream, one of them is printed.
+Where several runs of the queue explain a stream, one of them is printed, in which no message is lost
+that `amo outcomes` tells to be open.
 
-Of any other file the line that `amo audit` prints goes to standard error. The journal may be in
-pieces, as of `amo audit`.
+Of any other files the line that `amo audit` prints goes to standard error. Of one side's journal alone
+that is `unsent` where something came from the other side: give both. A last line on standard error
+says that it is one side's. Journals may be in pieces, as of `amo audit`.
 
 Status:
-  0  the journal is explained
+  0  all is explained
   1 to 3, as of `amo audit`: nothing is explained
   4  `amo: out of memory`
-     `amo: device`: the file or standard output failed, or there is no such file
+     `amo: device`: a file or standard output failed, or there is no such file
 
-Example:
-  amo explain examples/good_journal.journal";
+Examples:
+  amo explain examples/good_journal.journal
+  amo explain examples/split_journal.1.journal examples/split_journal.2.journal";
 
 pub(crate) const OUTCOMES_ABOUT: &str =
     "Tells what became of each message that was put: it was got, is gone, is open, or unknown";

@@ -14,8 +14,8 @@ pub enum Settings {
     Receive(ReceiveSettings),
     /// Audit the journal in this file, or the journals of two processes, in this file and the next.
     Audit(String, Option<String>),
-    /// Explain the journal in this file.
-    Explain(String),
+    /// Explain the journal in this file, or the journals of two processes, in this file and the next.
+    Explain(String, Option<String>),
     /// Tell what became of each put, by two journals or a sender's alone.
     Outcomes(OutcomesSettings),
     /// Tell which messages a receiver's journal says were got.

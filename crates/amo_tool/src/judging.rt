@@ -4,8 +4,10 @@ ghost use Rattle.std.specs.Prelude.{◌≡◌, ◌<◌};
 use crate::failure::Failure;
 use crate::pieces::Journal;
 use crate::watched::Watched;
-use amo_audit::{Verdict, audit, explain, report, tell};
-use amo_journal::JournalFault;
+use amo_audit::{
+    Judgement, Verdict, Whose, audit, explain, explain_both, report, tell_judgement, whose_are,
+};
+use amo_journal::{JournalFault, read_journal};
 use amo_text::Out;
 use std::cell::Cell;
 use std::io;
@@ -13,6 +15,7 @@ use std::io::{BufWriter, Printer, Write};
 use std::marker::Brand;
 use std::rt::Files;
 use std::sync::ledger::{Blank, Ledger};
+use thiserror::Error;
 
 /// Audits the journal of a name, or the journals of two processes, tells the verdict, and answers the status to end with.
 pub(crate) fn audit_files<R: AllocGlobal + Eprint + Files + Print>(
@@ -101,24 +104,71 @@ fn audit_bytes<R: AllocGlobal + Print, L: Ledger>(
     }
 }
 
-/// Explains the journal of a name on standard output, and answers the status to end with. Of what is audited other than yes,
-/// `errors` gets the verdict.
-pub(crate) fn explain_file<R: AllocGlobal + Eprint + Files + Print, E: Write + Drop>(
+/// Explains the journal of a name on standard output, or the journals of two processes, and answers the status to end with. Of what is
+/// audited other than yes, `errors` gets what is found.
+pub(crate) fn explain_files<R: AllocGlobal + Eprint + Files + Print, E: Write + Drop>(
     rt: &R,
+    file: &str,
+    second: Option<&str>,
+    errors: E,
+) -> Result<u8, Failure> {
+    let first = Journal::read(rt, file)?;
+    match second {
+        Some(second) => explain_both_files(rt, &first, second, errors),
+        None => explain_file(rt, &first, file, errors),
+    }
+}
+
+/// Explains two journals, of which the second has this name.
+fn explain_both_files<R: AllocGlobal + Eprint + Files + Print, E: Write + Drop>(
+    rt: &R,
+    first: &Journal,
     file: &str,
     errors: E,
 ) -> Result<u8, Failure> {
-    let journal = Journal::read(rt, file)?;
+    let second = Journal::read(rt, file)?;
+    let judgement = explain_two::<R, Brand>(rt, first.text(), second.text(), Blank::new(1))?;
+    let status = match judgement {
+        Judgement::Whole(Verdict::Yes) => judgement.status(),
+        _ => {
+            let status = tell_found::<R, E, Brand>(rt, judgement, errors, Blank::new(1))?;
+            tell_place(rt, first, Some(&second));
+            status
+        }
+    };
+    first.tell_missing(rt);
+    second.tell_missing(rt);
+    Ok(status)
+}
+
+/// Explains the journal of this name.
+fn explain_file<R: AllocGlobal + Eprint + Print, E: Write + Drop>(
+    rt: &R,
+    journal: &Journal,
+    file: &str,
+    errors: E,
+) -> Result<u8, Failure> {
     let verdict = explain_bytes::<R, Brand>(rt, journal.text(), Blank::new(1))?;
     let status = match verdict {
         Verdict::Yes => verdict.status(),
-        _ => tell_verdict::<R, E, Brand>(rt, verdict, errors, Blank::new(1))?,
+        _ => tell_found::<R, E, Brand>(rt, Judgement::Whole(verdict), errors, Blank::new(1))?,
     };
     if journal.is_in_pieces() {
         journal.tell_place(rt, line_of(verdict));
     }
     journal.tell_missing(rt);
+    if is_of_one_side(rt, journal) {
+        let _ = rt.eprintln(Told::Alone(file));
+    }
     Ok(status)
+}
+
+/// Whether a journal has events, each of the same side.
+fn is_of_one_side<R: AllocGlobal>(rt: &R, journal: &Journal) -> bool {
+    match read_journal(rt.alloc(), journal.text()) {
+        Ok(events) => !events.is_empty() && whose_are(events.as_slice()) != Whose::Both,
+        Err(_) => false,
+    }
 }
 
 /// Explains the bytes of a journal on standard output, and answers the verdict. What was written has left when it answers.
@@ -143,10 +193,33 @@ fn explain_bytes<R: AllocGlobal + Print, L: Ledger>(
     }
 }
 
-/// Tells a verdict, and answers the status to end with, which stays where standard error does not take it.
-fn tell_verdict<R: AllocGlobal, E: Write + Drop, L: Ledger>(
+/// Explains two journals on standard output, and answers what is found of them. What was written has left when it answers.
+fn explain_two<R: AllocGlobal + Print, L: Ledger>(
     rt: &R,
-    verdict: Verdict,
+    first: &[u8],
+    second: &[u8],
+    blank: Blank,
+) -> Result<Judgement, Failure>
+    requires name { blank.name ≡ L.name }
+    requires parts { blank.parts ≡ L.parts }
+    requires some { 0 < L.parts }
+{
+    let cause = Cell::new(None);
+    let watched = Watched::new(io::writer(rt), &cause);
+    let buffered = BufWriter::new(rt.alloc(), watched).map_err(Failure::of_output)?;
+    let mut out = Out::<BufWriter<Watched<'_, Printer<'_, R>>>, L>::new(buffered, blank);
+    let explained = explain_both(rt.alloc(), first, second, &mut out);
+    out.into_inner().flush().map_err(Failure::of_output)?;
+    match explained {
+        Ok(judgement) => Ok(judgement),
+        Err(fault) => Err(Failure::of_report(fault, cause.get())),
+    }
+}
+
+/// Tells what is found of journals, and answers the status to end with, which stays where standard error does not take it.
+pub(crate) fn tell_found<R: AllocGlobal, E: Write + Drop, L: Ledger>(
+    rt: &R,
+    judgement: Judgement,
     errors: E,
     blank: Blank,
 ) -> Result<u8, Failure>
@@ -155,9 +228,17 @@ fn tell_verdict<R: AllocGlobal, E: Write + Drop, L: Ledger>(
     requires some { 0 < L.parts }
 {
     let mut out = Out::<E, L>::new(errors, blank);
-    match tell(rt.alloc(), verdict, &mut out) {
+    match tell_judgement(rt.alloc(), judgement, &mut out) {
         Ok(status) => Ok(status),
-        Err(JournalFault::Device) => Ok(verdict.status()),
+        Err(JournalFault::Device) => Ok(judgement.status()),
         Err(fault) => Err(Failure::of_report(fault, None)),
     }
+}
+
+/// What is told of a journal on a line of its own.
+#[derive(Debug, Drop, Error)]
+enum Told<'a> {
+    /// The file of this name has the lines of one side.
+    #[error("amo: {0}: one side's journal: what happened is explained with the other side's too")]
+    Alone(&'a str),
 }

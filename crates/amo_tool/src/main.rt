@@ -21,7 +21,7 @@ mod telling;
 mod watched;
 
 use crate::failure::Failure;
-use crate::judging::{audit_files, explain_file};
+use crate::judging::{audit_files, explain_files};
 use crate::live::{receive_lines, send_lines};
 use crate::replaying::replay_file;
 use crate::running::run_to_file;
@@ -74,7 +74,10 @@ fn obey<
             let second = second.as_ref().map(|file| file.as_str());
             audit_files(rt, file.as_str(), second)
         }
-        Ok(Settings::Explain(file)) => explain_file(rt, file.as_str(), errors),
+        Ok(Settings::Explain(file, second)) => {
+            let second = second.as_ref().map(|file| file.as_str());
+            explain_files(rt, file.as_str(), second, errors)
+        }
         Ok(Settings::Outcomes(settings)) => tell_outcomes_of(rt, &settings, errors),
         Ok(Settings::Got(settings)) => tell_got_of(rt, &settings),
         Ok(Settings::Run(settings, file)) => run_to_file(rt, &settings, file.as_str(), errors),

@@ -2,11 +2,10 @@
 ghost use Rattle.std.specs.Prelude.{◌≡◌, ◌<◌};
 
 use crate::failure::Failure;
-use crate::judging::{line_of, tell_place};
+use crate::judging::{line_of, tell_found, tell_place};
 use crate::pieces::Journal;
 use crate::watched::Watched;
-use amo_audit::{Judgement, SenderFound, Verdict, audit, tell_judgement};
-use amo_journal::JournalFault;
+use amo_audit::{Judgement, SenderFound, Verdict, audit};
 use amo_settings::{GotSettings, OutcomesSettings};
 use amo_telling::{Choice, Reading, tell_got, tell_outcomes, tell_outcomes_of_sender};
 use amo_text::Out;
@@ -89,8 +88,13 @@ fn tell_outcomes_by_one<R: AllocGlobal + Eprint + Print, E: Write + Drop>(
         SenderFound::OfBoth => match audit(rt.alloc(), journal.text()) {
             Verdict::Yes => {
                 let text = journal.text();
-                let judgement =
-                    write_outcomes::<R, Brand>(rt, text, NO_EVENTS, choice, Blank::new(1))?;
+                let judgement = write_outcomes::<R, Brand>(
+                    rt,
+                    text,
+                    NO_EVENTS,
+                    choice,
+                    Blank::new(1),
+                )?;
                 Ok(judgement.status())
             }
             verdict => tell_wrong(rt, journal, verdict, errors),
@@ -150,25 +154,6 @@ fn write_outcomes_alone<R: AllocGlobal + Print, L: Ledger>(
     let told = tell_outcomes_of_sender(rt.alloc(), journal.text(), choice, &mut out);
     out.into_inner().flush().map_err(Failure::of_output)?;
     told.map_err(|fault| Failure::of_report(fault, cause.get()))
-}
-
-/// Tells what is found of journals, and answers the status to end with, which stays where standard error does not take it.
-fn tell_found<R: AllocGlobal, E: Write + Drop, L: Ledger>(
-    rt: &R,
-    judgement: Judgement,
-    errors: E,
-    blank: Blank,
-) -> Result<u8, Failure>
-    requires name { blank.name ≡ L.name }
-    requires parts { blank.parts ≡ L.parts }
-    requires some { 0 < L.parts }
-{
-    let mut out = Out::<E, L>::new(errors, blank);
-    match tell_judgement(rt.alloc(), judgement, &mut out) {
-        Ok(status) => Ok(status),
-        Err(JournalFault::Device) => Ok(judgement.status()),
-        Err(fault) => Err(Failure::of_report(fault, None)),
-    }
 }
 
 /// Tells which messages a receiver's journal says were got, and answers the status to end with.
@@ -236,13 +221,9 @@ enum Told<'a> {
     #[error("amo: {0}: a sender's journal: a receiver's is needed")]
     OfSender(&'a str),
     /// Each line of the file of this name is a receiver's.
-    #[error(
-        "amo: {0}: a receiver's journal: the sender's is needed; amo got tells what was got"
-    )]
+    #[error("amo: {0}: a receiver's journal: the sender's is needed; amo got tells what was got")]
     OfReceiver(&'a str),
     /// The file of this name has the lines of one side.
-    #[error(
-        "amo: {0}: one side's journal: with the other side's too, each put is got, gone or open"
-    )]
+    #[error("amo: {0}: one side's journal: with the other side's too, each put is got, gone or open")]
     Alone(&'a str),
 }
