@@ -14,14 +14,16 @@ use Rattle.amo_world.specs.History.{Extends, stream_after}
 use Rattle.amo_world.proofs.Extensions.{further}
 use Rattle.amo_book.specs.declared.drive.Done as drive
 use Rattle.amo_book.specs.declared.foresee.Foreseen.TheVariants.{Keeps}
-use Rattle.amo_book.specs.Book.{BookState, Each}
-use Rattle.amo_book.specs.Charge.{ChargeState}
+use Rattle.amo_book.specs.Book.{Each}
+use Rattle.amo_book.specs.Charge.{ChargeState, IsChargeOf}
 use Rattle.amo_book.specs.Drive.{Driven}
 use Rattle.amo_book.specs.Foresee.{Foresees}
 use Rattle.amo_book.specs.Pass.{PassState, Answer, Grown, GrownBy, IsSamePass, event}
 use Rattle.amo_host.proofs.ChargeLemmas.{each_at, each_set}
 use Rattle.amo_live.specs.Emitted.{AreEmitted, IsRecent, IsRepetition, Learns, OutboxState, RecentState, WasEmitted, WereEmitted, keeping, nothing_recent, packet_in, spelt_by}
-use Rattle.amo_live.specs.Host.{HostState, IsHost, LooksAt, Repeats}
+use Rattle.amo_host.specs.Station.{IsStation, Station}
+use Rattle.amo_live.specs.declared.given_word.GivenWord.{GivenWord}
+use Rattle.amo_live.specs.Host.{HostState, IsHost, Looks, Repeats}
 use Rattle.amo_live.specs.Noted.{JournalState}
 use Rattle.amo_live.proofs.Suiting.{stands}
 
@@ -133,37 +135,52 @@ pub repeats_one : (v w : PassState) (c : ChargeState) (a : Act) (old new : List 
 repeats_one v w c a old new n f was = record { keeps = f.tells.0; emits = front_spelt _ old new n f.tells.1; emitted = (was, tt) }
 
 -- a host after a client's call
-pub host_called : {L S : Type 0} (book : BookState) (charges : List ChargeState) (link : L) (outbox : OutboxState) (j k : JournalState S) (v w : PassState) (side : End) (stream : ℕ) (a : Act) (answer : Answer)
-    → IsHost (record { book = book; pass = v; charges = charges; link = link; outbox = outbox; journal = j }) → Grown v w side stream a answer
-    → IsHost (record { book = book; pass = w; charges = charges; link = link; outbox = outbox; journal = k })
-host_called book charges link outbox j k v w side stream a None is same = record {
-  pass = ap (λ (p : PassState). p.book) same ∙ is.pass;
-  charges = is.charges;
-  order = is.order;
+pub host_called : {L S : Type 0} (h : HostState L S) (k : JournalState S) (w : PassState) (side : End) (stream : ℕ) (a : Act) (answer : Answer) → IsHost h → Grown h.pass w side stream a answer → IsHost (record h { pass = w; journal = k })
+host_called h k w side stream a None is same = record {
+  together = (ap (λ (p : PassState). p.book) same ∙ is.together.0, is.together.1);
+  station = is.station;
+  side = is.side;
+  few = is.few;
+  sides = is.sides;
+  places = is.places;
   number = subst (λ (p : PassState). p.number < 64) (sym same) is.number;
-  places = is.places;
-  emitted = subst (λ (p : PassState). AreEmitted p outbox) (sym same) is.emitted;
+  emitted = subst (λ (p : PassState). AreEmitted p h.outbox) (sym same) is.emitted;
 }
-host_called book charges link outbox j k v w side stream a (Some (reply, position)) is grown = record {
-  pass = grown.book ∙ is.pass;
-  charges = is.charges;
-  order = is.order;
-  number = subst (λ (n : ℕ). n < 64) (sym grown.number) is.number;
+host_called h k w side stream a (Some (reply, position)) is grown = record {
+  together = (grown.book ∙ is.together.0, is.together.1);
+  station = is.station;
+  side = is.side;
+  few = is.few;
+  sides = is.sides;
   places = is.places;
-  emitted = all_still v w outbox (grown_extends v w (event v.number side stream a reply) grown) grown.number is.emitted;
+  number = subst (λ (n : ℕ). n < 64) (sym grown.number) is.number;
+  emitted = all_still h.pass w h.outbox (grown_extends h.pass w (event h.pass.number side stream a reply) grown) grown.number is.emitted;
 }
 
 -- and after a look
-pub host_seen : {L S : Type 0} (book : BookState) (charges : List ChargeState) (link : L) (outbox : OutboxState) (j : JournalState S) (v w : PassState)
-    → IsHost (record { book = book; pass = v; charges = charges; link = link; outbox = outbox; journal = j }) → IsSamePass v w → Extends w.seen v.seen
-    → IsHost (record { book = book; pass = w; charges = charges; link = link; outbox = outbox; journal = j })
-host_seen book charges link outbox j v w is same more = record {
-  pass = same.book ∙ is.pass;
-  charges = is.charges;
-  order = is.order;
-  number = subst (λ (n : ℕ). n < 64) (sym same.number) is.number;
+pub host_seen : {L S : Type 0} (h : HostState L S) (w : PassState) → IsHost h → IsSamePass h.pass w → Extends w.seen h.pass.seen → IsHost (record h { pass = w })
+host_seen h w is same more = record {
+  together = (same.book ∙ is.together.0, is.together.1);
+  station = is.station;
+  side = is.side;
+  few = is.few;
+  sides = is.sides;
   places = is.places;
-  emitted = all_still v w outbox more same.number is.emitted;
+  number = subst (λ (n : ℕ). n < 64) (sym same.number) is.number;
+  emitted = all_still h.pass w h.outbox more same.number is.emitted;
+}
+
+-- and with a pump that has other times
+pub host_timed : {L S : Type 0} (h : HostState L S) (pump : Station GivenWord) → IsHost h → pump.charges ≡ h.pump.charges → pump.host.side ≡ h.pump.host.side → IsStation pump → IsHost (record h { pump = pump })
+host_timed h pump is charges side station = record {
+  together = (is.together.0, subst (Each (IsChargeOf h.book.id h.book.sides)) (sym charges) is.together.1);
+  station = station;
+  side = side ∙ is.side;
+  few = is.few;
+  sides = is.sides;
+  places = is.places;
+  number = is.number;
+  emitted = is.emitted;
 }
 
 -- what was emitted may leave again
@@ -178,23 +195,24 @@ again_emitted w o m place bytes false all within again known other recent = reco
   recent = subst (Each (WereEmitted w)) (sym recent) all.recent;
 }
 
-pub host_repeated : {L S : Type 0} (book : BookState) (charges : List ChargeState) (link : L) (o m : OutboxState) (j : JournalState S) (v w : PassState) (place : ℕ) (bytes : List ℕ) (known : Bool)
-    → IsHost (record { book = book; pass = v; charges = charges; link = link; outbox = o; journal = j }) → IsSamePass v w → Extends w.seen v.seen → place < length charges
-    → (known ≡ true → m.leaving ≡ o.leaving ++ bytes ∷ []) → (known ≡ true → (r : RecentState) → slice_get o.recent place ≡ Some r → IsRecent r bytes) → (known ≡ false → m.leaving ≡ o.leaving) → m.recent ≡ o.recent
-    → IsHost (record { book = book; pass = w; charges = charges; link = link; outbox = m; journal = j })
-host_repeated book charges link o m j v w place bytes known is same more within again are other recent =
-    let seen = host_seen book charges link o j v w is same more in record {
-      pass = seen.pass;
-      charges = seen.charges;
-      order = seen.order;
-      number = seen.number;
+pub host_repeated : {L S : Type 0} (h : HostState L S) (m : OutboxState) (w : PassState) (place : ℕ) (bytes : List ℕ) (known : Bool) → IsHost h → IsSamePass h.pass w → Extends w.seen h.pass.seen → place < length h.outbox.recent
+    → (known ≡ true → m.leaving ≡ h.outbox.leaving ++ bytes ∷ []) → (known ≡ true → (r : RecentState) → slice_get h.outbox.recent place ≡ Some r → IsRecent r bytes) → (known ≡ false → m.leaving ≡ h.outbox.leaving) → m.recent ≡ h.outbox.recent
+    → IsHost (record h { pass = w; outbox = m })
+host_repeated h m w place bytes known is same more within again are other recent =
+    let seen = host_seen h w is same more in record {
+      together = seen.together;
+      station = seen.station;
+      side = seen.side;
+      few = seen.few;
+      sides = seen.sides;
       places = ap length recent ∙ seen.places;
-      emitted = again_emitted w o m place bytes known seen.emitted (subst (λ (n : ℕ). place < n) (sym is.places) within) again are other recent;
+      number = seen.number;
+      emitted = again_emitted w h.outbox m place bytes known seen.emitted within again are other recent;
     }
 
 -- what came of a look at an act: it keeps the state, and emits nothing
-pub looks_none : {L S : Type 0} (h g : HostState L S) (c : ChargeState) (a : Act) (old new : List ℕ) → Foresees h.pass g.pass c a old new (Keeps None) → g.outbox ≡ h.outbox → Repeats h g c.side c.stream a
-looks_none h g c a old new f same = record {
+looks_none_at : {L S : Type 0} (h g : HostState L S) (c : ChargeState) (a : Act) (old new : List ℕ) → Foresees h.pass g.pass c a old new (Keeps None) → g.outbox ≡ h.outbox → Repeats h g c.side c.stream a
+looks_none_at h g c a old new f same = record {
   sees = record { same = f.same; extends = f.extends };
   again = [];
   repetition = repeats_none h.pass g.pass c a old new f;
@@ -207,16 +225,23 @@ same_outbox o m leaving recent =
     let one : m ≡ record { leaving = o.leaving; recent = m.recent } = ap (λ (l : List (List ℕ)). let x : OutboxState = record { leaving = l; recent = m.recent } in x) leaving in
     one ∙ ap (λ (r : List RecentState). let x : OutboxState = record { leaving = o.leaving; recent = r } in x) recent
 
+-- the same, at the host's side of a stream
+pub looks_none : {L S : Type 0} (h g : HostState L S) (stream : ℕ) (c : ChargeState) (a : Act) (old new : List ℕ) → c.side ≡ h.side → c.stream ≡ stream → Foresees h.pass g.pass c a old new (Keeps None) → g.outbox ≡ h.outbox → Looks h g stream a true
+looks_none h g stream c a old new of at f same = subst (λ (s : End). Repeats h g s stream a) of (subst (λ (n : ℕ). Repeats h g c.side n a) at (looks_none_at h g c a old new f same))
+
 -- or a packet that it emitted of late, or did not
-pub looks_some : {L S : Type 0} (h g : HostState L S) (c : ChargeState) (a : Act) (old new : List ℕ) (n place : ℕ) (known : Bool) → Foresees h.pass g.pass c a old new (Keeps (Some n)) → AreEmitted h.pass h.outbox → place < length h.outbox.recent
+pub looks_some : {L S : Type 0} (h g : HostState L S) (stream : ℕ) (c : ChargeState) (a : Act) (old new : List ℕ) (n place : ℕ) (known : Bool) → c.side ≡ h.side → c.stream ≡ stream → Foresees h.pass g.pass c a old new (Keeps (Some n))
+    → AreEmitted h.pass h.outbox → place < length h.outbox.recent
     → (known ≡ true → g.outbox.leaving ≡ h.outbox.leaving ++ take n new ∷ []) → (known ≡ true → (r : RecentState) → slice_get h.outbox.recent place ≡ Some r → IsRecent r (take n new))
-    → (known ≡ false → g.outbox.leaving ≡ h.outbox.leaving) → g.outbox.recent ≡ h.outbox.recent → LooksAt h g c.side c.stream a known
-looks_some h g c a old new n place true f all within again known other recent =
-    let still = all_still h.pass g.pass h.outbox f.extends f.same.number all in record {
+    → (known ≡ false → g.outbox.leaving ≡ h.outbox.leaving) → g.outbox.recent ≡ h.outbox.recent → Looks h g stream a known
+looks_some h g stream c a old new n place true of at f all within again known other recent =
+    let still = all_still h.pass g.pass h.outbox f.extends f.same.number all in
+    let here : Repeats h g c.side c.stream a = record {
       sees = record { same = f.same; extends = f.extends };
       again = take n new ∷ [];
       repetition = repeats_one h.pass g.pass c a old new n f (known_emitted g.pass h.outbox.recent place (take n new) within still.recent (known refl));
       leaving = again refl;
       recent = recent;
-    }
-looks_some h g c a old new n place false f all within again known other recent = (record { same = f.same; extends = f.extends }, same_outbox h.outbox g.outbox (other refl) recent)
+    } in
+    subst (λ (s : End). Repeats h g s stream a) of (subst (λ (k : ℕ). Repeats h g c.side k a) at here)
+looks_some h g stream c a old new n place false of at f all within again known other recent = (record { same = f.same; extends = f.extends }, same_outbox h.outbox g.outbox (other refl) recent)

@@ -1,8 +1,10 @@
 -- No word is borne twice.
-use Rattle.std.proofs.Common.{◌≡◌, ◌≢◌, ℕ, Bool, true, false, List, [], ◌∷◌, ◌++◌, Option, Some, None, Result, Ok, Err, IfOk, OnOk, sym, ap, ◌∙◌, subst, append_assoc}
+use Rattle.std.proofs.Common.{◌≡◌, ◌≢◌, ℕ, Bool, true, false, List, [], ◌∷◌, ◌++◌, Option, Some, None, Result, Ok, Err, IfOk, OnOk, refl, sym, ap, ◌∙◌, subst, append_assoc}
 use Rattle.std.specs.List.{AllByRecursion}
 use Rattle.amo_object.specs.declared.step.End.{End}
 use Rattle.amo_packet.specs.declared.packet.OwnedPacket.{OwnedPacket}
+use Rattle.amo_packet.specs.declared.packet.OwnedBody.{OwnedBody}
+use Rattle.amo_packet.specs.declared.packet.OwnedBody.TheVariants as packet
 use Rattle.amo_packet.specs.Grammar.{Spells}
 use Rattle.amo_packet.proofs.Spellings.{Spells-unique}
 use Rattle.amo_core.specs.declared.act.Act.{Act}
@@ -12,7 +14,7 @@ use Rattle.amo_book.specs.Pass.{PassState, Answer, Grown, mine}
 use Rattle.amo_journal.specs.declared.version.Version.{Version}
 use Rattle.amo_journal.specs.declared.version.Version.TheVariants.{One, Two}
 use Rattle.amo_journal.specs.Version.{newest}
-use Rattle.amo_live.specs.Host.{HostState, Did, Delivered, Looks}
+use Rattle.amo_live.specs.Host.{HostState, Did, Delivered, Looks, word_for}
 use Rattle.amo_live.specs.Service.{start_of}
 use Rattle.amo_live.proofs.Repeating.{looks_still, none_still}
 use Rattle.amo_live.specs.Words.{AreNew, BearsNew, IsNew, StaysDrawn, word_by, word_of_delivery, words_in}
@@ -78,22 +80,31 @@ call_bears v w side stream a (Some (r, position)) none grown = ap words_in grown
 -- nor does a resend
 pub resend_bears : {L S : Type 0} (h g : HostState L S) (stream : ℕ) (mode : Option Mode) → Did h g stream act.Resend mode → words_in (mine g.pass) ≡ words_in (mine h.pass)
 resend_bears h g stream None did = ap (λ (p : PassState). words_in (mine p)) did.0
-resend_bears h g stream (Some mode) did = ap words_in did.1.grown.mine_grew
+resend_bears h g stream (Some mode) did = ap words_in did.grown.mine_grew
 
 -- a start bears its word
 pub start_bears : {L S : Type 0} (h g : HostState L S) (stream word : ℕ) (batch : Bool) (version : Version) (mode : Mode) → Did h g stream (start_of batch version word) (Some mode) → words_in (mine g.pass) ≡ word ∷ words_in (mine h.pass)
-start_bears h g stream word batch One mode did = ap words_in did.1.grown.mine_grew
-start_bears h g stream word false Two mode did = ap words_in did.1.grown.mine_grew
-start_bears h g stream word true Two mode did = ap words_in did.1.grown.mine_grew
+start_bears h g stream word batch One mode did = ap words_in did.grown.mine_grew
+start_bears h g stream word false Two mode did = ap words_in did.grown.mine_grew
+start_bears h g stream word true Two mode did = ap words_in did.grown.mine_grew
 
 pub idle_bears : {L S : Type 0} (h g : HostState L S) (stream : ℕ) (a : Act) → Did h g stream a None → words_in (mine g.pass) ≡ words_in (mine h.pass)
 idle_bears h g stream a did = ap (λ (p : PassState). words_in (mine p)) did.0
 
+-- a packet is delivered with the word that it bears
+borne_by : (body : OwnedBody) (word : ℕ) → word_of_delivery body (word_for body word) ≡ word_of_delivery body word
+borne_by (packet.NeedUid jd) word = refl
+borne_by (packet.Accept jd id) word = refl
+borne_by (packet.Send id m) word = refl
+borne_by (packet.Ack id got) word = refl
+borne_by (packet.Cleanup id) word = refl
+borne_by (packet.Batch id b) word = refl
+
 -- the delivery of this packet bears its word, where it is a needuid
 pub delivery_bears : {L S : Type 0} (h g : HostState L S) (bytes : List ℕ) (p : OwnedPacket) (word stream : ℕ) (mode : Mode) → Spells (newest h.journal.version) bytes p → Delivered h g bytes word (Some (stream, mode))
     → words_in (mine g.pass) ≡ word_of_delivery p.body word ++ words_in (mine h.pass)
-delivery_bears h g bytes p word stream mode spelt (q, spells, is, (side, happens)) =
-    ap words_in happens.grown.mine_grew ∙ ap (λ (r : OwnedPacket). word_of_delivery r.body word ++ words_in (mine h.pass)) (Spells-unique (newest h.journal.version) (newest h.journal.version) bytes q p spells spelt)
+delivery_bears h g bytes p word stream mode spelt (q, spells, is, happens) =
+    ap words_in happens.grown.mine_grew ∙ (ap (λ (l : List ℕ). l ++ words_in (mine h.pass)) (borne_by q.body word) ∙ ap (λ (r : OwnedPacket). word_of_delivery r.body word ++ words_in (mine h.pass)) (Spells-unique (newest h.journal.version) (newest h.journal.version) bytes q p spells spelt))
 
 pub none_delivered : {L S : Type 0} (h g : HostState L S) (bytes : List ℕ) (word : ℕ) → Delivered h g bytes word None → words_in (mine g.pass) ≡ words_in (mine h.pass)
 none_delivered h g bytes word none = ap words_in (none_still h g bytes word none)

@@ -1,8 +1,10 @@
 pub mod Clients
 pub mod Conserving
+pub mod Driving
 pub mod Emissions
 pub mod Showing
 pub mod Onwards
+pub mod Performing
 pub mod OwnWords
 pub mod Opens
 pub mod Suiting

@@ -1,11 +1,13 @@
 -- How a host opens.
-use Rattle.std.proofs.Common.{◌≡◌, ℕ, zero, suc, ◌+◌, ◌<◌, ◌≤◌, List, [], ◌∷◌, ◌++◌, Some, length, map, slice_get, refl, sym, ap, ◌∙◌, subst, arith}
-use Rattle.std.proofs.lemmas.Option.{same_Some}
+use Rattle.std.proofs.Common.{◌≡◌, ℕ, zero, suc, ◌+◌, ◌<◌, ◌≤◌, List, [], ◌∷◌, ◌++◌, Some, length, map, slice_get, get_or, refl, sym, ap, ap₂, ◌∙◌, subst, arith}
+use Rattle.std.specs.List.Sorted.{IsStrictlyIncreasing}
 use Rattle.atomic_table.specs.Seated.{TableId}
 use Rattle.amo_object.specs.declared.step.End.{End}
-use Rattle.amo_book.specs.Book.{AreFirstCharges, AreLawful, IsLawful, Lists, first_charge}
+use Rattle.amo_book.specs.Book.{AreFirstCharges, AreLawful, Each, IsLawful, Lists, first_charge}
 use Rattle.amo_book.specs.Charge.{ChargeState}
-use Rattle.amo_live.specs.Host.{side_of, sides_from}
+use Rattle.amo_host.specs.Charges.{CanBeDriven, IsAtRest, IsOfSide}
+use Rattle.amo_host.specs.Station.{IsStation, Station}
+use Rattle.amo_live.specs.Host.{sides_from}
 
 sides_more : (side : End) (k n j : ℕ) → j ≡ k + n → sides_from side k (n + 1) ≡ sides_from side k n ++ (side, j) ∷ []
 sides_more side k zero j is = ap (λ (m : ℕ). (side, m) ∷ []) (omega arith)
@@ -39,6 +41,10 @@ long_enough : {A : Type 0} (xs : List A) (y : A) → 1 ≤ length (xs ++ y ∷ [
 long_enough [] y = omega arith
 long_enough (z ∷ xs) y = let more = long_enough xs y in omega arith
 
+one_side : {one other : End} (cs : List ChargeState) → 0 < length cs → Each (IsOfSide one) cs → Each (IsOfSide other) cs → one ≡ other
+one_side [] some a b = absurd (omega arith)
+one_side (c ∷ cs) some a b = sym a.0 ∙ b.0
+
 -- the last of two
 pub last_of_two : {A : Type 0} (f : ℕ → A) (all rest : List A) (x : A) → Lists f 2 all → all ≡ rest ++ x ∷ [] → x ≡ f 1
 last_of_two f all [] x two is = let long = two.0 in let count = ap length is in absurd (omega arith)
@@ -46,17 +52,70 @@ last_of_two f all (a ∷ []) x two is =
     let here : slice_get all 1 ≡ Some x = ap (λ l. slice_get l 1) is in let there = two.1 1 (omega arith) in cc
 last_of_two f all (a ∷ b ∷ rest) x two is = let long = two.0 in let count = ap length is in let more = long_enough rest x in absurd (omega arith)
 
--- charges that are for these sides, one by one
-same_sides : (sides : List (End × ℕ)) (charges : List ChargeState) → length charges ≡ length sides
-    → ((k : ℕ) (s : End × ℕ) → slice_get sides k ≡ Some s → (c : ChargeState) × (slice_get charges k ≡ Some c) × (side_of c ≡ s)) → map side_of charges ≡ sides
-same_sides [] [] long at = refl
-same_sides [] (c ∷ cs) long at = absurd (omega arith)
-same_sides (s ∷ ss) [] long at = absurd (omega arith)
-same_sides (s ∷ ss) (c ∷ cs) long at =
-    let here = at 0 s refl in
-    let same : side_of c ≡ s = ap side_of (same_Some c here.0 here.1) ∙ here.2 in
-    ap (λ l. side_of c ∷ l) (same_sides ss cs (omega arith) (λ k t e. at (suc k) t e)) ∙ ap (λ t. t ∷ ss) same
+-- the charges of a book that opens with these sides
+abbrev charges_of : TableId → ℕ → List (End × ℕ) → List ChargeState
+charges_of id k [] = []
+charges_of id k (x ∷ xs) = first_charge id k x.0 x.1 ∷ charges_of id (suc k) xs
 
--- the charges of a book that opens stand in the order of its sides
-pub in_order : (id : TableId) (sides : List (End × ℕ)) (charges : List ChargeState) → AreFirstCharges id sides charges → map side_of charges ≡ sides
-in_order id sides charges first = same_sides sides charges first.0 (λ k s e. (first_charge id k s.0 s.1, first.1 k s.0 s.1 e, refl))
+dealt_are : (id : TableId) (k : ℕ) (sides : List (End × ℕ)) (cs : List ChargeState) → length cs ≡ length sides
+    → ((j : ℕ) (side : End) (stream : ℕ) → slice_get sides j ≡ Some (side, stream) → slice_get cs j ≡ Some (first_charge id (k + j) side stream)) → cs ≡ charges_of id k sides
+dealt_are id k [] [] long h = refl
+dealt_are id k [] (c ∷ cs) long h = absurd (omega arith)
+dealt_are id k (x ∷ xs) [] long h = absurd (omega arith)
+dealt_are id k (x ∷ xs) (c ∷ cs) long h =
+    let first : Some c ≡ Some (first_charge id (k + 0) x.0 x.1) = h 0 x.0 x.1 refl in
+    let here : c ≡ first_charge id (k + 0) x.0 x.1 = cc in
+    ap₂ (λ (y : ChargeState) l. y ∷ l) (here ∙ ap (λ (m : ℕ). first_charge id m x.0 x.1) (omega arith))
+    (dealt_are id (suc k) xs cs (omega arith) (λ j side stream e. h (suc j) side stream e ∙ ap (λ (m : ℕ). Some (first_charge id m side stream)) (omega arith)))
+
+all_rest : (id : TableId) (side : End) (k m n : ℕ) → Each IsAtRest (charges_of id k (sides_from side m n))
+all_rest id side k m zero = tt
+all_rest id side k m (suc n) = (refl, all_rest id side (suc k) (suc m) n)
+
+all_of_side : (id : TableId) (side : End) (k m n : ℕ) → Each (IsOfSide side) (charges_of id k (sides_from side m n))
+all_of_side id side k m zero = tt
+all_of_side id side k m (suc n) = (refl, all_of_side id side (suc k) (suc m) n)
+
+stream_at : (id : TableId) (side : End) (k m n j d : ℕ) → j < n → get_or (map (λ (c : ChargeState). c.stream) (charges_of id k (sides_from side m n))) j d ≡ m + j
+stream_at id side k m zero j d lt = absurd (omega arith)
+stream_at id side k m (suc n) zero d lt = omega arith
+stream_at id side k m (suc n) (suc j) d lt = stream_at id side (suc k) (suc m) n j d (omega arith) ∙ omega arith
+
+streams_length : (id : TableId) (side : End) (k m n : ℕ) → length (map (λ (c : ChargeState). c.stream) (charges_of id k (sides_from side m n))) ≡ n
+streams_length id side k m zero = refl
+streams_length id side k m (suc n) = ap suc (streams_length id side (suc k) (suc m) n)
+
+charges_length : (id : TableId) (side : End) (k m n : ℕ) → length (charges_of id k (sides_from side m n)) ≡ n
+charges_length id side k m zero = refl
+charges_length id side k m (suc n) = ap suc (charges_length id side (suc k) (suc m) n)
+
+module _ (id : TableId) (side : End) (n : ℕ) (sides : List (End × ℕ)) (charges : List ChargeState) (is : sides ≡ sides_from side 1 n) (first : AreFirstCharges id sides charges) where
+  are : charges ≡ charges_of id 0 (sides_from side 1 n)
+  are =
+      let listed : AreFirstCharges id (sides_from side 1 n) charges = subst (λ l. AreFirstCharges id l charges) is first in
+      dealt_are id 0 (sides_from side 1 n) charges listed.0 (λ j s stream e. listed.1 j s stream e ∙ ap (λ (m : ℕ). Some (first_charge id m s stream)) (omega arith))
+
+  -- they are at rest
+  pub charges_rest : Each IsAtRest charges
+  charges_rest = subst (Each IsAtRest) (sym are) (all_rest id side 0 1 n)
+
+  -- there are as many as streams
+  pub charges_many : length charges ≡ n
+  charges_many = ap length are ∙ charges_length id side 0 1 n
+
+  -- a pump drives them, which is of their side
+  pub charges_driven : (window : ℕ) → 1 ≤ n → 1 ≤ window → window ≤ 64 → CanBeDriven charges window
+  charges_driven window some least greatest =
+      let wide = streams_length id side 0 1 n in let many = charges_many in record {
+        some = omega arith;
+        side = side;
+        one_side = subst (Each (IsOfSide side)) (sym are) (all_of_side id side 0 1 n);
+        rising = subst (λ (cs : List ChargeState). IsStrictlyIncreasing (map (λ c. c.stream) cs)) (sym are)
+            (λ j lt. let a = stream_at id side 0 1 n j 0 (omega arith) in let b = stream_at id side 0 1 n (j + 1) 0 (omega arith) in omega arith);
+        least = least;
+        greatest = greatest;
+      }
+
+  pub side_of_pump : {W : Type 0} (s : Station W) → 1 ≤ n → s.charges ≡ charges → IsStation s → s.host.side ≡ side
+  side_of_pump s some same station =
+      one_side (charges_of id 0 (sides_from side 1 n)) (let long = charges_length id side 0 1 n in omega arith) (subst (Each (IsOfSide s.host.side)) (same ∙ are) station.sides) (all_of_side id side 0 1 n)

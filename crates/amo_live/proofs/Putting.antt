@@ -34,11 +34,11 @@ batches_noted batch Two is = tt
 -- the start of a batch puts nothing, and no other start does
 start_one : {L S : Type 0} (h g : HostState L S) (stream word : ℕ) (mode : Option Mode) → Did h g stream (act.Start word) mode → puts_in (mine g.pass) ≡ puts_in (mine h.pass)
 start_one h g stream word None did = ap (λ (p : PassState). puts_in (mine p)) did.0
-start_one h g stream word (Some mode) did = ap puts_in did.1.grown.mine_grew
+start_one h g stream word (Some mode) did = ap puts_in did.grown.mine_grew
 
 start_batch : {L S : Type 0} (h g : HostState L S) (stream word : ℕ) (mode : Option Mode) → Did h g stream (act.Batch word) mode → puts_in (mine g.pass) ≡ puts_in (mine h.pass)
 start_batch h g stream word None did = ap (λ (p : PassState). puts_in (mine p)) did.0
-start_batch h g stream word (Some mode) did = ap puts_in did.1.grown.mine_grew
+start_batch h g stream word (Some mode) did = ap puts_in did.grown.mine_grew
 
 pub start_puts : {L S : Type 0} (h g : HostState L S) (stream word : ℕ) (batch : Bool) (version : Version) (mode : Option Mode) → Did h g stream (start_of batch version word) mode → puts_in (mine g.pass) ≡ puts_in (mine h.pass)
 start_puts h g stream word batch One mode did = start_one h g stream word mode did
@@ -48,7 +48,7 @@ start_puts h g stream word true Two mode did = start_batch h g stream word mode 
 -- a delivery puts nothing, nor does a look at an act
 pub delivery_puts : {L S : Type 0} (h g : HostState L S) (bytes : List ℕ) (word : ℕ) (did : Option (ℕ × Mode)) → Delivered h g bytes word did → puts_in (mine g.pass) ≡ puts_in (mine h.pass)
 delivery_puts h g bytes word None none = ap puts_in (none_still h g bytes word none)
-delivery_puts h g bytes word (Some (stream, mode)) (p, spells, is, (side, happens)) = ap puts_in happens.grown.mine_grew
+delivery_puts h g bytes word (Some (stream, mode)) (p, spells, is, happens) = ap puts_in happens.grown.mine_grew
 
 pub look_puts : {L S : Type 0} (h g : HostState L S) (stream : ℕ) (a : Act) (known : Bool) → Looks h g stream a known → puts_in (mine g.pass) ≡ puts_in (mine h.pass)
 look_puts h g stream a known looks = ap puts_in (looks_still h g stream a known looks)

@@ -1,6 +1,6 @@
 -- A journal that a reader brings in pieces.
-use Rattle.std.proofs.Common.{ℕ, Option, Some, None, IfSome, List, [], ◌++◌, refl, sym, ap, ◌∙◌, subst, append_assoc, append-nil}
-use Rattle.std.specs.Io.KnownBytes.{Consumes, IsAtEnd}
+use Rattle.std.proofs.Common.{ℕ, Option, Some, None, List, [], ◌++◌, refl, sym, ap, ◌∙◌, append_assoc}
+use Rattle.std.specs.Io.KnownBytes.{Consumes}
 
 -- nothing was read
 pub none_taken : (a : Option (List ℕ)) → Consumes a a []

@@ -4,7 +4,6 @@ use Rattle.std.specs.Prelude.{OnOk, Result}
 use Rattle.std.specs.Io.KnownBytes.{Appends}
 use Rattle.amo_text.proofs.Written.{Appends-append, Appends-nil}
 use Rattle.std.proofs.lemmas.Result.{on_ok_weaker}
-use Rattle.amo_object.specs.declared.step.End.{End}
 use Rattle.amo_object.specs.declared.step.End.TheVariants.{Sender, Receiver}
 use Rattle.amo_core.specs.declared.act.Act.{Act}
 use Rattle.amo_core.specs.declared.act.Act.TheVariants as act
@@ -22,7 +21,7 @@ use Rattle.amo_journal.specs.declared.version.Version.TheVariants.{One, Two}
 use Rattle.amo_live.specs.declared.fault.LiveFault.{LiveFault}
 use Rattle.amo_live.specs.declared.lines.Spelling.{Spelling}
 use Rattle.amo_live.specs.declared.lines.Word.TheVariants as word
-use Rattle.amo_live.specs.Host.{HostState, Did, Delivered, Looks, message_in}
+use Rattle.amo_live.specs.Host.{HostState, Did, Delivered, Looks, message_in, word_for}
 use Rattle.amo_live.specs.Service.{start_of}
 use Rattle.amo_live.proofs.Repeating.{looks_still, none_still}
 use Rattle.amo_live.specs.Shown.{IsShown, Shows, ShowsMore, Tells, message_line, word_line}
@@ -63,18 +62,18 @@ shows_as spelling other v w x y old new some more a b c d e shows =
 
 -- a host's act shows nothing
 did_shows : {L S : Type 0} (h g : HostState L S) (spelling : Spelling) (stream : ℕ) (a : Act) (mode : Option Mode) (old new : List ℕ)
-    → ((side : End) → Tells spelling (event h.pass.number side stream a reply.Done) []) → Did h g stream a mode → new ≡ old → ShowsMore spelling h.pass g.pass old new
+    → Tells spelling (event h.pass.number h.side stream a reply.Done) [] → Did h g stream a mode → new ≡ old → ShowsMore spelling h.pass g.pass old new
 did_shows h g spelling stream a None old new quiet did same = shows_none spelling h.pass g.pass old new (ap mine did.0) same
-did_shows h g spelling stream a (Some mode) old new quiet (side, happens) same = shows_quiet spelling h.pass g.pass old new (event h.pass.number side stream a reply.Done) happens.grown.mine_grew (quiet side) same
+did_shows h g spelling stream a (Some mode) old new quiet happens same = shows_quiet spelling h.pass g.pass old new (event h.pass.number h.side stream a reply.Done) happens.grown.mine_grew quiet same
 
 pub start_shows : {L S : Type 0} (h g : HostState L S) (spelling : Spelling) (stream word : ℕ) (batch : Bool) (version : Version) (mode : Option Mode) (old new : List ℕ)
     → Did h g stream (start_of batch version word) mode → new ≡ old → ShowsMore spelling h.pass g.pass old new
-start_shows h g spelling stream word batch One mode old new = did_shows h g spelling stream (act.Start word) mode old new (λ side. refl)
-start_shows h g spelling stream word false Two mode old new = did_shows h g spelling stream (act.Start word) mode old new (λ side. refl)
-start_shows h g spelling stream word true Two mode old new = did_shows h g spelling stream (act.Batch word) mode old new (λ side. refl)
+start_shows h g spelling stream word batch One mode old new = did_shows h g spelling stream (act.Start word) mode old new refl
+start_shows h g spelling stream word false Two mode old new = did_shows h g spelling stream (act.Start word) mode old new refl
+start_shows h g spelling stream word true Two mode old new = did_shows h g spelling stream (act.Batch word) mode old new refl
 
 pub resend_shows : {L S : Type 0} (h g : HostState L S) (spelling : Spelling) (stream : ℕ) (mode : Option Mode) (old new : List ℕ) → Did h g stream act.Resend mode → new ≡ old → ShowsMore spelling h.pass g.pass old new
-resend_shows h g spelling stream mode old new = did_shows h g spelling stream act.Resend mode old new (λ side. refl)
+resend_shows h g spelling stream mode old new = did_shows h g spelling stream act.Resend mode old new refl
 
 -- a look at an act shows nothing
 pub look_shows : {L S : Type 0} (h g : HostState L S) (spelling : Spelling) (stream : ℕ) (a : Act) (known : Bool) (old new : List ℕ) → Looks h g stream a known → new ≡ old → ShowsMore spelling h.pass g.pass old new
@@ -82,8 +81,8 @@ look_shows h g spelling stream a known old new looks same = shows_none spelling 
 
 pub delivery_shows : {L S : Type 0} (h g : HostState L S) (spelling : Spelling) (bytes : List ℕ) (word : ℕ) (did : Option (ℕ × Mode)) (old new : List ℕ) → Delivered h g bytes word did → new ≡ old → ShowsMore spelling h.pass g.pass old new
 delivery_shows h g spelling bytes word None old new none same = shows_none spelling h.pass g.pass old new (none_still h g bytes word none) same
-delivery_shows h g spelling bytes word (Some (stream, mode)) old new (p, spells, is, (side, happens)) same =
-    shows_quiet spelling h.pass g.pass old new (event h.pass.number side stream (act.Deliver p word) reply.Done) happens.grown.mine_grew refl same
+delivery_shows h g spelling bytes word (Some (stream, mode)) old new (p, spells, is, happens) same =
+    shows_quiet spelling h.pass g.pass old new (event h.pass.number h.side stream (act.Deliver p (word_for p.body word)) reply.Done) happens.grown.mine_grew refl same
 
 -- a put shows that the message was put, or nothing
 pub put_shows : (spelling : Spelling) (v w : PassState) (stream : ℕ) (m : List ℕ) (position : ℕ) (old new : List ℕ) → Grown v w Sender stream (act.Put m) (put_answer (Ok position)) → new ≡ old ++ word_line spelling stream word.Ok

@@ -1,13 +1,14 @@
 -- The acts of a host are those of its side.
-use Rattle.std.proofs.Common.{◌≡◌, ℕ, zero, suc, ◌<◌, ◌^◌, Bool, true, false, List, [], ◌∷◌, Option, Some, None, Result, Ok, Err, IfOk, IfSome, length, slice_get, refl, sym, subst, arith}
+use Rattle.std.proofs.Common.{◌≡◌, ℕ, zero, suc, ◌<◌, ◌^◌, Bool, true, false, List, [], ◌∷◌, Some, None, Result, Ok, Err, IfOk, IfSome, length, slice_get, refl, sym, ap, ◌∙◌, subst, arith}
 use Rattle.hex.specs.Hex.{IsBytes}
 use Rattle.amo_object.specs.declared.step.End.{End}
 use Rattle.amo_object.specs.declared.step.End.TheVariants.{Sender, Receiver}
 use Rattle.amo_packet.specs.declared.packet.OwnedPacket.{OwnedPacket}
+use Rattle.amo_packet.specs.declared.packet.OwnedBody.{OwnedBody}
+use Rattle.amo_packet.specs.declared.packet.OwnedBody.TheVariants as packet
 use Rattle.amo_packet.specs.Grammar.{Spells}
 use Rattle.amo_core.specs.declared.act.Act.{Act}
 use Rattle.amo_core.specs.declared.act.Act.TheVariants as act
-use Rattle.amo_core.specs.declared.mode.Mode.{Mode}
 use Rattle.amo_core.specs.declared.reply.Reply.TheVariants.{Done}
 use Rattle.amo_text.specs.Message.{IsMessage}
 use Rattle.amo_book.specs.declared.fault.PutFault.{PutFault}
@@ -17,7 +18,6 @@ use Rattle.amo_book.specs.declared.fault.GetFault.TheVariants as get_fault
 use Rattle.amo_book.specs.declared.fault.AckFault.{AckFault}
 use Rattle.amo_book.specs.declared.fault.AckFault.TheVariants as ack_fault
 use Rattle.amo_book.specs.Calls.{put_answer, get_answer, ack_answer}
-use Rattle.amo_book.specs.Charge.{ChargeState}
 use Rattle.amo_journal.specs.declared.version.Version.{Version}
 use Rattle.amo_journal.specs.declared.version.Version.TheVariants.{Two}
 use Rattle.amo_journal.specs.Version.{HasBatches, newest}
@@ -25,49 +25,58 @@ use Rattle.amo_journal.specs.Journal.{HasAct, HasReply, IsPacketOf}
 use Rattle.amo_journal.proofs.Packets.{packet_spelt}
 use Rattle.amo_journal.proofs.Versions.{act_in_two}
 use Rattle.amo_book.specs.Pass.{Answer}
-use Rattle.amo_live.specs.declared.fault.LiveFault.{LiveFault}
-use Rattle.amo_live.specs.Host.{HostState, Did, DidAt, IsHostAct, Suits}
+use Rattle.amo_live.specs.Host.{IsHostAct, Suits, word_for}
 
-pub start_suits : (version : Version) (c : ChargeState) (word : ℕ) → c.side ≡ Sender → word < 2 ^ 64 → Suits version c (act.Start word)
-start_suits version c word is small = (tt, subst (λ (s : End). HasAct version s c.stream (act.Start word)) (sym is) small)
+pub start_suits : (version : Version) (side : End) (stream word : ℕ) → side ≡ Sender → word < 2 ^ 64 → Suits version side stream (act.Start word)
+start_suits version side stream word is small = (tt, subst (λ (s : End). HasAct version s stream (act.Start word)) (sym is) small)
 
-pub batch_suits : (version : Version) (c : ChargeState) (word : ℕ) → HasBatches version → c.side ≡ Sender → word < 2 ^ 64 → Suits version c (act.Batch word)
-batch_suits version c word has is small = (tt, subst (λ (s : End). HasAct version s c.stream (act.Batch word)) (sym is) (has, small))
+pub batch_suits : (version : Version) (side : End) (stream word : ℕ) → HasBatches version → side ≡ Sender → word < 2 ^ 64 → Suits version side stream (act.Batch word)
+batch_suits version side stream word has is small = (tt, subst (λ (s : End). HasAct version s stream (act.Batch word)) (sym is) (has, small))
 
-resends : (version : Version) (side : End) (stream : ℕ) → HasAct version side stream act.Resend
-resends version Sender stream = tt
-resends version Receiver stream = tt
+pub resend_suits : (version : Version) (side : End) (stream : ℕ) → Suits version side stream act.Resend
+resend_suits version Sender stream = (tt, tt)
+resend_suits version Receiver stream = (tt, tt)
 
-pub resend_suits : (version : Version) (c : ChargeState) → Suits version c act.Resend
-resend_suits version c = (tt, resends version c.side c.stream)
+pub crash_suits : (version : Version) (side : End) (stream : ℕ) → Suits version side stream act.Crash
+crash_suits version Sender stream = (tt, tt)
+crash_suits version Receiver stream = (tt, tt)
 
-crashes : (version : Version) (side : End) (stream : ℕ) → HasAct version side stream act.Crash
-crashes version Sender stream = tt
-crashes version Receiver stream = tt
-
-pub crash_suits : (version : Version) (c : ChargeState) → Suits version c act.Crash
-crash_suits version c = (tt, crashes version c.side c.stream)
-
-recovers : (version : Version) (side : End) (stream : ℕ) → HasAct version side stream act.Recover
-recovers version Sender stream = tt
-recovers version Receiver stream = tt
-
-pub recover_suits : (version : Version) (c : ChargeState) → Suits version c act.Recover
-recover_suits version c = (tt, recovers version c.side c.stream)
+pub recover_suits : (version : Version) (side : End) (stream : ℕ) → Suits version side stream act.Recover
+recover_suits version Sender stream = (tt, tt)
+recover_suits version Receiver stream = (tt, tt)
 
 delivers : (version : Version) (side : End) (stream : ℕ) (p : OwnedPacket) (word : ℕ) → IsPacketOf version stream p → word < 2 ^ 64 → HasAct version side stream (act.Deliver p word)
 delivers version Sender stream p word h small = (h, small)
 delivers version Receiver stream p word h small = (h, small)
 
--- a packet that bytes spell, in a version of packets that has lines, for a charge of its stream
-pub deliver_suits : (version : Version) (c : ChargeState) (bytes : List ℕ) (p : OwnedPacket) (word : ℕ) → IsBytes bytes → Spells (newest version) bytes p → p.stream ≡ c.stream → word < 2 ^ 64 → Suits version c (act.Deliver p word)
-deliver_suits version c bytes p word known spelt of small =
+-- the word of a packet is its word
+word_of_it : (body : OwnedBody) (word : ℕ) → word_for body word ≡ word_for body (word_for body word)
+word_of_it (packet.NeedUid jd) word = refl
+word_of_it (packet.Accept jd id) word = refl
+word_of_it (packet.Send id m) word = refl
+word_of_it (packet.Ack id got) word = refl
+word_of_it (packet.Cleanup id) word = refl
+word_of_it (packet.Batch id b) word = refl
+
+-- and is none, or the one that was given
+pub word_small : (body : OwnedBody) (word given : ℕ) → word ≡ word_for body given → given < 2 ^ 64 → word < 2 ^ 64
+word_small (packet.NeedUid jd) word given is small = subst (λ (n : ℕ). n < 2 ^ 64) (sym is) small
+word_small (packet.Accept jd id) word given is small = omega arith
+word_small (packet.Send id m) word given is small = omega arith
+word_small (packet.Ack id got) word given is small = omega arith
+word_small (packet.Cleanup id) word given is small = omega arith
+word_small (packet.Batch id b) word given is small = omega arith
+
+-- a packet that bytes spell, in a version of packets that has lines, for a side of its stream
+pub deliver_suits : (version : Version) (side : End) (stream : ℕ) (bytes : List ℕ) (p : OwnedPacket) (word given : ℕ) → IsBytes bytes → Spells (newest version) bytes p → p.stream ≡ stream → word ≡ word_for p.body given → word < 2 ^ 64
+    → Suits version side stream (act.Deliver p word)
+deliver_suits version side stream bytes p word given known spelt of is small =
     let whole = packet_spelt (newest version) bytes p p known spelt refl in
-    (tt, delivers version c.side c.stream p word (record { version_is = spelt.version; spellable = whole.0.0; bytes = whole.0.1; stream = of }) small)
+    (is ∙ (word_of_it p.body given ∙ ap (word_for p.body) (sym is)), delivers version side stream p word (record { version_is = spelt.version; spellable = whole.0.0; bytes = whole.0.1; stream = of }) small)
 
 -- a journal of version 2 has a line for each act of a side
-pub suits_two : (version : Version) (c : ChargeState) (a : Act) → Suits version c a → Suits Two c a
-suits_two version c a suits = (suits.0, act_in_two version c.side c.stream a suits.1)
+pub suits_two : (version : Version) (side : End) (stream : ℕ) (a : Act) → Suits version side stream a → Suits Two side stream a
+suits_two version side stream a suits = (suits.0, act_in_two version side stream a suits.1)
 
 -- a host's acts are answered
 pub acts_done : (a : Act) → IsHostAct a → HasReply a Done
@@ -86,15 +95,6 @@ pub stands : {X : Type 0} (xs : List X) (i : ℕ) → i < length xs → (x : X) 
 stands [] i within = absurd (omega arith)
 stands (x ∷ xs) zero within = (x, refl)
 stands (x ∷ xs) (suc i) within = stands xs i (omega arith)
-
--- what was done at the charge in a place was done on its stream
-pub did_at : {L S : Type 0} (h g : HostState L S) (place stream : ℕ) (a : Act) (r : Result (Option Mode) LiveFault) → place < length h.charges
-    → ((c : ChargeState) → slice_get h.charges place ≡ Some c → c.stream ≡ stream) → IfOk r (λ mode. (c : ChargeState) → slice_get h.charges place ≡ Some c → DidAt h g c.side c.stream a mode) → IfOk r (Did h g stream a)
-did_at h g place stream a (Err fault) within of did = tt
-did_at h g place stream a (Ok None) within of did = let there = stands h.charges place within in did there.0 there.1
-did_at h g place stream a (Ok (Some mode)) within of did =
-    let there = stands h.charges place within in
-    subst (λ (n : ℕ). Did h g n a (Some mode)) (of there.0 there.1) (there.0.side, did there.0 there.1)
 
 -- what a put answered has its line
 pub put_spelt : (version : Version) (stream : ℕ) (m copy : List ℕ) (r : Result ℕ PutFault) (known : Answer) → IsMessage m → copy ≡ m → known ≡ put_answer r

@@ -1,7 +1,9 @@
 -- A live host: one side of its streams, a link, and a journal that is ahead of all that leaves.
-use Rattle.std.specs.Prelude.{◌≡◌, ℕ, zero, suc, ◌<◌, ◌⊎◌, Bool, true, false, Option, Some, None, List, [], ◌∷◌, ◌++◌, length, map}
+use Rattle.std.specs.Prelude.{◌≡◌, ℕ, zero, suc, min, ◌<◌, ◌≤◌, ◌⊎◌, Bool, true, false, Option, Some, None, Result, Ok, Err, List, [], ◌∷◌, ◌++◌, length}
 use Rattle.amo_object.specs.declared.step.End.{End}
 use Rattle.amo_packet.specs.declared.packet.OwnedPacket.{OwnedPacket}
+use Rattle.amo_packet.specs.declared.packet.OwnedBody.{OwnedBody}
+use Rattle.amo_packet.specs.declared.packet.OwnedBody.TheVariants as packet
 use Rattle.amo_packet.specs.Grammar.{Spells}
 use Rattle.amo_core.specs.declared.act.Act.{Act}
 use Rattle.amo_core.specs.declared.act.Act.TheVariants as act
@@ -13,43 +15,64 @@ use Rattle.amo_core.specs.Automaton.{mode_of, Writes}
 use Rattle.amo_world.specs.declared.event.Event.{Event}
 use Rattle.amo_world.specs.Stream.{emission_of}
 use Rattle.amo_world.specs.History.{stream_after}
-use Rattle.amo_book.specs.Book.{BookState, Each}
-use Rattle.amo_book.specs.Charge.{ChargeState, IsChargeOf}
+use Rattle.amo_book.specs.Book.{BookState}
+use Rattle.amo_book.specs.Charge.{ChargeState}
+use Rattle.amo_book.specs.Drive.{Driven}
+use Rattle.amo_book.specs.declared.drive.Done as drive
+use Rattle.amo_host.specs.Station.{BelongTogether, IsStation, Station}
+use Rattle.amo_host.specs.declared.fault.PumpFault.{PumpFault}
+use Rattle.amo_host.specs.declared.fault.PumpFault.TheVariants as pump_fault
+use Rattle.amo_host.specs.declared.turned.Turned.{Turned}
+use Rattle.amo_host.specs.declared.turned.Turned.TheVariants as turned
 use Rattle.amo_book.specs.Pass.{PassState, Answer, GrownBy, automaton_after, event, mine}
 use Rattle.amo_journal.specs.declared.version.Version.{Version}
 use Rattle.amo_journal.specs.Version.{newest}
 use Rattle.amo_journal.specs.Journal.{HasAct}
+use Rattle.amo_live.specs.declared.fault.LiveFault.{LiveFault}
+use Rattle.amo_live.specs.declared.fault.LiveFault.TheVariants as live_fault
+use Rattle.amo_live.specs.declared.given_word.GivenWord.{GivenWord}
 use Rattle.amo_live.specs.Noted.{JournalState, IsSameJournal, Holds, Begins}
 use Rattle.amo_live.specs.Emitted.{OutboxState, AreEmitted, OnlySees, IsRepetition, packet_in}
 
--- its book, with one pass and the charges of one side; its link, the packets that are to leave, now or again, and its journal
+-- the words to come where one was given, or none
+abbrev pub given : Option ℕ → ℕ → Option ℕ
+given word zero = word
+given word (suc k) = None
+
+-- its side, of how many streams, its book with one pass, and the pump that drives its streams; its link, the packets that are to leave, now or again, and its journal
 pub record HostState (L S : Type 0) : Type 0 where
+  pub side : End
+  pub streams : ℕ
   pub book : BookState
   pub pass : PassState
-  pub charges : List ChargeState
+  pub pump : Station GivenWord
   pub link : L
   pub outbox : OutboxState
   pub journal : JournalState S
 
--- the side that a charge is for
-abbrev pub side_of : ChargeState → End × ℕ
-side_of c = (c.side, c.stream)
+-- this side of so many streams, from stream k on
+abbrev pub sides_from : End → ℕ → ℕ → List (End × ℕ)
+sides_from side k zero = []
+sides_from side k (suc n) = (side, k) ∷ sides_from side (suc k) n
 
--- The pass and the charges are the book's, the charges in the order of its sides; and a journal has a line for the pass. Each packet that is to leave,
--- now or again, is one that an event of the pass emitted.
+-- The pass and the pump's charges are the book's, which has the host's side of each of its streams; and a journal has a line for the pass. Each packet that
+-- is to leave, now or again, is one that an event of the pass emitted.
 pub record IsHost {L S : Type 0} (h : HostState L S) : Type 0 where
-  pub pass : h.pass.book ≡ h.book.id
-  pub charges : Each (IsChargeOf h.book.id h.book.sides) h.charges
-  pub order : map side_of h.charges ≡ h.book.sides
+  pub together : BelongTogether h.book h.pass h.pump
+  pub station : IsStation h.pump
+  pub side : h.pump.host.side ≡ h.side
+  pub few : h.streams ≤ 256
+  pub sides : h.book.sides ≡ sides_from h.side 1 h.streams
+  pub places : length h.outbox.recent ≡ h.streams
   pub number : h.pass.number < 64
-  pub places : length h.outbox.recent ≡ length h.charges
   pub emitted : AreEmitted h.pass h.outbox
 
--- no call but that of `send` touches the link, and none the book's name, what the charges are for, or how the journal was opened
+-- no call but that of `send` touches the link, and none the host's side, its streams, the book's name, or how the journal was opened
 pub record Stays {L S : Type 0} (h g : HostState L S) : Type 0 where
+  pub side : g.side ≡ h.side
+  pub streams : g.streams ≡ h.streams
   pub book : g.book ≡ h.book
   pub number : g.pass.number ≡ h.pass.number
-  pub charges : map side_of g.charges ≡ map side_of h.charges
   pub link : g.link ≡ h.link
   pub journal : IsSameJournal h.journal g.journal
 
@@ -79,49 +102,56 @@ pub record Repeats {L S : Type 0} (h g : HostState L S) (side : End) (stream : �
   pub leaving : g.outbox.leaving ≡ h.outbox.leaving ++ again
   pub recent : g.outbox.recent ≡ h.outbox.recent
 
--- what came of a look at an act at this side of this stream: it is a repetition, or it may be none and nothing happened
-abbrev pub LooksAt : {L S : Type 0} → HostState L S → HostState L S → End → ℕ → Act → Bool → Type 0
-LooksAt h g side stream a true = Repeats h g side stream a
-LooksAt h g side stream a false = Looked h g
-
--- the same, at a side of this stream
+-- what came of a look at an act: it is a repetition, or it may be none and nothing happened
 abbrev pub Looks : {L S : Type 0} → HostState L S → HostState L S → ℕ → Act → Bool → Type 0
-Looks h g stream a true = (side : End) × Repeats h g side stream a
+Looks h g stream a true = Repeats h g h.side stream a
 Looks h g stream a false = Looked h g
-
--- what came of an act at this side of this stream: that event, or none
-abbrev pub DidAt : {L S : Type 0} → HostState L S → HostState L S → End → ℕ → Act → Option Mode → Type 0
-DidAt h g side stream a None = IsIdle h g
-DidAt h g side stream a (Some mode) = Happens h g side stream a mode
 
 -- what came of an act: that event, or none
 abbrev pub Did : {L S : Type 0} → HostState L S → HostState L S → ℕ → Act → Option Mode → Type 0
 Did h g stream a None = IsIdle h g
-Did h g stream a (Some mode) = (side : End) × Happens h g side stream a mode
+Did h g stream a (Some mode) = Happens h g h.side stream a mode
 
--- what came of an act at this side of this stream that may have been a repetition: that event, or none
-abbrev pub TriedAt : {L S : Type 0} → HostState L S → HostState L S → End → ℕ → Act → Option Mode → Type 0
-TriedAt h g side stream a None = Repeats h g side stream a ⊎ Looked h g
-TriedAt h g side stream a (Some mode) = Happens h g side stream a mode
+-- what came of an act that may have been a repetition: that event, or none
+abbrev pub Tried : {L S : Type 0} → HostState L S → HostState L S → ℕ → Act → Option Mode → Type 0
+Tried h g stream a None = Repeats h g h.side stream a ⊎ Looked h g
+Tried h g stream a (Some mode) = Happens h g h.side stream a mode
 
--- the acts of a host
+-- the word that a packet is delivered with: a needuid with this one, any other with none
+abbrev pub word_for : OwnedBody → ℕ → ℕ
+word_for (packet.NeedUid jd) word = word
+word_for _ word = 0
+
+-- the acts of a host; it delivers no packet with a word that it does not need
 abbrev pub IsHostAct : Act → Type 0
 IsHostAct (act.Put m) = ⊥
 IsHostAct act.Get = ⊥
 IsHostAct act.Ack = ⊥
+IsHostAct (act.Deliver p word) = word ≡ word_for p.body word
 IsHostAct _ = Unit {0}
 
--- the charge's side has this act of a host's, and a journal of this version a line for it
-abbrev pub Suits : Version → ChargeState → Act → Type 0
-Suits version c a = IsHostAct a × HasAct version c.side c.stream a
+-- this side of this stream has this act of a host's, and a journal of this version a line for it
+abbrev pub Suits : Version → End → ℕ → Act → Type 0
+Suits version side stream a = IsHostAct a × HasAct version side stream a
 
--- this side of so many streams, from stream k on
-abbrev pub sides_from : End → ℕ → ℕ → List (End × ℕ)
-sides_from side k zero = []
-sides_from side k (suc n) = (side, k) ∷ sides_from side (suc k) n
+-- what came of an act at this stream's charge, by a call of the pump: the event, with this answer, or none
+abbrev pub Drives : {W : Type 0} → Station W → PassState → PassState → List ℕ → List ℕ → ℕ → Act → Option drive.Done → Type 0
+Drives s v w old new stream a None = w ≡ v
+Drives s v w old new stream a (Some done) =
+    (c : ChargeState) × (c.side ≡ s.host.side) × (c.stream ≡ stream) × Driven v w c (record c { mode = done.mode }) a old new done
 
--- a host of this side of so many streams: no event was made, and nothing is to leave
+-- what is made of the answer of a pump: where it had nothing to do, or could not do it now, there was no event
+abbrev pub done_of : Result Turned PumpFault → Result (Option drive.Done) LiveFault
+done_of (Ok (turned.Did side stream kind done)) = Ok (Some done)
+done_of (Ok _) = Ok None
+done_of (Err pump_fault.NoMemory) = Err live_fault.NoMemory
+done_of (Err _) = Ok None
+
+-- a host of this side of so many streams: no event was made, nothing is to leave, and a handshake may be open on as many of them as a window has permits
 pub record IsOpened {L S : Type 0} (side : End) (streams : ℕ) (link : L) (journal : JournalState S) (h : HostState L S) : Type 0 where
+  pub side_is : h.side ≡ side
+  pub streams_are : h.streams ≡ streams
+  pub limit : h.pump.host.limit ≡ min streams 64
   pub sides : h.book.sides ≡ sides_from side 1 streams
   pub seen : h.pass.seen ≡ []
   pub link_is : h.link ≡ link
@@ -144,14 +174,14 @@ first_events pass sides (suc n) = comes_back pass sides []
 
 -- the delivery of the packet that these bytes spell, for which the journal has a line, is no event
 abbrev pub IsRepeated : {L S : Type 0} → HostState L S → HostState L S → List ℕ → ℕ → Type 0
-IsRepeated h g bytes word = (p : OwnedPacket) × Spells (newest h.journal.version) bytes p × ((side : End) × Repeats h g side p.stream (act.Deliver p word))
+IsRepeated h g bytes word = (p : OwnedPacket) × Spells (newest h.journal.version) bytes p × Repeats h g h.side p.stream (act.Deliver p (word_for p.body word))
 
--- what came of a datagram with this word: the packet that it spells, and for which the journal has a line, was delivered on its stream; or that was a
--- repetition, or nothing happened
+-- what came of a datagram, with this word for a needuid: the packet that it spells, and for which the journal has a line, was delivered on its stream; or
+-- that was a repetition, or nothing happened
 abbrev pub Delivered : {L S : Type 0} → HostState L S → HostState L S → List ℕ → ℕ → Option (ℕ × Mode) → Type 0
 Delivered h g bytes word None = IsRepeated h g bytes word ⊎ Looked h g
 Delivered h g bytes word (Some (stream, mode)) =
-    (p : OwnedPacket) × Spells (newest h.journal.version) bytes p × (p.stream ≡ stream) × ((side : End) × Happens h g side stream (act.Deliver p word) mode)
+    (p : OwnedPacket) × Spells (newest h.journal.version) bytes p × (p.stream ≡ stream) × Happens h g h.side stream (act.Deliver p (word_for p.body word)) mode
 
 -- the message that a get answered, if it did
 abbrev pub message_in : Answer → Option (List ℕ)

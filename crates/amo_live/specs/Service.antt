@@ -7,6 +7,7 @@ use Rattle.amo_core.specs.declared.act.Act.TheVariants as act
 use Rattle.amo_journal.specs.declared.version.Version.{Version}
 use Rattle.amo_journal.specs.declared.version.Version.TheVariants.{One, Two}
 use Rattle.amo_book.specs.Pass.{PassState, mine}
+use Rattle.amo_host.specs.AtStream.{AreCalm}
 use Rattle.amo_live.specs.Host.{puts_in}
 use Rattle.amo_live.specs.declared.lines.Spelling.{Spelling}
 use Rattle.amo_live.specs.declared.service.Service.{Service}
@@ -27,6 +28,10 @@ got_by service = service.got
 -- where its next words come from
 abbrev pub words_of : {L S W : Type 0} → Service L S W → W
 words_of service = service.words
+
+-- no stream waits for its peer, and each client has its answers
+abbrev pub IsAtRest : {L S W : Type 0} → Service L S W → Type 0
+IsAtRest service = (service.owed ≡ 0) × AreCalm service.host.pump.host
 
 -- no message was put
 abbrev pub PutsNone : PassState → PassState → Type 0

@@ -1,45 +1,53 @@
 //! The acts of a host: each is an event, then its line in the journal, then a packet that is to leave.
-ghost use Rattle.std.specs.Prelude.{◌≡◌, ◌<◌, ◌∷◌, IfOk, IfErr, OnOk, OnErr, Some, length, slice_get};
+ghost use Rattle.std.specs.Prelude.{◌≡◌, ◌∷◌, IfOk, OnOk, OnErr, Some};
+ghost use Rattle.amo_packet.specs.Packet.{body_of};
 ghost use Rattle.amo_core.specs.declared.act.Act.TheVariants as act;
 ghost use Rattle.amo_journal.specs.declared.version.Version.TheVariants.{Two};
 ghost use Rattle.amo_journal.specs.Version.{HasBatches};
-ghost use Rattle.amo_book.specs.Charge.{ChargeState, IsChargeOf};
-ghost use Rattle.amo_book.specs.Drive.{Driven, Unchanged};
 ghost use Rattle.amo_book.specs.Pass.{mine};
-ghost use Rattle.amo_live.specs.Host.{Delivered, Did, DidAt, IsBegun, IsHostAct, IsNoted, LooksAt, Looks, Stays, Suits, TriedAt, comes_back, done};
+ghost use Rattle.amo_host.specs.AtStream.{hastened};
+ghost use Rattle.amo_host.specs.Station.{BelongTogether, IsStation};
+ghost use Rattle.amo_live.specs.Host.{Delivered, Did, Drives, IsBegun, IsNoted, Looks, Stays, Suits, Tried, comes_back, done, done_of, word_for};
 
 use crate::noting::note_answer;
-use crate::{Host, LiveFault};
-use amo_book::{Book, Charge, Done, DriveFault, Foreseen, Pass};
+use crate::{GivenWord, Host, LiveFault};
+use amo_book::{Book, Done, Foreseen, Pass};
 use amo_core::{Act, Mode, Reply};
+use amo_host::{Pump, PumpFault, Turned};
 use amo_net::Link;
 use amo_object::End;
 use amo_packet::{Body, MAX_PACKET, Packet};
 use amo_text::Sink;
-use std::alloc::Global;
+
+/// The time of an event that sets no timer.
+const NO_TIME: u64 = 0;
 
 impl<L: Link, S: Sink> Host<L, S> {
-    /// Begins a handshake on a stream under this word, if its sender is at rest and a message waits. Answers the kind of its mode then.
+    /// Begins a handshake on a stream under this word, if its sender is at rest, a message waits and no more handshakes are open than may be. Answers
+    /// the kind of its mode then.
     #[tactic(auto, using(crate::proofs::Suiting::start_suits))]
-    pub fn start(&mut self, stream: u32, word: u64) -> Result<Option<Mode>, LiveFault>
+    pub fn start(&mut self, stream: u32, word: u64, now: u64) -> Result<Option<Mode>, LiveFault>
         requires { IsNoted S.written self.old }
         ensures did { IfOk result (Did self.old self.new stream (act.Start word)) }
         ensures noted { OnOk result (IsNoted S.written self.new) }
         ensures begun { OnErr result (IsBegun S.written self.new) }
         ensures stays { Stays self.old self.new }
     {
-        match self.place_of(stream) {
-            Some(place) if self.charges[place].side() == End::Sender => {
-                self.perform(place, Act::Start(word))
-            }
-            _ => Ok(None),
+        if self.side == End::Sender {
+            self.perform(stream, Act::Start(word), now)
+        } else {
+            Ok(None)
         }
     }
 
-    /// Begins a handshake on a stream under this word for the messages that wait, at most four, which travel together, if its sender is at rest
-    /// and one waits. Answers the kind of its mode then.
+    /// The same for the messages that wait, at most four, which travel together.
     #[tactic(auto, using(crate::proofs::Suiting::batch_suits))]
-    pub fn start_batch(&mut self, stream: u32, word: u64) -> Result<Option<Mode>, LiveFault>
+    pub fn start_batch(
+        &mut self,
+        stream: u32,
+        word: u64,
+        now: u64,
+    ) -> Result<Option<Mode>, LiveFault>
         requires noted { IsNoted S.written self.old }
         requires batches { HasBatches self.old.journal.version }
         ensures did { IfOk result (Did self.old self.new stream (act.Batch word)) }
@@ -47,41 +55,38 @@ impl<L: Link, S: Sink> Host<L, S> {
         ensures begun { OnErr result (IsBegun S.written self.new) }
         ensures stays { Stays self.old self.new }
     {
-        match self.place_of(stream) {
-            Some(place) if self.charges[place].side() == End::Sender => {
-                self.perform(place, Act::Batch(word))
-            }
-            _ => Ok(None),
+        if self.side == End::Sender {
+            self.perform(stream, Act::Batch(word), now)
+        } else {
+            Ok(None)
         }
     }
 
     /// Lets the packet of a stream's mode leave again, where it was emitted before; or nothing, where the mode has none. That is no event. Answers
     /// whether it was so: otherwise [`Host::resend`] does it by one.
-    pub fn repeat(&mut self, stream: u32) -> Result<bool, LiveFault>
+    pub fn repeat(&mut self, stream: u32, now: u64) -> Result<bool, LiveFault>
         requires { IsNoted S.written self.old }
         ensures looks { IfOk result (Looks self.old self.new stream act.Resend) }
         ensures noted { IsNoted S.written self.new }
         ensures stays { Stays self.old self.new }
     {
-        match self.place_of(stream) {
-            Some(place) => self.is_repetition(place, &Act::Resend),
-            None => Ok(false),
+        let is_repeated = self.is_repetition(stream, &Act::Resend)?;
+        if is_repeated {
+            self.pump.repeat(stream, now);
         }
+        Ok(is_repeated)
     }
 
     /// Emits the packet of a stream's mode again, if it has one.
     #[tactic(auto, using(crate::proofs::Suiting::resend_suits))]
-    pub fn resend(&mut self, stream: u32) -> Result<Option<Mode>, LiveFault>
+    pub fn resend(&mut self, stream: u32, now: u64) -> Result<Option<Mode>, LiveFault>
         requires { IsNoted S.written self.old }
         ensures did { IfOk result (Did self.old self.new stream act.Resend) }
         ensures noted { OnOk result (IsNoted S.written self.new) }
         ensures begun { OnErr result (IsBegun S.written self.new) }
         ensures stays { Stays self.old self.new }
     {
-        match self.place_of(stream) {
-            Some(place) => self.perform(place, Act::Resend),
-            None => Ok(None),
-        }
+        self.perform(stream, Act::Resend, now)
     }
 
     /// A stream's side goes down, and forgets everything.
@@ -93,10 +98,7 @@ impl<L: Link, S: Sink> Host<L, S> {
         ensures begun { OnErr result (IsBegun S.written self.new) }
         ensures stays { Stays self.old self.new }
     {
-        match self.place_of(stream) {
-            Some(place) => self.perform(place, Act::Crash),
-            None => Ok(None),
-        }
+        self.perform(stream, Act::Crash, NO_TIME)
     }
 
     /// A stream's side is up again.
@@ -108,16 +110,18 @@ impl<L: Link, S: Sink> Host<L, S> {
         ensures begun { OnErr result (IsBegun S.written self.new) }
         ensures stays { Stays self.old self.new }
     {
-        match self.place_of(stream) {
-            Some(place) => self.perform(place, Act::Recover),
-            None => Ok(None),
-        }
+        self.perform(stream, Act::Recover, NO_TIME)
     }
 
-    /// Delivers the packet that a datagram is, with this word for an accept, if it is one for a side of this host, and the journal has a line for
-    /// that. Answers its stream, and the kind of the side's mode then. A delivery that would change nothing, and emit nothing or only a packet that
+    /// Delivers the packet that a datagram is, a needuid with this word for an accept, if it is one for a side of this host, and the journal has a line
+    /// for that. Answers its stream, and the kind of the side's mode then. A delivery that would change nothing, and emit nothing or only a packet that
     /// was emitted of late, is no event: the network lost that packet, and repeated the other.
-    pub fn deliver(&mut self, bytes: &[u8], word: u64) -> Result<Option<(u32, Mode)>, LiveFault>
+    pub fn deliver(
+        &mut self,
+        bytes: &[u8],
+        word: u64,
+        now: u64,
+    ) -> Result<Option<(u32, Mode)>, LiveFault>
         requires { IsNoted S.written self.old }
         ensures delivered { IfOk result (Delivered self.old self.new bytes.now word) }
         ensures noted { OnOk result (IsNoted S.written self.new) }
@@ -128,20 +132,27 @@ impl<L: Link, S: Sink> Host<L, S> {
             return Ok(None);
         };
         let stream = packet.stream;
-        let Some(place) = self.place_of(stream) else {
-            return Ok(None);
-        };
-        if !is_for(self.charges[place].side(), &packet) {
+        if !is_for(self.side, &packet) || self.place_of(stream).is_none() {
             return Ok(None);
         }
+        let word = word_for(&packet, word);
         let Ok(packet) = packet.copied(self.alloc) else {
             return Err(LiveFault::NoMemory);
         };
-        match self.attempt(place, Act::Deliver(packet, word)) {
+        match self.attempt(stream, Act::Deliver(packet, word), now) {
             Ok(Some(mode)) => Ok(Some((stream, mode))),
             Ok(None) => Ok(None),
             Err(fault) => Err(fault),
         }
+    }
+
+    /// A peer is heard again: what is to be sent again is so as if it had been sent now for the first time.
+    pub fn hasten(&mut self, now: u64)
+        requires { IsNoted S.written self.old }
+        ensures hastened { self.new ≡ record self.old { pump = hastened now self.old.pump } }
+        ensures noted { IsNoted S.written self.new }
+    {
+        self.pump.hasten(now);
     }
 
     /// Comes back from a crash of its process: each side goes down, and is up again, in the order of the streams.
@@ -152,102 +163,101 @@ impl<L: Link, S: Sink> Host<L, S> {
         ensures begun { OnErr result (IsBegun S.written self.new) }
         ensures stays { Stays self.old self.new }
     {
-        let count = self.charges.len();
-        'places: for place in 0..count {
-            self.manage(place, Act::Crash)?;
-            self.manage(place, Act::Recover)?;
+        let streams = self.streams;
+        'streams: for place in 0..streams {
+            self.manage(place + 1, Act::Crash)?;
+            self.manage(place + 1, Act::Recover)?;
         }
         Ok(())
     }
 
-    /// Does this act at the charge in this place, or cannot go on.
-    fn manage(&mut self, place: usize, act: Act) -> Result<(), LiveFault>
+    /// Does this act at a stream, or cannot go on.
+    fn manage(&mut self, stream: u32, act: Act) -> Result<(), LiveFault>
         requires noted { IsNoted S.written self.old }
-        requires place { place < length self.old.charges }
-        requires suits { (c : ChargeState) → slice_get self.old.charges place ≡ Some c → Suits self.old.journal.version c act }
-        ensures did { OnOk result ((c : ChargeState) → slice_get self.old.charges place ≡ Some c → mine self.new.pass ≡ done self.old.pass.number c.side c.stream act ∷ mine self.old.pass) }
+        requires suits { Suits self.old.journal.version self.old.side stream act }
+        ensures did { OnOk result (mine self.new.pass ≡ done self.old.pass.number self.old.side stream act ∷ mine self.old.pass) }
         ensures noted { OnOk result (IsNoted S.written self.new) }
         ensures begun { OnErr result (IsBegun S.written self.new) }
         ensures stays { Stays self.old self.new }
     {
-        match self.perform(place, act)? {
+        match self.perform(stream, act, NO_TIME)? {
             Some(_) => Ok(()),
             None => Err(LiveFault::Busy),
         }
     }
 
-    /// Does this act at the charge in this place, unless it is a repetition.
-    fn attempt(&mut self, place: usize, act: Act) -> Result<Option<Mode>, LiveFault>
+    /// Does this act at a stream, unless it is a repetition.
+    fn attempt(&mut self, stream: u32, act: Act, now: u64) -> Result<Option<Mode>, LiveFault>
         requires noted { IsNoted S.written self.old }
-        requires place { place < length self.old.charges }
-        requires suits { (c : ChargeState) → slice_get self.old.charges place ≡ Some c → Suits self.old.journal.version c act }
-        ensures tried { IfOk result (λ mode. (c : ChargeState) → slice_get self.old.charges place ≡ Some c → TriedAt self.old self.new c.side c.stream act mode) }
+        requires suits { Suits self.old.journal.version self.old.side stream act }
+        ensures tried { IfOk result (Tried self.old self.new stream act) }
         ensures noted { OnOk result (IsNoted S.written self.new) }
         ensures begun { OnErr result (IsBegun S.written self.new) }
         ensures stays { Stays self.old self.new }
     {
-        match self.is_repetition(place, &act) {
-            Ok(false) => self.perform(place, act),
+        match self.is_repetition(stream, &act) {
+            Ok(false) => self.perform(stream, act, now),
             Ok(true) => Ok(None),
             Err(fault) => Err(fault),
         }
     }
 
-    /// Whether this act at the charge in this place would change nothing, and emit nothing or only a packet that was emitted of late. That packet is
-    /// to leave again then.
-    fn is_repetition(&mut self, place: usize, act: &Act) -> Result<bool, LiveFault>
-        requires noted { IsNoted S.written self.old }
-        requires place { place < length self.old.charges }
-        ensures looks { IfOk result (λ known. (c : ChargeState) → slice_get self.old.charges place ≡ Some c → LooksAt self.old self.new c.side c.stream act.now known) }
+    /// Whether this act at a stream would change nothing, and emit nothing or only a packet that was emitted of late. That packet is to leave again
+    /// then.
+    fn is_repetition(&mut self, stream: u32, act: &Act) -> Result<bool, LiveFault>
+        requires { IsNoted S.written self.old }
+        ensures looks { IfOk result (Looks self.old self.new stream act.now) }
         ensures noted { IsNoted S.written self.new }
-        ensures stays { Stays self.old self.new × (self.new.charges ≡ self.old.charges) }
+        ensures stays { Stays self.old self.new }
     {
-        let charge = &self.charges[place];
+        let Some(place) = self.place_of(stream) else {
+            return Ok(false);
+        };
         match self
-            .book
-            .foresee(&mut self.pass, charge, act, &mut self.room)
+            .pump
+            .foresee(&self.book, &mut self.pass, stream, act, &mut self.room)
         {
-            Ok(Foreseen::Keeps(None)) => Ok(true),
-            Ok(Foreseen::Keeps(Some(count))) => {
+            Ok(Some(Foreseen::Keeps(None))) => Ok(true),
+            Ok(Some(Foreseen::Keeps(Some(count)))) => {
                 let Ok(known) = self.outbox.repeat(place, &self.room, count) else {
                     return Err(LiveFault::NoMemory);
                 };
                 Ok(known)
             }
-            Ok(Foreseen::Changes) | Err(_) => Ok(false),
+            Ok(Some(Foreseen::Changes) | None) | Err(_) => Ok(false),
         }
     }
 
-    /// Does this act at the charge in this place, notes it, and keeps what it emitted for [`Host::send`].
-    fn perform(&mut self, place: usize, act: Act) -> Result<Option<Mode>, LiveFault>
+    /// Does this act at a stream, notes it, and keeps what it emitted for [`Host::send`].
+    fn perform(&mut self, stream: u32, act: Act, now: u64) -> Result<Option<Mode>, LiveFault>
         requires noted { IsNoted S.written self.old }
-        requires place { place < length self.old.charges }
-        requires suits { (c : ChargeState) → slice_get self.old.charges place ≡ Some c → Suits self.old.journal.version c act }
-        ensures did { IfOk result (λ mode. (c : ChargeState) → slice_get self.old.charges place ≡ Some c → DidAt self.old self.new c.side c.stream act mode) }
+        requires suits { Suits self.old.journal.version self.old.side stream act }
+        ensures did { IfOk result (Did self.old self.new stream act) }
         ensures noted { OnOk result (IsNoted S.written self.new) }
         ensures begun { OnErr result (IsBegun S.written self.new) }
         ensures stays { Stays self.old self.new }
     {
+        let Some(place) = self.place_of(stream) else {
+            return Ok(None);
+        };
         let pass = self.pass.number();
-        let charge = &mut self.charges[place];
-        let side = charge.side();
-        let stream = charge.stream();
-        let before = charge.mode();
+        let before = self.pump.mode_of(stream);
         let delivered = is_delivery(&act);
         let done = match drive(
-            self.alloc,
+            &mut self.pump,
             &self.book,
             &mut self.pass,
-            charge,
+            now,
+            stream,
             &act,
             &mut self.room,
         ) {
-            Ok(done) => done,
-            Err(DriveFault::Busy) => return Ok(None),
-            Err(DriveFault::NoMemory) => return Err(LiveFault::NoMemory),
+            Ok(Some(done)) => done,
+            Ok(None) => return Ok(None),
+            Err(fault) => return Err(fault),
         };
         let known = Some((Reply::Done, done.position));
-        match note_answer(&mut self.journal, pass, side, stream, act, known) {
+        match note_answer(&mut self.journal, pass, self.side, stream, act, known) {
             Ok(_) => (),
             Err(fault) => return Err(fault),
         }
@@ -265,8 +275,21 @@ fn is_delivery(act: &Act) -> bool {
 }
 
 /// Whether what an act emits is an answer: it was a delivery, and left the mode as it was.
-fn is_answer(delivered: bool, before: Mode, after: Mode) -> bool {
-    delivered && before == after
+fn is_answer(delivered: bool, before: Option<Mode>, after: Mode) -> bool {
+    match before {
+        Some(before) => delivered && before == after,
+        None => false,
+    }
+}
+
+/// The word that a packet is delivered with, where a needuid is with this one.
+fn word_for(packet: &Packet<'_>, word: u64) -> u64
+    ensures { result ≡ word_for (body_of packet.now.body) word }
+{
+    match packet.body {
+        Body::NeedUid(_) => word,
+        _ => 0,
+    }
 }
 
 /// Whether a packet is one for this side.
@@ -279,31 +302,63 @@ fn is_for(side: End, packet: &Packet<'_>) -> bool {
     }
 }
 
-/// Does this act at the side of a charge, by one call of the book. A journal of version 2 has a line for each act of a side.
+/// Does this act at a stream, by one call of the pump. A journal of version 2 has a line for each act of a side.
 fn drive(
-    alloc: Global,
+    pump: &mut Pump<GivenWord>,
     book: &Book,
     pass: &mut Pass,
-    charge: &mut Charge,
+    now: u64,
+    stream: u32,
     act: &Act,
     out: &mut [u8; MAX_PACKET],
-) -> Result<Done, DriveFault>
-    requires book { (pass.old.book ≡ book.now.id) × IsChargeOf book.now.id book.now.sides charge.old }
-    requires suits { Suits Two charge.old act.now }
-    ensures driven { IfOk result (Driven pass.old pass.new charge.old charge.new act.now out.old out.new) }
-    ensures unchanged { IfErr result (λ _. Unchanged pass.old pass.new charge.old charge.new out.old out.new) }
+) -> Result<Option<Done>, LiveFault>
+    requires together { BelongTogether book.now pass.old pump.old × IsStation pump.old }
+    requires suits { Suits Two pump.old.host.side stream act.now }
+    ensures driven { IfOk result (Drives pump.old pass.old pass.new out.old out.new stream act.now) }
+    ensures failed { OnErr result (pass.new ≡ pass.old) }
+    ensures side { pump.new.host.side ≡ pump.old.host.side }
+    ensures station { IsStation pump.new × BelongTogether book.now pass.new pump.new }
 {
     match act {
-        Act::Start(word) => book.start(pass, charge, *word, out),
-        Act::Batch(word) => book.start_batch(pass, charge, *word, out),
-        Act::Resend => book.resend(pass, charge, out),
-        Act::Deliver(packet, word) => {
-            book.deliver(alloc, pass, charge, &packet.as_packet(), *word, out)
+        Act::Start(word) => {
+            give(pump, false, *word);
+            done_of(pump.start(book, pass, now, stream, out))
         }
-        Act::Crash => book.crash(pass, charge),
-        Act::Recover => book.recover(pass, charge),
+        Act::Batch(word) => {
+            give(pump, true, *word);
+            done_of(pump.start(book, pass, now, stream, out))
+        }
+        Act::Resend => done_of(pump.resend(book, pass, now, stream, out)),
+        Act::Deliver(packet, word) => {
+            give(pump, false, *word);
+            done_of(pump.deliver(book, pass, now, &packet.as_packet(), out))
+        }
+        Act::Crash => done_of(pump.crash(book, pass, now, stream)),
+        Act::Recover => done_of(pump.recover(book, pass, now, stream)),
         Act::Put(_) => unreachable!(),
         Act::Get => unreachable!(),
         Act::Ack => unreachable!(),
+    }
+}
+
+/// The pump's next event is to be under this word; where it is a start, for all messages that wait together or for one.
+fn give(pump: &mut Pump<GivenWord>, together: bool, word: u64)
+    ensures given { pump.new ≡ record pump.old { words = pump.new.words; batches = together } }
+    ensures word { pump.new.words.word ≡ Some word }
+    ensures station { IsStation pump.new }
+{
+    pump.batches(together);
+    pump.renew(GivenWord { word: Some(word) });
+}
+
+/// What a pump's call did.
+fn done_of(turned: Result<Turned, PumpFault>) -> Result<Option<Done>, LiveFault>
+    ensures { result ≡ done_of turned }
+{
+    match turned {
+        Ok(Turned::Did(_, _, _, done)) => Ok(Some(done)),
+        Ok(Turned::Idle | Turned::Unread(_) | Turned::Stranger) => Ok(None),
+        Err(PumpFault::NoMemory) => Err(LiveFault::NoMemory),
+        Err(PumpFault::Busy | PumpFault::NoWord) => Ok(None),
     }
 }

@@ -1,36 +1,42 @@
 //! A live host: how it opens, hears and sends.
-ghost use Rattle.std.specs.Prelude.{◌≡◌, ◌+◌, ◌<◌, ◌≤◌, [], Some, IfOk, IfSome, OnOk, OnErr, length, slice_get};
+ghost use Rattle.std.specs.Prelude.{◌≡◌, ◌+◌, ◌<◌, ◌≤◌, [], IfOk, IfSome, IsTrue, ◌↔◌, OnOk, OnErr, length, min};
 ghost use Rattle.amo_packet.specs.Packet.{body_of, packet_of};
 ghost use Rattle.amo_packet.specs.Grammar.{CanBeWritten, Spells};
+ghost use Rattle.amo_packet.specs.Stream.{IsStream};
 ghost use Rattle.amo_journal.specs.Version.{newest};
-ghost use Rattle.amo_book.specs.Charge.{ChargeState};
 ghost use Rattle.amo_book.specs.Book.{Each};
+ghost use Rattle.amo_host.specs.AtStream.{AreCalm, HasMode, IsDue, IsNextDue};
 ghost use Rattle.amo_live.specs.Emitted.{WasEmitted};
 ghost use Rattle.amo_live.specs.Host.{IsNoted, IsOpened, sides_from};
 ghost use Rattle.amo_live.specs.Noted.{Holds};
 
 use crate::outbox::Outbox;
-use crate::{Durable, Journal, LiveFault};
-use amo_book::{Book, Charge, OpenFault, Pass};
+use crate::{Durable, GivenWord, Journal, LiveFault};
+use amo_book::{Book, OpenFault, Pass};
+use amo_core::Mode;
+use amo_host::{NewPumpFault, Pump};
 use amo_journal::Version;
 use amo_net::{Link, MAX_DATAGRAM};
 use amo_object::End;
 use amo_packet::{MAX_PACKET, Packet, ReadFault, read, read_1};
 use amo_text::Sink;
+use amo_window::{MAX_PERMITS, Pace};
 use std::alloc::{AllocError, Global};
 use std::marker::Model;
 
 /// How many passes the book has. One calls; a book has two at least.
 const PASSES: usize = 2;
 
-/// One side of some streams, in a process of its own. Contracts see its book, its pass, its charges, its link, the packets that are to
+/// One side of some streams, in a process of its own. Contracts see its side, its book, its pass, its pump, its link, the packets that are to
 /// leave, and its journal.
 #[derive(Drop)]
 pub struct Host<L, S> {
     pub(crate) alloc: Global,
+    pub(crate) side: End,
+    pub(crate) streams: u32,
     pub(crate) book: Book,
     pub(crate) pass: Pass,
-    pub(crate) charges: Vec<Charge>,
+    pub(crate) pump: Pump<GivenWord>,
     pub(crate) link: L,
     // An act writes the packet here that it emits.
     pub(crate) room: [u8; MAX_PACKET],
@@ -43,19 +49,20 @@ impl<L, S> Model for Host<L, S> {
 
     ghost Value = { HostState L S };
 
-    ghost view = { λ h. record { book = h.book; pass = h.pass; charges = h.charges.items; link = h.link; outbox = h.outbox; journal = h.journal } };
+    ghost view = { λ h. record { side = h.side; streams = h.streams; book = h.book; pass = h.pass; pump = h.pump; link = h.link; outbox = h.outbox; journal = h.journal } };
 
-    ghost invariant = { λ h. IsHost (record { book = h.book; pass = h.pass; charges = h.charges.items; link = h.link; outbox = h.outbox; journal = h.journal }) };
+    ghost invariant = { λ h. IsHost (record { side = h.side; streams = h.streams; book = h.book; pass = h.pass; pump = h.pump; link = h.link; outbox = h.outbox; journal = h.journal }) };
 }
 
 impl<L: Link + Drop, S: Sink + Drop> Host<L, S> {
-    /// A host of this side of the streams from 1 on, 1 to 256 of them, that has made no event. Its journal is one of which no line was
-    /// written yet, but the heading was, if it is new.
+    /// A host of this side of the streams from 1 on, 1 to 256 of them, that has made no event, and has a handshake open on 64 of them at most.
+    /// Streams are sent again at this pace, in microseconds. Its journal is one of which no line was written yet, but the heading was, if it is new.
     #[tactic(auto, using(crate::proofs::Opens::may_open))]
     pub fn open(
         alloc: Global,
         side: End,
         streams: u32,
+        pace: Pace,
         link: L,
         journal: Journal<S>,
     ) -> Result<Host<L, S>, LiveFault>
@@ -72,11 +79,19 @@ impl<L: Link + Drop, S: Sink + Drop> Host<L, S> {
                     unreachable!()
                 };
                 let outbox = Outbox::new(alloc, charges.len())?;
+                let words = GivenWord { word: None };
+                let pump = match Pump::paced(alloc, charges, window_of(streams), words, pace) {
+                    Ok(pump) => pump,
+                    Err(NewPumpFault::NoMemory(_, _)) => return Err(LiveFault::NoMemory),
+                    Err(NewPumpFault::Limits(_, _)) => unreachable!(),
+                };
                 Ok(Host {
                     alloc,
+                    side,
+                    streams,
                     book,
                     pass,
-                    charges,
+                    pump,
                     link,
                     room: [0; MAX_PACKET],
                     outbox,
@@ -134,14 +149,40 @@ impl<L: Link, S: Sink> Host<L, S> {
         }
     }
 
-    /// The place of the charge of this stream, if there is one.
-    pub(crate) fn place_of(&self, stream: u32) -> Option<usize>
-        ensures { IfSome result (λ place. (place < length self.now.charges) × ((c : ChargeState) → slice_get self.now.charges place ≡ Some c → c.stream ≡ stream)) }
+    /// The mode of this stream's side, as its last event left it, if the host has the stream.
+    pub fn mode_of(&self, stream: u32) -> Option<Mode>
+        ensures { IfSome result (HasMode self.now.pump.host stream) }
     {
-        let place = (stream as usize).checked_sub(1)?;
-        let charge = self.charges.get(place)?;
-        if charge.stream() == stream {
-            Some(place)
+        self.pump.mode_of(stream)
+    }
+
+    /// Whether no side waits for its peer.
+    pub fn are_calm(&self) -> bool
+        ensures { IsTrue result ↔ AreCalm self.now.pump.host }
+    {
+        self.pump.are_calm()
+    }
+
+    /// When a stream is to be sent again next, in microseconds.
+    pub fn next_due(&self) -> Option<u64>
+        ensures { IsNextDue self.now.pump.host result }
+    {
+        self.pump.next_due()
+    }
+
+    /// Whether this stream is to be sent again now.
+    pub fn is_due(&self, stream: u32, now: u64) -> bool
+        ensures { IsTrue result ↔ IsDue self.now.pump.host stream now }
+    {
+        self.pump.is_due(stream, now)
+    }
+
+    /// The place in the outbox of what this stream's side emitted of late.
+    pub(crate) fn place_of(&self, stream: u32) -> Option<usize>
+        ensures { IfSome result (λ place. (place < length self.now.outbox.recent) × IsStream stream) }
+    {
+        if 1 <= stream && stream <= self.streams {
+            Some(stream as usize - 1)
         } else {
             None
         }
@@ -160,6 +201,15 @@ impl<L: Link, S: Durable> Host<L, S> {
     {
         self.journal.sync()
     }
+}
+
+/// How many handshakes may be open at once where there are so many streams.
+fn window_of(streams: u32) -> usize
+    requires { 1 ≤ streams }
+    ensures result { result ≡ min streams 64 }
+    ensures within { (1 ≤ result) × (result ≤ 64) }
+{
+    (streams as usize).min(MAX_PERMITS)
 }
 
 /// This side of the streams from 1 on.

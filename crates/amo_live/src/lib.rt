@@ -27,8 +27,8 @@
 //! link, asks for the same. Where a line fails the call answers a fault, and says only that a beginning of the lines was written: no
 //! other call can go on from there, and the process ends.
 //!
-//! A host drives its charges itself and not by a pump: a pump starts each quiet stream in turn, also where no message waits, and each
-//! such start would be a line; and it does not tell when it sends again.
+//! **A pump drives the streams**: it knows which are at rest, which wait for the peer and since when, and what is to be sent again next. A host asks
+//! it, and begins a handshake only where a message waits: an empty start would be a line.
 //!
 //! The definitions stand in `specs/`: a journal that goes on in `Noted.antt`, a host and what its calls do in `Host.antt`, packets that leave again in
 //! `Emitted.antt`, words that events bear in `Words.antt`, and those of a host's lives in `HostLives.antt`.
@@ -37,6 +37,7 @@
 mod acts;
 mod calls;
 mod fault;
+mod given_word;
 mod host;
 mod host_lives;
 mod input;
@@ -54,13 +55,13 @@ mod ready;
 mod recent;
 mod service;
 mod socket;
-mod timer;
 mod turns;
 mod words;
 
 pub use amo_disk::{Cause, Durable, OpenFault};
 pub use amo_journal::Version;
 pub use fault::{LiveFault, LivesOpenFault, ProcessFault, ServeFault, SocketFault};
+pub use given_word::GivenWord;
 pub use host::Host;
 pub use host_lives::HostLives;
 pub use input::{Input, Line};

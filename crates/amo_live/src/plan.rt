@@ -1,12 +1,13 @@
 //! What a process is to do, by what it was told.
 ghost use Rattle.std.specs.Prelude.{◌≡◌, ◌≤◌, IfSome};
 ghost use Rattle.amo_settings.specs.Limits.{IsHostWithin};
-ghost use Rattle.amo_live.specs.Plans.{microseconds, receives, sends, wanted};
+ghost use Rattle.amo_live.specs.Plans.{microseconds, pace_of, receives, sends, wanted};
 
 use crate::{Limits, Setup, Spelling};
 use amo_disk::Wanted;
 use amo_object::End;
 use amo_settings::{ReceiveSettings, SendSettings};
+use amo_window::Pace;
 
 const SECOND: u64 = 1_000_000;
 
@@ -35,7 +36,7 @@ impl Plan {
             setup: Setup {
                 side: End::Sender,
                 streams: host.streams,
-                tick: u64::from(host.tick),
+                pace: pace_of(host.tick),
                 each: settings.each,
                 batch: settings.batch,
                 most: u64::MAX,
@@ -64,7 +65,7 @@ impl Plan {
             setup: Setup {
                 side: End::Receiver,
                 streams: host.streams,
-                tick: u64::from(host.tick),
+                pace: pace_of(host.tick),
                 each: false,
                 batch: false,
                 most: settings.count.unwrap_or(u64::MAX),
@@ -96,6 +97,17 @@ impl Plan {
             sync: self.limits.sync,
             piece: self.piece,
         }
+    }
+}
+
+/// The intervals of a host whose tick has so many microseconds: the first is one, the longest 64.
+fn pace_of(tick: u32) -> Pace
+    ensures { result ≡ pace_of tick }
+{
+    let first = u64::from(tick);
+    Pace {
+        first,
+        most: first * 64,
     }
 }
 

@@ -83,7 +83,10 @@ fn work<
     let mut service = start(alloc, plan.setup, link, sink, place, words)?;
     match serve(rt, &mut service, &mut desk, plan.limits) {
         Ok(ended) => Ok(ended),
-        Err(fault) => Err(ProcessFault::Serve(fault)),
+        Err(fault) => {
+            service.tell_unshown(rt);
+            Err(ProcessFault::Serve(fault))
+        }
     }
 }
 
@@ -110,7 +113,7 @@ pub fn start<L: Link + Drop, S: Durable + Drop, W: Lineage + Drop>(
 {
     let lines = place.lines;
     let journal = open_journal(alloc, sink, place.version, lines, setup.new_version())?;
-    let mut host = Host::open(alloc, setup.side, setup.streams, link, journal)?;
+    let mut host = Host::open(alloc, setup.side, setup.streams, setup.pace, link, journal)?;
     if lines > 0 {
         host.come_back()?;
     }

@@ -18,8 +18,10 @@ pub struct Waited {
     pub lines: i32,
     /// Where datagrams come from.
     pub socket: i32,
-    /// Where messages go: it is waited for only to be gone, as a pipe that nobody will read any more.
+    /// Where messages go: it is waited for to be gone, as a pipe that nobody will read any more.
     pub output: i32,
+    /// And also to take more.
+    pub takes: bool,
 }
 
 /// What there was when a host had waited.
@@ -36,7 +38,7 @@ pub fn wait<C: Clock>(rt: &C, what: Waited, limit: i32) -> Ready {
     let mut waited = [
         watched(what.lines, net::POLLIN),
         watched(what.socket, net::POLLIN),
-        watched(what.output, 0),
+        watched(what.output, if what.takes { net::POLLOUT } else { 0 }),
     ];
     if limit == 0 || !comes_soon(rt, &mut waited) {
         net::poll(&mut waited, limit);
@@ -74,6 +76,13 @@ fn watched(number: i32, events: i16) -> pollfd {
 fn found_in(waited: &[pollfd; 3]) -> Ready {
     Ready {
         lines: waited[0].revents != 0,
-        is_gone: waited[2].revents != 0,
+        is_gone: waited[2].revents & !net::POLLOUT != 0,
     }
+}
+
+/// Whether an output takes more now. A pipe says so where it takes 4,096 bytes without a wait.
+pub fn takes_more(output: i32) -> bool {
+    let mut waited = [watched(output, net::POLLOUT)];
+    net::poll(&mut waited, 0);
+    waited[0].revents != 0
 }

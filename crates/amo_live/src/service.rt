@@ -1,16 +1,16 @@
 //! What a live host does with datagrams, times and its clients' messages.
-ghost use Rattle.std.specs.Prelude.{◌≡◌, ℕ, [], IfOk, OnOk, is_some, length};
+ghost use Rattle.std.specs.Prelude.{◌≡◌, ◌↔◌, ℕ, [], IfOk, IsTrue, OnOk, is_some, length};
 ghost use Rattle.amo_packet.specs.Packet.{body_of, packet_of};
 ghost use Rattle.amo_packet.specs.Grammar.{Spells, messages_of};
 ghost use Rattle.amo_journal.specs.Version.{newest};
+ghost use Rattle.amo_host.specs.AtStream.{IsNextDue};
 ghost use Rattle.amo_live.specs.Client.{has};
 ghost use Rattle.amo_live.specs.Host.{Delivered, Did, IsNoted, Puts};
-ghost use Rattle.amo_live.specs.Service.{PutsNone, got_by, new_version, shown_by, spelling_of, start_of, starts_batches, streams_of, words_of};
+ghost use Rattle.amo_live.specs.Service.{IsAtRest, PutsNone, got_by, new_version, shown_by, spelling_of, start_of, starts_batches, streams_of, words_of};
 ghost use Rattle.amo_live.specs.Shown.{ShowsMore};
 ghost use Rattle.amo_live.specs.Words.{BearsNew, IsNew, StaysDrawn};
 
 use crate::lines::{Spelling, Word, push_message, push_word};
-use crate::timer::Timer;
 use crate::{Host, Lineage, LiveFault};
 use amo_core::{MAX_WAITING, Mode};
 use amo_journal::Version;
@@ -18,51 +18,38 @@ use amo_net::{Link, MAX_DATAGRAM};
 use amo_object::End;
 use amo_packet::{Body, MAX_BATCH, Message, Packet, read};
 use amo_text::Sink;
+use amo_window::Pace;
 use std::alloc::{AllocError, Global};
 
 /// How many datagrams a turn takes at most.
 const MOST_DATAGRAMS: u32 = 64;
 
-/// What a host knows of one of its streams.
+/// After how many first intervals a peer that was not heard counts as away.
+const INTERVALS_AWAY: u64 = 64;
+
+/// How many bytes the line of a message has at most: its bytes in HEX, or each escaped, in an object.
+const LONGEST_LINE: usize = 2112;
+
+/// What a host knows of the messages of one of its streams.
 #[derive(Clone, Copy)]
 struct Lane {
-    mode: Mode,
-    /// How many messages wait for their handshake.
+    /// How many wait for their handshake.
     waiting: u64,
-    /// How many messages have come and were not got.
+    /// How many have come and were not got.
     held: usize,
-    /// A message was put, and its client does not know yet what became of it.
+    /// One was put, and its client does not know yet what became of it.
     owed: bool,
-    timer: Timer,
 }
 
 impl Lane {
-    fn new(mode: Mode) -> Lane {
+    /// There are none.
+    fn new() -> Lane {
         Lane {
-            mode,
             waiting: 0,
             held: 0,
             owed: false,
-            timer: Timer::unset(),
         }
     }
-
-    /// The stream's side is in this mode now. Where its kind is another, its timer begins anew; a resend lets the next one come later.
-    fn enter(&mut self, mode: Mode, resent: bool, now: u64, tick: u64) {
-        let changed = self.mode != mode;
-        self.mode = mode;
-        if changed {
-            self.timer = Timer::unset();
-        }
-        if (changed || resent) && waits(mode) {
-            self.timer.sent(now, tick);
-        }
-    }
-}
-
-/// Whether a side in this mode waits for an answer from its peer.
-fn waits(mode: Mode) -> bool {
-    matches!(mode, Mode::NeedId | Mode::Send | Mode::Accept | Mode::Ack)
 }
 
 /// A host at work.
@@ -74,6 +61,12 @@ pub struct Service<L, S, W> {
     lanes: Vec<Lane>,
     words: W,
     shown: Vec<u8>,
+    /// How many bytes may be shown in this turn.
+    room: usize,
+    /// The number in the journal of the first message that was got and not shown.
+    unshown: Option<u64>,
+    /// A stream holds messages for which there was no room.
+    unread: bool,
     got: u64,
     /// How many streams' clients have no answer yet.
     owed: u64,
@@ -81,6 +74,12 @@ pub struct Service<L, S, W> {
     missed: bool,
     /// A datagram came when it heard last.
     heard: bool,
+    /// When one came last.
+    heard_at: Option<u64>,
+    /// A handshake could not begin, as too many were open. Others wait for their turn then.
+    behind: bool,
+    /// The stream whose turn it is.
+    next: u32,
     /// A stream that it has not, for which a packet came.
     foreign: Option<u32>,
 }
@@ -92,8 +91,8 @@ pub struct Setup {
     pub side: End,
     /// Of how many streams it is, from 1 on.
     pub streams: u32,
-    /// How long a stream waits before it sends again for the first time, in microseconds.
-    pub tick: u64,
+    /// How long a stream waits before it sends again, in microseconds.
+    pub pace: Pace,
     /// A stream's next message is put once its last one's answer came.
     pub each: bool,
     /// The messages that wait on a stream travel together, at most four, if the journal has lines for that.
@@ -131,33 +130,35 @@ impl<L: Link + Drop, S: Sink + Drop, W: Lineage + Drop> Service<L, S, W> {
         ensures shown { IfOk result (λ service. shown_by service ≡ []) }
         ensures spelling { IfOk result (λ service. spelling_of service ≡ setup.spelling) }
     {
-        let mode = match setup.side {
-            End::Sender => Mode::Quiet,
-            End::Receiver => Mode::Idle,
-        };
-        let lanes = lanes_of(alloc, setup.streams, mode)?;
+        let lanes = lanes_of(alloc, setup.streams)?;
         Ok(Service {
             host,
             setup,
             lanes,
             words,
             shown: Vec::new(alloc),
+            room: 0,
+            unshown: None,
+            unread: false,
             got: 0,
             owed: 0,
             missed: false,
             heard: false,
+            heard_at: None,
+            behind: false,
+            next: 1,
             foreign: None,
         })
     }
 }
 
 /// What is known of so many streams at first.
-fn lanes_of(alloc: Global, streams: u32, mode: Mode) -> Result<Vec<Lane>, AllocError>
+fn lanes_of(alloc: Global, streams: u32) -> Result<Vec<Lane>, AllocError>
     ensures { IfOk result (λ lanes. length lanes.items ≡ streams) }
 {
     let mut lanes = Vec::new(alloc);
     'streams: for _stream in 0..streams {
-        lanes.push(Lane::new(mode))?;
+        lanes.push(Lane::new())?;
     }
     Ok(lanes)
 }
@@ -179,6 +180,26 @@ impl<L: Link, S: Sink, W: Lineage> Service<L, S, W> {
         ensures spelling { spelling_of self.new ≡ spelling_of self.old }
     {
         self.shown.clear();
+        self.unshown = None;
+    }
+
+    /// Tells what was got and not shown.
+    pub fn tell_unshown<C: Eprint>(&self, rt: &C) {
+        if let Some(line) = self.unshown {
+            let _ = eprintln!(rt;
+                "amo: got and perhaps not shown: what the journal says was got from line {line} on"
+            );
+        }
+    }
+
+    /// Whether messages wait for room.
+    pub fn has_unread(&self) -> bool {
+        self.unread
+    }
+
+    /// Whether one message more may be shown in this turn, behind no other that waits.
+    fn has_room(&self) -> bool {
+        !self.unread && self.shown.len().saturating_add(LONGEST_LINE) <= self.room
     }
 
     /// Whether it has this stream.
@@ -218,21 +239,17 @@ impl<L: Link, S: Sink, W: Lineage> Service<L, S, W> {
     }
 
     /// Whether no stream waits for its peer, and each client has its answers.
-    pub fn is_at_rest(&self) -> bool {
-        self.owed == 0 && self.lanes.iter().all(|lane| !waits(lane.mode))
+    pub fn is_at_rest(&self) -> bool
+        ensures { IsTrue result ↔ IsAtRest self.now }
+    {
+        self.owed == 0 && self.host.are_calm()
     }
 
-    /// When a stream sends again next.
-    pub fn next_due(&self) -> Option<u64> {
-        let mut least: Option<u64> = None;
-        for lane in self.lanes.iter() {
-            least = match (least, lane.timer.next()) {
-                (Some(one), Some(other)) => Some(one.min(other)),
-                (None, other) => other,
-                (one, None) => one,
-            };
-        }
-        least
+    /// When a stream is to be sent again next, in microseconds.
+    pub fn next_due(&self) -> Option<u64>
+        ensures { IsNextDue self.now.host.pump.host result }
+    {
+        self.host.next_due()
     }
 
     /// What is known of a stream.
@@ -255,20 +272,6 @@ impl<L: Link, S: Sink, W: Lineage> Service<L, S, W> {
         };
         if place < self.lanes.len() {
             self.lanes[place] = lane;
-        }
-    }
-
-    /// The stream's side is in this mode now.
-    fn enter(&mut self, stream: u32, mode: Mode, resent: bool, now: u64)
-        ensures host { self.new.host ≡ self.old.host }
-        ensures streams { streams_of self.new ≡ streams_of self.old }
-        ensures shown { (shown_by self.new ≡ shown_by self.old) × (self.new.setup ≡ self.old.setup) }
-        ensures words { words_of self.new ≡ words_of self.old }
-    {
-        if let Some(lane) = self.lane(stream) {
-            let mut lane = lane;
-            lane.enter(mode, resent, now, self.setup.tick);
-            self.set_lane(stream, lane);
         }
     }
 
@@ -327,9 +330,81 @@ impl<L: Link, S: Sink, W: Lineage> Service<L, S, W> {
         );
     }
 
+    /// Begins the handshake of a stream's next messages, if its sender is at rest and one waits; unless another stream waits for its turn.
+    #[tactic(auto, using(crate::proofs::Fresh::bears_none))]
+    fn begin(&mut self, stream: u32, now: u64) -> Result<(), LiveFault>
+        requires { IsNoted S.written self.old.host }
+        ensures noted { OnOk result (IsNoted S.written self.new.host) }
+        ensures none_put { OnOk result (PutsNone self.old.host.pass self.new.host.pass) }
+        ensures streams { streams_of self.new ≡ streams_of self.old }
+        ensures shown { OnOk result (ShowsMore (spelling_of self.old) self.old.host.pass self.new.host.pass (shown_by self.old) (shown_by self.new)) }
+        ensures spelling { spelling_of self.new ≡ spelling_of self.old }
+        ensures words { OnOk result (BearsNew W.is_drawn (words_of self.old) (words_of self.new) self.old.host.pass self.new.host.pass) }
+    {
+        if self.behind {
+            return Ok(());
+        }
+        self.begin_next(stream, now)
+    }
+
+    /// Begins handshakes that could not begin before, stream after stream in turn, until too many are open again.
+    #[tactic(auto, using(crate::proofs::Fresh::bears_none))]
+    fn catch_up(&mut self, now: u64) -> Result<(), LiveFault>
+        requires { IsNoted S.written self.old.host }
+        ensures noted { OnOk result (IsNoted S.written self.new.host) }
+        ensures none_put { OnOk result (PutsNone self.old.host.pass self.new.host.pass) }
+        ensures streams { streams_of self.new ≡ streams_of self.old }
+        ensures shown { OnOk result (ShowsMore (spelling_of self.old) self.old.host.pass self.new.host.pass (shown_by self.old) (shown_by self.new)) }
+        ensures spelling { spelling_of self.new ≡ spelling_of self.old }
+        ensures words { OnOk result (BearsNew W.is_drawn (words_of self.old) (words_of self.new) self.old.host.pass self.new.host.pass) }
+    {
+        if !self.behind {
+            return Ok(());
+        }
+        self.behind = false;
+        let streams = self.setup.streams;
+        'streams: for _stream in 0..streams {
+            self.begin_in_turn(now)?;
+        }
+        Ok(())
+    }
+
+    /// Begins the handshake of the stream whose turn it is, and goes on to the next one, unless too many are open.
+    #[tactic(auto, using(crate::proofs::Fresh::bears_none))]
+    fn begin_in_turn(&mut self, now: u64) -> Result<(), LiveFault>
+        requires { IsNoted S.written self.old.host }
+        ensures noted { OnOk result (IsNoted S.written self.new.host) }
+        ensures none_put { OnOk result (PutsNone self.old.host.pass self.new.host.pass) }
+        ensures streams { streams_of self.new ≡ streams_of self.old }
+        ensures shown { OnOk result (ShowsMore (spelling_of self.old) self.old.host.pass self.new.host.pass (shown_by self.old) (shown_by self.new)) }
+        ensures spelling { spelling_of self.new ≡ spelling_of self.old }
+        ensures words { OnOk result (BearsNew W.is_drawn (words_of self.old) (words_of self.new) self.old.host.pass self.new.host.pass) }
+    {
+        if self.behind {
+            return Ok(());
+        }
+        let stream = self.next;
+        self.begin_next(stream, now)?;
+        self.move_on(self.behind);
+        Ok(())
+    }
+
+    /// It is the next stream's turn, unless that of this one is not over.
+    fn move_on(&mut self, stays: bool)
+        ensures { self.new ≡ record self.old { next = self.new.next } }
+    {
+        if !stays {
+            self.next = if self.next < self.setup.streams {
+                self.next.saturating_add(1)
+            } else {
+                1
+            };
+        }
+    }
+
     /// Begins the handshake of a stream's next messages, if its sender is at rest and one waits.
     #[tactic(auto, using(crate::proofs::Putting::start_puts, crate::proofs::Fresh::bears_none))]
-    fn begin(&mut self, stream: u32, now: u64) -> Result<(), LiveFault>
+    fn begin_next(&mut self, stream: u32, now: u64) -> Result<(), LiveFault>
         requires { IsNoted S.written self.old.host }
         ensures noted { OnOk result (IsNoted S.written self.new.host) }
         ensures none_put { OnOk result (PutsNone self.old.host.pass self.new.host.pass) }
@@ -341,21 +416,33 @@ impl<L: Link, S: Sink, W: Lineage> Service<L, S, W> {
         let Some(lane) = self.lane(stream) else {
             return Ok(());
         };
-        if lane.mode != Mode::Quiet || lane.waiting == 0 {
+        if lane.waiting == 0 || !is_quiet(self.host.mode_of(stream)) {
             return Ok(());
         }
-        if let Some(mode) = self.start_anew(stream)? {
-            if mode == Mode::NeedId {
-                let waiting = lane.waiting.saturating_sub(self.most_at_once());
-                self.set_lane(stream, Lane { waiting, ..lane });
-            }
-            self.enter(stream, mode, false, now);
-        }
+        let started = self.start_anew(stream, now)?;
+        self.note_start(stream, lane, started);
         Ok(())
     }
 
+    /// A handshake was begun on a stream, whose sender is in this mode then; or it could not be.
+    fn note_start(&mut self, stream: u32, lane: Lane, started: Option<Mode>)
+        ensures host { self.new.host ≡ self.old.host }
+        ensures streams { streams_of self.new ≡ streams_of self.old }
+        ensures shown { (shown_by self.new ≡ shown_by self.old) × (self.new.setup ≡ self.old.setup) }
+        ensures words { words_of self.new ≡ words_of self.old }
+    {
+        match started {
+            Some(Mode::NeedId) => {
+                let waiting = lane.waiting.saturating_sub(self.most_at_once());
+                self.set_lane(stream, Lane { waiting, ..lane });
+            }
+            Some(_) => (),
+            None => self.behind = true,
+        }
+    }
+
     /// Begins a handshake on a stream under the next word, if its sender is at rest and a message waits.
-    fn start_anew(&mut self, stream: u32) -> Result<Option<Mode>, LiveFault>
+    fn start_anew(&mut self, stream: u32, now: u64) -> Result<Option<Mode>, LiveFault>
         requires { IsNoted S.written self.old.host }
         ensures noted { OnOk result (IsNoted S.written self.new.host) }
         ensures did { IfOk result (λ mode. (word : ℕ) × Did self.old.host self.new.host stream (start_of self.old.setup.batch self.old.host.journal.version word) mode) }
@@ -363,21 +450,21 @@ impl<L: Link, S: Sink, W: Lineage> Service<L, S, W> {
         ensures same { self.new ≡ record self.old { host = self.new.host; words = self.new.words } }
     {
         let word = draw(&mut self.words, self.host.next_line())?;
-        self.start(stream, word)
+        self.start(stream, word, now)
     }
 
     /// Begins a handshake on a stream under this word, if its sender is at rest and a message waits: for one message, or for those that travel
     /// together.
-    fn start(&mut self, stream: u32, word: u64) -> Result<Option<Mode>, LiveFault>
+    fn start(&mut self, stream: u32, word: u64, now: u64) -> Result<Option<Mode>, LiveFault>
         requires { IsNoted S.written self.old.host }
         ensures noted { OnOk result (IsNoted S.written self.new.host) }
         ensures did { IfOk result (Did self.old.host self.new.host stream (start_of self.old.setup.batch self.old.host.journal.version word)) }
         ensures same { self.new ≡ record self.old { host = self.new.host } }
     {
         if self.batches() {
-            self.host.start_batch(stream, word)
+            self.host.start_batch(stream, word, now)
         } else {
-            self.host.start(stream, word)
+            self.host.start(stream, word, now)
         }
     }
 
@@ -396,9 +483,88 @@ impl<L: Link, S: Sink, W: Lineage> Service<L, S, W> {
         }
     }
 
+    /// Gets the messages for which there was no room before, stream after stream in turn, as far as there is now.
+    #[tactic(auto, using(crate::proofs::Fresh::bears_none))]
+    fn get_unread(&mut self, now: u64) -> Result<(), LiveFault>
+        requires { IsNoted S.written self.old.host }
+        ensures noted { OnOk result (IsNoted S.written self.new.host) }
+        ensures none_put { OnOk result (PutsNone self.old.host.pass self.new.host.pass) }
+        ensures streams { streams_of self.new ≡ streams_of self.old }
+        ensures shown { OnOk result (ShowsMore (spelling_of self.old) self.old.host.pass self.new.host.pass (shown_by self.old) (shown_by self.new)) }
+        ensures spelling { spelling_of self.new ≡ spelling_of self.old }
+        ensures words { OnOk result (BearsNew W.is_drawn (words_of self.old) (words_of self.new) self.old.host.pass self.new.host.pass) }
+    {
+        if !self.unread {
+            return Ok(());
+        }
+        self.unread = false;
+        let streams = self.setup.streams;
+        'streams: for _stream in 0..streams {
+            self.get_in_turn(now)?;
+        }
+        Ok(())
+    }
+
+    /// Gets the messages of the stream whose turn it is, and goes on to the next one, unless there is no room.
+    #[tactic(auto, using(crate::proofs::Fresh::bears_none))]
+    fn get_in_turn(&mut self, now: u64) -> Result<(), LiveFault>
+        requires { IsNoted S.written self.old.host }
+        ensures noted { OnOk result (IsNoted S.written self.new.host) }
+        ensures none_put { OnOk result (PutsNone self.old.host.pass self.new.host.pass) }
+        ensures streams { streams_of self.new ≡ streams_of self.old }
+        ensures shown { OnOk result (ShowsMore (spelling_of self.old) self.old.host.pass self.new.host.pass (shown_by self.old) (shown_by self.new)) }
+        ensures spelling { spelling_of self.new ≡ spelling_of self.old }
+        ensures words { OnOk result (BearsNew W.is_drawn (words_of self.old) (words_of self.new) self.old.host.pass self.new.host.pass) }
+    {
+        if self.unread {
+            return Ok(());
+        }
+        let stream = self.next;
+        self.get_held(stream, now)?;
+        self.move_on(self.unread);
+        Ok(())
+    }
+
+    /// Gets the messages that a stream holds, if it holds some.
+    #[tactic(auto, using(crate::proofs::Fresh::bears_none))]
+    fn get_held(&mut self, stream: u32, now: u64) -> Result<(), LiveFault>
+        requires { IsNoted S.written self.old.host }
+        ensures noted { OnOk result (IsNoted S.written self.new.host) }
+        ensures none_put { OnOk result (PutsNone self.old.host.pass self.new.host.pass) }
+        ensures streams { streams_of self.new ≡ streams_of self.old }
+        ensures shown { OnOk result (ShowsMore (spelling_of self.old) self.old.host.pass self.new.host.pass (shown_by self.old) (shown_by self.new)) }
+        ensures spelling { spelling_of self.new ≡ spelling_of self.old }
+        ensures words { OnOk result (BearsNew W.is_drawn (words_of self.old) (words_of self.new) self.old.host.pass self.new.host.pass) }
+    {
+        if is_rcvd(self.host.mode_of(stream)) {
+            self.get_all(stream, now)
+        } else {
+            Ok(())
+        }
+    }
+
+    /// Takes the datagrams that have come, up to a bound. So many bytes of messages may be shown in this turn, those that waited for room first.
+    #[tactic(auto, using(crate::proofs::Fresh::bears_none))]
+    pub fn hear(&mut self, now: u64, room: usize) -> Result<(), LiveFault>
+        requires { IsNoted S.written self.old.host }
+        ensures noted { OnOk result (IsNoted S.written self.new.host) }
+        ensures none_put { OnOk result (PutsNone self.old.host.pass self.new.host.pass) }
+        ensures streams { streams_of self.new ≡ streams_of self.old }
+        ensures shown { OnOk result (ShowsMore (spelling_of self.old) self.old.host.pass self.new.host.pass (shown_by self.old) (shown_by self.new)) }
+        ensures spelling { spelling_of self.new ≡ spelling_of self.old }
+        ensures words { OnOk result (BearsNew W.is_drawn (words_of self.old) (words_of self.new) self.old.host.pass self.new.host.pass) }
+    {
+        self.room = room;
+        self.heard = false;
+        self.get_unread(now)?;
+        self.take_datagrams(now)?;
+        self.hear_peer(now);
+        self.catch_up(now)
+    }
+
     /// Takes the datagrams that have come, up to a bound.
     #[tactic(auto, using(crate::proofs::Fresh::bears_none))]
-    pub fn hear(&mut self, now: u64) -> Result<(), LiveFault>
+    fn take_datagrams(&mut self, now: u64) -> Result<(), LiveFault>
         requires { IsNoted S.written self.old.host }
         ensures noted { OnOk result (IsNoted S.written self.new.host) }
         ensures none_put { OnOk result (PutsNone self.old.host.pass self.new.host.pass) }
@@ -408,7 +574,6 @@ impl<L: Link, S: Sink, W: Lineage> Service<L, S, W> {
         ensures words { OnOk result (BearsNew W.is_drawn (words_of self.old) (words_of self.new) self.old.host.pass self.new.host.pass) }
     {
         let mut buffer = [0; MAX_DATAGRAM];
-        self.heard = false;
         'datagrams: for _datagram in 0..MOST_DATAGRAMS {
             let Some(length) = self.host.hear(&mut buffer) else {
                 break;
@@ -417,6 +582,29 @@ impl<L: Link, S: Sink, W: Lineage> Service<L, S, W> {
             self.deliver(&buffer[..length], now)?;
         }
         Ok(())
+    }
+
+    /// Where the peer was heard, and was away before, what waits for it is sent again soon.
+    fn hear_peer(&mut self, now: u64)
+        requires { IsNoted S.written self.old.host }
+        ensures noted { IsNoted S.written self.new.host }
+        ensures pass { self.new.host.pass ≡ self.old.host.pass }
+        ensures streams { streams_of self.new ≡ streams_of self.old }
+        ensures shown { (shown_by self.new ≡ shown_by self.old) × (self.new.setup ≡ self.old.setup) }
+        ensures words { words_of self.new ≡ words_of self.old }
+    {
+        if !self.heard {
+            return;
+        }
+        let away = self.setup.pace.first.saturating_mul(INTERVALS_AWAY);
+        let was_away = match self.heard_at {
+            Some(at) => away <= now.saturating_sub(at),
+            None => true,
+        };
+        self.heard_at = Some(now);
+        if was_away {
+            self.host.hasten(now);
+        }
     }
 
     /// Delivers a datagram.
@@ -438,14 +626,13 @@ impl<L: Link, S: Sink, W: Lineage> Service<L, S, W> {
             self.foreign = Some(packet.stream);
             return Ok(());
         }
-        let Some((stream, mode)) = self.deliver_anew(&packet, bytes)? else {
+        let before = self.host.mode_of(packet.stream);
+        let Some((stream, mode)) = self.deliver_anew(&packet, bytes, now)? else {
             return Ok(());
         };
-        let Some(lane) = self.lane(stream) else {
-            return Ok(());
-        };
-        self.arrive(stream, mode, brought_by(&packet), now);
-        self.go_on(stream, lane.mode, mode, now)
+        let is_other = is_other(before, mode);
+        self.arrive(stream, mode, is_other, brought_by(&packet));
+        self.go_on(stream, mode, is_other, now)
     }
 
     /// A datagram came that is no packet for which the journal has a line.
@@ -468,23 +655,22 @@ impl<L: Link, S: Sink, W: Lineage> Service<L, S, W> {
     }
 
     /// A packet that brings so many messages was delivered on a stream, whose side is in this mode now. It holds them, if it held none before.
-    fn arrive(&mut self, stream: u32, mode: Mode, brought: usize, now: u64)
+    fn arrive(&mut self, stream: u32, mode: Mode, is_other: bool, brought: usize)
         ensures host { self.new.host ≡ self.old.host }
         ensures streams { streams_of self.new ≡ streams_of self.old }
         ensures shown { (shown_by self.new ≡ shown_by self.old) × (self.new.setup ≡ self.old.setup) }
         ensures words { words_of self.new ≡ words_of self.old }
     {
         if let Some(lane) = self.lane(stream) {
-            let holds_more = mode == Mode::Rcvd && lane.mode != Mode::Rcvd;
+            let holds_more = is_other && mode == Mode::Rcvd;
             let held = if holds_more { brought } else { lane.held };
             self.set_lane(stream, Lane { held, ..lane });
         }
-        self.enter(stream, mode, false, now);
     }
 
-    /// Goes on where a packet was delivered on a stream, whose side went from one mode into another.
+    /// Goes on where a packet was delivered on a stream, whose side is in this mode now, which may be another than before.
     #[tactic(auto, using(crate::proofs::Fresh::bears_none))]
-    fn go_on(&mut self, stream: u32, before: Mode, after: Mode, now: u64) -> Result<(), LiveFault>
+    fn go_on(&mut self, stream: u32, mode: Mode, is_other: bool, now: u64) -> Result<(), LiveFault>
         requires { IsNoted S.written self.old.host }
         ensures noted { OnOk result (IsNoted S.written self.new.host) }
         ensures none_put { OnOk result (PutsNone self.old.host.pass self.new.host.pass) }
@@ -493,9 +679,9 @@ impl<L: Link, S: Sink, W: Lineage> Service<L, S, W> {
         ensures spelling { spelling_of self.new ≡ spelling_of self.old }
         ensures words { OnOk result (BearsNew W.is_drawn (words_of self.old) (words_of self.new) self.old.host.pass self.new.host.pass) }
     {
-        match after {
+        match mode {
             Mode::Rcvd => self.get_all(stream, now),
-            Mode::Quiet if before != Mode::Quiet => self.settle(stream, now),
+            Mode::Quiet if is_other => self.settle(stream, now),
             _ => Ok(()),
         }
     }
@@ -511,6 +697,7 @@ impl<L: Link, S: Sink, W: Lineage> Service<L, S, W> {
         &mut self,
         packet: &Packet<'_>,
         bytes: &[u8],
+        now: u64,
     ) -> Result<Option<(u32, Mode)>, LiveFault>
         requires noted { IsNoted S.written self.old.host }
         requires spelt { Spells (newest self.old.host.journal.version) bytes.now (packet_of packet.now) }
@@ -520,17 +707,17 @@ impl<L: Link, S: Sink, W: Lineage> Service<L, S, W> {
         ensures same { self.new ≡ record self.old { host = self.new.host; words = self.new.words } }
     {
         let Body::NeedUid(_) = packet.body else {
-            return self.host.deliver(bytes, 0);
+            return self.host.deliver(bytes, 0, now);
         };
         if self.has_enough() {
             return Ok(None);
         }
         let word = draw(&mut self.words, self.host.next_line())?;
-        self.host.deliver(bytes, word)
+        self.host.deliver(bytes, word, now)
     }
 
     /// Gets the messages that have come to a stream, in their order, and acknowledges them together. Where no more are wanted they stay where
-    /// they are, and no ack leaves.
+    /// they are, and no ack leaves; where there is no room for them, until there is.
     #[tactic(auto, using(crate::proofs::Fresh::bears_none))]
     fn get_all(&mut self, stream: u32, now: u64) -> Result<(), LiveFault>
         requires { IsNoted S.written self.old.host }
@@ -548,12 +735,15 @@ impl<L: Link, S: Sink, W: Lineage> Service<L, S, W> {
             return Ok(());
         }
         'messages: for _message in 0..lane.held {
+            if !self.has_room() {
+                self.unread = true;
+                return Ok(());
+            }
             if !self.get(stream)? {
                 return Ok(());
             }
         }
-        self.enter(stream, Mode::Ack, false, now);
-        self.host.resend(stream)?;
+        self.host.resend(stream, now)?;
         Ok(())
     }
 
@@ -568,10 +758,12 @@ impl<L: Link, S: Sink, W: Lineage> Service<L, S, W> {
         ensures spelling { spelling_of self.new ≡ spelling_of self.old }
         ensures words { OnOk result (BearsNew W.is_drawn (words_of self.old) (words_of self.new) self.old.host.pass self.new.host.pass) }
     {
+        let line = self.host.next_line();
         let Some(message) = self.host.get(stream)? else {
             return Ok(false);
         };
         self.got = self.got.saturating_add(1);
+        self.unshown = Some(self.unshown.unwrap_or(line));
         push_message(&mut self.shown, stream, &message, self.setup.spelling)?;
         if let Some(lane) = self.lane(stream) {
             let held = lane.held.saturating_sub(1);
@@ -624,22 +816,26 @@ impl<L: Link, S: Sink, W: Lineage> Service<L, S, W> {
         ensures spelling { spelling_of self.new ≡ spelling_of self.old }
         ensures words { OnOk result (BearsNew W.is_drawn (words_of self.old) (words_of self.new) self.old.host.pass self.new.host.pass) }
     {
+        let is_due = match self.next_due() {
+            Some(due) => due <= now,
+            None => false,
+        };
+        if !is_due {
+            return Ok(());
+        }
         let streams = self.setup.streams;
         'streams: for place in 0..streams {
             let stream = place.saturating_add(1);
-            let Some(lane) = self.lane(stream) else {
-                continue;
-            };
-            if lane.timer.is_due(now) {
-                self.send_again(stream, lane.mode, now)?;
+            if self.host.is_due(stream, now) {
+                self.send_again(stream, now)?;
             }
         }
         Ok(())
     }
 
-    /// Sends the packet of this mode of a stream again. Where it was emitted before, that is no event.
+    /// Sends the packet of a stream's mode again. Where it was emitted before, that is no event.
     #[tactic(auto, using(crate::proofs::Fresh::bears_none))]
-    fn send_again(&mut self, stream: u32, mode: Mode, now: u64) -> Result<(), LiveFault>
+    fn send_again(&mut self, stream: u32, now: u64) -> Result<(), LiveFault>
         requires { IsNoted S.written self.old.host }
         ensures noted { OnOk result (IsNoted S.written self.new.host) }
         ensures none_put { OnOk result (PutsNone self.old.host.pass self.new.host.pass) }
@@ -648,28 +844,29 @@ impl<L: Link, S: Sink, W: Lineage> Service<L, S, W> {
         ensures spelling { spelling_of self.new ≡ spelling_of self.old }
         ensures words { OnOk result (BearsNew W.is_drawn (words_of self.old) (words_of self.new) self.old.host.pass self.new.host.pass) }
     {
-        if self.host.repeat(stream)? {
-            self.enter(stream, mode, true, now);
+        if self.host.repeat(stream, now)? {
             return Ok(());
         }
-        self.resend_anew(stream, now)
-    }
-
-    /// Emits the packet of a stream's mode again, which is an event.
-    #[tactic(auto, using(crate::proofs::Fresh::bears_none))]
-    fn resend_anew(&mut self, stream: u32, now: u64) -> Result<(), LiveFault>
-        requires { IsNoted S.written self.old.host }
-        ensures noted { OnOk result (IsNoted S.written self.new.host) }
-        ensures none_put { OnOk result (PutsNone self.old.host.pass self.new.host.pass) }
-        ensures streams { streams_of self.new ≡ streams_of self.old }
-        ensures shown { OnOk result (ShowsMore (spelling_of self.old) self.old.host.pass self.new.host.pass (shown_by self.old) (shown_by self.new)) }
-        ensures spelling { spelling_of self.new ≡ spelling_of self.old }
-        ensures words { OnOk result (BearsNew W.is_drawn (words_of self.old) (words_of self.new) self.old.host.pass self.new.host.pass) }
-    {
-        if let Some(mode) = self.host.resend(stream)? {
-            self.enter(stream, mode, true, now);
-        }
+        self.host.resend(stream, now)?;
         Ok(())
+    }
+}
+
+/// Whether this is the mode of a sender at rest.
+fn is_quiet(mode: Option<Mode>) -> bool {
+    matches!(mode, Some(Mode::Quiet))
+}
+
+/// Whether this is the mode of a receiver that holds messages.
+fn is_rcvd(mode: Option<Mode>) -> bool {
+    matches!(mode, Some(Mode::Rcvd))
+}
+
+/// Whether a mode is another than the one before.
+fn is_other(before: Option<Mode>, after: Mode) -> bool {
+    match before {
+        Some(before) => before != after,
+        None => true,
     }
 }
 

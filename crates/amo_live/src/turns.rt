@@ -10,7 +10,7 @@ ghost use Rattle.amo_live.specs.declared.turns.Ended.TheVariants.{AtRest};
 
 use crate::lines::LineFault;
 use crate::notices::Notices;
-use crate::ready::{Waited, wait};
+use crate::ready::{Waited, takes_more, wait};
 use crate::{Durable, Input, Line, Lineage, LiveFault, ServeFault, Service, Spelling};
 use amo_net::Link;
 use amo_packet::Message;
@@ -23,6 +23,9 @@ const LINGER: u64 = 1_000_000;
 
 /// The longest that it waits without looking up, in microseconds.
 const LONGEST: u64 = 60_000_000;
+
+/// How many bytes of messages are shown in a turn at most: what a pipe that says that it takes more takes without a wait.
+const ROOM: usize = 4096;
 
 /// The number of what is not waited for.
 const NOTHING: i32 = -1;
@@ -150,9 +153,9 @@ fn turn<C: Clock + Eprint, L: Link, S: Durable, W: Lineage, I: Read, O: Write>(
     ensures puts { desk.new.puts ≡ desk.old.puts }
     ensures unread { OnOk result (desk.old.puts ≡ false → desk.new.reader ≡ desk.old.reader) }
 {
-    desk.wait(rt, limit)?;
+    desk.wait(rt, limit, service.has_unread())?;
     let now = microseconds(rt, start)?;
-    service.hear(now)?;
+    service.hear(now, desk.room())?;
     service.resend(now)?;
     // After the datagrams: what they made room for is put before the host waits again.
     take_lines(rt, service, desk, now)?;
@@ -311,15 +314,15 @@ impl<I: Read, O: Write> Desk<I, O> {
         !self.input.is_open() || self.kept.is_some()
     }
 
-    /// Waits, and reads lines once where some have come. While a message waits to be put again, lines wait too. A host that puts none reads nothing,
+    /// Waits, also until messages that wait to be shown can be, and reads lines once where some have come. While a message waits to be put again, lines wait too. A host that puts none reads nothing,
     /// and ends where nobody reads its messages any more.
-    fn wait<C: Clock>(&mut self, rt: &C, limit: i32) -> Result<(), ServeFault>
+    fn wait<C: Clock>(&mut self, rt: &C, limit: i32, takes: bool) -> Result<(), ServeFault>
         ensures unread { OnOk result (self.old.puts ≡ false → self.new.reader ≡ self.old.reader) }
         ensures waits { OnOk result ((bytes : List ℕ) × Consumes (I.remaining self.old.reader) (I.remaining self.new.reader) bytes × Waits self.old.input self.new.input bytes) }
         ensures same { self.new ≡ record self.old { reader = self.new.reader; input = self.new.input } }
     {
         let reads = self.reads();
-        let ready = wait(rt, self.waited(reads), limit);
+        let ready = wait(rt, self.waited(reads, takes), limit);
         if ready.is_gone {
             return Err(ServeFault::Gone);
         }
@@ -337,8 +340,8 @@ impl<I: Read, O: Write> Desk<I, O> {
         self.puts && self.input.is_open() && self.kept.is_none()
     }
 
-    /// What is waited for, where lines are read or not.
-    fn waited(&self, reads: bool) -> Waited {
+    /// What is waited for, where lines are read or not, and messages wait to be shown or not.
+    fn waited(&self, reads: bool, takes: bool) -> Waited {
         Waited {
             lines: if reads { self.reader_number } else { NOTHING },
             socket: self.socket_number,
@@ -347,6 +350,16 @@ impl<I: Read, O: Write> Desk<I, O> {
             } else {
                 self.output_number
             },
+            takes,
+        }
+    }
+
+    /// How many bytes of messages can be shown now without a wait.
+    fn room(&self) -> usize {
+        if self.puts || takes_more(self.output_number) {
+            ROOM
+        } else {
+            0
         }
     }
 

@@ -1,4 +1,4 @@
-use Rattle.std.proofs.Common.{◌≡◌, ℕ, ◌<◌, Option, List, sym, ap, ◌∙◌, subst, arith}
+use Rattle.std.proofs.Common.{◌≡◌, ℕ, ◌<◌, List, sym, ap, ◌∙◌, subst, arith}
 use Rattle.amo_world.specs.declared.event.Event.{Event}
 use Rattle.amo_book.specs.Pass.{mine}
 use Rattle.amo_live.specs.Host.{HostState, first_events, sides_from}

@@ -4,11 +4,11 @@ use Rattle.amo_live.proofs.Repeating.{suits_after, tried_after}
 use Rattle.amo_live.proofs.host.Host.attempt.Goals as goal
 
 pub perform-requires-clause-suits : goal.perform-requires-clause-suits
-perform-requires-clause-suits g c = suits_after c.args.self.now c.is_repetition.new.self c.args.place c.args.act c.is_repetition.ensures.stays.1 c.is_repetition.ensures.stays.0 c.requires.suits
+perform-requires-clause-suits g c = suits_after c.args.self.now c.is_repetition.new.self c.args.stream c.args.act c.is_repetition.ensures.stays c.requires.suits
 
 pub returns-in-Ok-false-clause-tried : goal.returns-in-Ok-false-clause-tried
 returns-in-Ok-false-clause-tried g c =
-    tried_after c.args.self.now c.is_repetition.new.self c.perform.new.self c.args.place c.args.act c.perform.result c.is_repetition.ensures.stays.1 c.requires.place (rw c.in-Ok-false.field-0-test at c.in-Ok-false.ensures.looks) c.perform.ensures.did
+    tried_after c.args.self.now c.is_repetition.new.self c.perform.new.self c.args.stream c.args.act c.perform.result c.is_repetition.ensures.stays.side (rw c.in-Ok-false.field-0-test at c.in-Ok-false.ensures.looks) c.perform.ensures.did
 
 pub returns-in-Err-clause-begun : goal.returns-in-Err-clause-begun
 returns-in-Err-clause-begun g c = begins_whole g.S.Sink.written c.is_repetition.new.self.journal (mine c.is_repetition.new.self.pass) c.is_repetition.ensures.noted

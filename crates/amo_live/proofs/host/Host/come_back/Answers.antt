@@ -1,22 +1,26 @@
-use Rattle.std.proofs.Common.{◌≡◌, ◌+◌, length, map, ap, subst, arith}
-use Rattle.amo_live.specs.Host.{HostState, side_of}
-use Rattle.amo_live.proofs.Returning.{as_many, still_stays, one_back}
+use Rattle.std.proofs.Common.{◌≡◌, ◌+◌, ◌∙◌, length, ap, subst, arith}
+use Rattle.amo_book.specs.Pass.{mine}
+use Rattle.amo_live.specs.Host.{HostState, comes_back, sides_from}
+use Rattle.amo_live.proofs.Returning.{all_back, one_back, sides_length, still_stays}
 use Rattle.amo_live.proofs.host.Host.come_back.Goals as goal
 
-pub manage-requires-in-places-clause-place : goal.manage-requires-in-places-clause-place
-manage-requires-in-places-clause-place g c =
-    let far = still_stays c.args.self.now c.places.self c.manage.new.self c.places.invariant.1 c.in_ok-manage.ensures.stays in
-    let many = as_many c.args.self.now c.manage.new.self far in
-    let count = ap (λ (t : HostState g.row.L.Denot g.row.S.Denot). length t.charges) c.self.view_is in
-    omega (arith, c.places-test.true, c.len-count.ensures)
-
-pub places-preserved : goal.places-preserved
-places-preserved g c =
-    let far = still_stays c.args.self.now c.places.self c.manage.new.self c.places.invariant.1 c.in_ok-manage.ensures.stays in
-    let count = ap (λ (t : HostState g.row.L.Denot g.row.S.Denot). length t.charges) c.self.view_is in
-    let order : map side_of c.args.self.now.charges ≡ c.args.self.now.book.sides = subst (λ (t : HostState g.row.L.Denot g.row.S.Denot). map side_of t.charges ≡ t.book.sides) c.self.view_is c.self.invariant.order in (
+pub streams-preserved : goal.streams-preserved
+streams-preserved g c =
+    let h = c.args.self.now in
+    let count = ap (λ (t : HostState g.row.L.Denot g.row.S.Denot). t.streams) c.self.view_is in
+    let far = still_stays h c.streams.self c.manage.new.self c.streams.invariant.1 c.in_ok-manage.ensures.stays in
+    let sides : h.book.sides ≡ sides_from h.side 1 h.streams = subst (λ (t : HostState g.row.L.Denot g.row.S.Denot). t.book.sides ≡ sides_from t.side 1 t.streams) c.self.view_is c.self.invariant.sides in (
       c.in_ok-manage-2.ensures.noted,
-      still_stays c.args.self.now c.manage.new.self c.manage-in-places.new.self far c.in_ok-manage-2.ensures.stays,
-      one_back c.args.self.now c.places.self c.manage.new.self c.manage-in-places.new.self c.places.place (c.places.place + 1) (omega arith) order (omega (arith, c.places-test.true, c.len-count.ensures)) c.places.invariant.1 c.places.invariant.2
+      still_stays h c.manage.new.self c.manage-in-streams.new.self far c.in_ok-manage-2.ensures.stays,
+      one_back h c.streams.self c.manage.new.self c.manage-in-streams.new.self c.streams.place (c.streams.place + 1) (c.streams.place + 1) h.streams (omega arith) (omega arith) sides (omega (arith, c.streams-test.true, count)) c.streams.invariant.1 c.streams.invariant.2
           c.in_ok-manage.ensures.stays c.in_ok-manage.ensures.did c.in_ok-manage-2.ensures.did,
     )
+
+pub returns-clause-back : goal.returns-clause-back
+returns-clause-back g c =
+    let h = c.args.self.now in
+    let count = ap (λ (t : HostState g.row.L.Denot g.row.S.Denot). t.streams) c.self.view_is in
+    let sides : h.book.sides ≡ sides_from h.side 1 h.streams = subst (λ (t : HostState g.row.L.Denot g.row.S.Denot). t.book.sides ≡ sides_from t.side 1 t.streams) c.self.view_is c.self.invariant.sides in
+    let long = ap (λ l. length l) sides in let many = sides_length h.side 1 h.streams in
+    let all : c.streams.place ≡ length h.book.sides = omega (arith, count, long, many, c.streams-test.false, c.streams.auto.place-end) in
+    c.streams.invariant.2 ∙ ap (λ l. comes_back h.pass.number l (mine h.pass)) (all_back h.book.sides c.streams.place all)

@@ -1,15 +1,9 @@
-use Rattle.std.proofs.Common.{◌≡◌, ap, refl, rules}
+use Rattle.std.proofs.Common.{◌≡◌, refl, rules}
 use Rattle.std.proofs.lemmas.Result.{on_ok_weaker}
 use Rattle.amo_live.specs.Service.{shown_by, spelling_of, words_of}
 use Rattle.amo_live.proofs.Fresh.{bears_as, bears_on}
-use Rattle.amo_live.proofs.Showing.{delivered_then, delivery_shows}
+use Rattle.amo_live.proofs.Showing.{delivered_then}
 use Rattle.amo_live.proofs.service.Service.deliver.Goals as goal
-
-pub returns-in_default-lane-clause-shown : goal.returns-in_default-lane-clause-shown
-returns-in_default-lane-clause-shown g c =
-    let old = shown_by c.args.self.now in let new = shown_by c.deliver_anew.new.self in let did = c.in_ok-stream.ensures.delivered in
-    let same : new ≡ old = ap (λ s. shown_by s) c.deliver_anew.ensures.same in
-    delivery_shows c.args.self.now.host c.deliver_anew.new.self.host (spelling_of c.args.self.now) c.args.bytes.now did.0 c.in_ok-stream.field-0 old new did.1 same
 
 pub returns-clause-shown : goal.returns-clause-shown
 returns-clause-shown g c =

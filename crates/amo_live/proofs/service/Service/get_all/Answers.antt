@@ -1,9 +1,7 @@
-use Rattle.std.proofs.Common.{◌≡◌, ◌∙◌, refl, sym, ap, rules}
-use Rattle.amo_book.specs.Pass.{mine}
+use Rattle.std.proofs.Common.{◌∙◌, refl, rules}
 use Rattle.amo_live.specs.Service.{shown_by, spelling_of, words_of}
-use Rattle.amo_live.specs.Words.{words_in}
 use Rattle.amo_live.proofs.Fresh.{bears_none, bears_on, resend_bears}
-use Rattle.amo_live.proofs.Showing.{resend_shows, shows_after, shows_as, shows_on}
+use Rattle.amo_live.proofs.Showing.{resend_shows, shows_after, shows_on}
 use Rattle.amo_live.proofs.service.Service.get_all.Goals as goal
 
 pub returns-then-not-branch-clause-shown : goal.returns-then-not-branch-clause-shown
@@ -29,15 +27,10 @@ pub returns-clause-shown : goal.returns-clause-shown
 returns-clause-shown g c =
     let so_far = c.messages.invariant in
     let spelling = spelling_of c.args.self.now in
-    let first = c.args.self.now.host.pass in
-    let middle = c.messages.self.host.pass in
-    let old = shown_by c.args.self.now in
-    let before = shown_by c.messages.self in
-    let new = shown_by c.enter.new.self in
-    let entered : c.enter.new.self.host ≡ c.messages.self.host = c.enter.ensures.host in
-    let two = resend_shows c.enter.new.self.host c.resend.new.self spelling c.args.stream c.in_ok-resend.field-0 before new c.in_ok-resend.ensures.did c.enter.ensures.shown.0 in
-    shows_on spelling first middle c.resend.new.self.pass old before new so_far.shown
-    (shows_as spelling spelling c.enter.new.self.host.pass c.resend.new.self.pass middle c.resend.new.self.pass before new before new refl (ap (λ h. h.pass) (sym entered)) refl refl refl two)
+    let first = c.args.self.now.host.pass in let middle = c.messages.self.host.pass in
+    let old = shown_by c.args.self.now in let before = shown_by c.messages.self in
+    shows_on spelling first middle c.resend.new.self.pass old before before so_far.shown
+    (resend_shows c.messages.self.host c.resend.new.self spelling c.args.stream c.in_ok-resend.field-0 before before c.in_ok-resend.ensures.did refl)
 
 pub returns-then-not-branch-clause-words : goal.returns-then-not-branch-clause-words
 returns-then-not-branch-clause-words g c =
@@ -45,8 +38,6 @@ returns-then-not-branch-clause-words g c =
 
 pub returns-clause-words : goal.returns-clause-words
 returns-clause-words g c =
-    let middle = c.messages.self.host.pass in
-    let entered : c.enter.new.self.host ≡ c.messages.self.host = c.enter.ensures.host in
-    bears_on (words_of c.args.self.now) (words_of c.messages.self) (words_of c.enter.new.self) c.args.self.now.host.pass middle c.resend.new.self.pass c.messages.invariant.words
-    (bears_none (words_of c.messages.self) (words_of c.enter.new.self) middle c.resend.new.self.pass c.enter.ensures.words
-    (resend_bears c.enter.new.self.host c.resend.new.self c.args.stream c.in_ok-resend.field-0 c.in_ok-resend.ensures.did ∙ ap (λ h. words_in (mine h.pass)) entered))
+    let words = words_of c.messages.self in let middle = c.messages.self.host.pass in
+    bears_on (words_of c.args.self.now) words words c.args.self.now.host.pass middle c.resend.new.self.pass c.messages.invariant.words
+    (bears_none words words middle c.resend.new.self.pass refl (resend_bears c.messages.self.host c.resend.new.self c.args.stream c.in_ok-resend.field-0 c.in_ok-resend.ensures.did))

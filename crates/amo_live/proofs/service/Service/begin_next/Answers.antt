@@ -1,0 +1,32 @@
+use Rattle.std.proofs.Common.{◌≡◌, ◌∙◌, refl, ap, rules}
+use Rattle.amo_book.specs.Pass.{PassState, mine}
+use Rattle.amo_live.specs.Host.{puts_in}
+use Rattle.amo_live.specs.Service.{shown_by, spelling_of, words_of}
+use Rattle.amo_live.proofs.Fresh.{bears_as}
+use Rattle.amo_live.proofs.Putting.{start_puts}
+use Rattle.amo_live.proofs.Showing.{shows_as, start_shows}
+use Rattle.amo_live.proofs.service.Service.begin_next.Goals as goal
+
+pub returns-clause-shown : goal.returns-clause-shown
+returns-clause-shown g c =
+    let pass : c.note_start.new.self.host.pass ≡ c.start_anew.new.self.host.pass = search rules in
+    let shown : shown_by c.note_start.new.self ≡ shown_by c.args.self.now = search rules in
+    let spelling = spelling_of c.args.self.now in
+    let old = shown_by c.args.self.now in
+    let new = shown_by c.note_start.new.self in
+    let did = c.in_ok-started.ensures.did in
+    shows_as spelling spelling c.args.self.now.host.pass c.start_anew.new.self.host.pass c.args.self.now.host.pass c.note_start.new.self.host.pass old new old new refl refl pass refl refl
+    (start_shows c.args.self.now.host c.start_anew.new.self.host spelling c.args.stream did.0 c.args.self.now.setup.batch c.args.self.now.host.journal.version c.in_ok-started.started old new did.1 shown)
+
+pub returns-clause-none_put : goal.returns-clause-none_put
+returns-clause-none_put g c =
+    let pass : c.note_start.new.self.host.pass ≡ c.start_anew.new.self.host.pass = search rules in
+    let did = c.in_ok-started.ensures.did in
+    ap (λ (p : PassState). puts_in (mine p)) pass ∙ start_puts c.args.self.now.host c.start_anew.new.self.host c.args.stream did.0 c.args.self.now.setup.batch c.args.self.now.host.journal.version c.in_ok-started.started did.1
+
+pub returns-clause-words : goal.returns-clause-words
+returns-clause-words g c =
+    let pass : c.note_start.new.self.host.pass ≡ c.start_anew.new.self.host.pass = search rules in
+    let words : words_of c.note_start.new.self ≡ words_of c.start_anew.new.self = search rules in
+    let old = words_of c.args.self.now in
+    bears_as old (words_of c.start_anew.new.self) old (words_of c.note_start.new.self) c.args.self.now.host.pass c.start_anew.new.self.host.pass c.args.self.now.host.pass c.note_start.new.self.host.pass refl words refl pass c.in_ok-started.ensures.words
