@@ -1,0 +1,15 @@
+//! The door of a host: what programs ask of it over HTTP/1.1, as calls, and what they are answered.
+//! It opens no socket, knows no host and no clock: it is handed bytes, and hands out bytes.
+//!
+//! - [`Numbers`] make it harmless to ask again: they tell of each claim whether it is for the next number of its stream, comes again, or is refused.
+//! - [`laws`]: what callers can rely on.
+#![tactic(auto)]
+
+mod claim;
+pub mod laws;
+mod numbers;
+mod word;
+
+pub use claim::{Claim, Decision, EventPlace, Made};
+pub use numbers::Numbers;
+pub use word::{MAX_WORD, Word};
