@@ -1,3 +1,5 @@
 pub mod Word
 pub mod Numbers
 pub mod Turns
+pub mod Place
+pub mod Routes

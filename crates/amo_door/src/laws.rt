@@ -1,12 +1,14 @@
 //! Laws of the turns of a life: what callers can rely on, however often they ask again and whoever else asks.
 //!
 //! These functions do nothing. Their contracts are facts about the definitions, which callers may use.
-ghost use Rattle.std.specs.Prelude.{◌≡◌, ◌+◌, ◌≤◌, ◌==◌, ◌∷◌, ℕ, List, Option, Some, None};
+ghost use Rattle.std.specs.Prelude.{◌≡◌, ◌+◌, ◌≤◌, ◌==◌, ◌∷◌, [], codes, ℕ, List, Option, Some, None};
 ghost use Rattle.std.specs.List.{Contains, count_by};
 ghost use Rattle.amo_door.specs.declared.claim.Claim.{Claim};
 ghost use Rattle.amo_door.specs.declared.claim.Decision.TheVariants as Decision;
 ghost use Rattle.amo_door.specs.declared.claim.Made.{Made};
 ghost use Rattle.amo_door.specs.Numbers.{decision, number_of};
+ghost use Rattle.amo_door.specs.declared.place.Place.TheVariants as Place;
+ghost use Rattle.amo_door.specs.Routes.{LeadsTo};
 ghost use Rattle.amo_door.specs.Turns.{Answer, AreNumbered, AreRight, Claimed, IsMadeFor, Turn, all_made, fresh, last_made, told};
 
 /// What is made on a stream has the numbers from 1 on, in their order. So each number is made once at most.
@@ -50,4 +52,18 @@ pub fn next_numbers_are_free()
 pub fn repeats_make_nothing()
     ensures { (turns : List Turn) (claim : Claim) (brings : Option (List ℕ)) (answer : Answer) (stream : ℕ) → fresh answer ≡ None
         → all_made stream (Claimed claim brings answer ∷ turns) ≡ all_made stream turns }
+{}
+
+/// Of each place one path, as the router finds it, with what stands in it for a stream and for a number.
+pub fn paths_lead_to_places()
+    ensures page { LeadsTo (codes "/") Place.Page [] [] }
+    ensures health { LeadsTo (codes "/healthz") Place.Health [] [] }
+    ensures metrics { LeadsTo (codes "/metrics") Place.Metrics [] [] }
+    ensures host { LeadsTo (codes "/v1") Place.Host [] [] }
+    ensures events { LeadsTo (codes "/v1/events") Place.Events [] [] }
+    ensures stream { LeadsTo (codes "/v1/streams/3") Place.Stream (codes "3") [] }
+    ensures messages { LeadsTo (codes "/v1/streams/3/messages") Place.Messages (codes "3") [] }
+    ensures message { LeadsTo (codes "/v1/streams/3/messages/18") Place.Message (codes "3") (codes "18") }
+    ensures take { LeadsTo (codes "/v1/streams/3/take") Place.Take (codes "3") [] }
+    ensures got { LeadsTo (codes "/v1/streams/3/got") Place.Got (codes "3") [] }
 {}

@@ -8,8 +8,12 @@
 mod claim;
 pub mod laws;
 mod numbers;
+mod place;
+mod routes;
 mod word;
 
 pub use claim::{Claim, Decision, EventPlace, Made};
 pub use numbers::Numbers;
+pub use place::{Method, Place};
+pub use routes::{Found, Routes};
 pub use word::{MAX_WORD, Word};
