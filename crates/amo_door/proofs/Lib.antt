@@ -1,3 +1,4 @@
 pub mod Order
 pub mod Told
 pub mod Again
+pub mod Pairs

@@ -3,3 +3,5 @@ pub mod Numbers
 pub mod Turns
 pub mod Place
 pub mod Routes
+pub mod Query
+pub mod Refusal

@@ -9,11 +9,15 @@ mod claim;
 pub mod laws;
 mod numbers;
 mod place;
+mod query;
+mod refusal;
 mod routes;
 mod word;
 
 pub use claim::{Claim, Decision, EventPlace, Made};
 pub use numbers::Numbers;
 pub use place::{Method, Place};
+pub use query::{Parameter, Query, QueryFault};
+pub use refusal::Refusal;
 pub use routes::{Found, Routes};
 pub use word::{MAX_WORD, Word};

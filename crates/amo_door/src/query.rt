@@ -1,0 +1,146 @@
+//! What a request says behind the `?` of its target.
+ghost use Rattle.std.specs.Prelude.{◌≡◌, IfErr, IfOk, is_some};
+ghost use Rattle.form_urlencoded.specs.Form.{raw_pairs};
+ghost use Rattle.amo_door.specs.Query.{Faults, Gives, given_of, name_of, parameter_of, value_of, with_value};
+
+use form_urlencoded::raw_pairs;
+
+/// What a request may say there, by its name.
+#[derive(Clone, Copy, Debug, PartialEq, Eq)]
+pub enum Parameter {
+    /// `life`: the life of the host that is meant.
+    Life,
+    /// `by`: the caller.
+    By,
+    /// `number`: the number that is claimed.
+    Number,
+    /// `wait`: how many seconds the answer may take.
+    Wait,
+    /// `until`: what is waited for.
+    Until,
+    /// `after`: the number of the journal's line behind which to begin.
+    After,
+}
+
+impl Parameter {
+    /// The parameter of this name.
+    pub fn read(name: &[u8]) -> Option<Parameter>
+        ensures { result ≡ parameter_of name.now }
+    {
+        match name {
+            b"life" => Some(Parameter::Life),
+            b"by" => Some(Parameter::By),
+            b"number" => Some(Parameter::Number),
+            b"wait" => Some(Parameter::Wait),
+            b"until" => Some(Parameter::Until),
+            b"after" => Some(Parameter::After),
+            _ => None,
+        }
+    }
+
+    /// Its name.
+    pub fn name(self) -> &'static str
+        ensures { result.now ≡ name_of self }
+    {
+        match self {
+            Parameter::Life => "life",
+            Parameter::By => "by",
+            Parameter::Number => "number",
+            Parameter::Wait => "wait",
+            Parameter::Until => "until",
+            Parameter::After => "after",
+        }
+    }
+}
+
+/// Why a query is none.
+#[derive(Clone, Copy, Debug, PartialEq, Eq)]
+pub enum QueryFault {
+    /// It gives something under a name that is that of no parameter.
+    Unknown,
+    /// It gives this twice.
+    Repeated(Parameter),
+}
+
+/// What a query gives, each as it stands there. No value that is taken needs an escape, and none is undone.
+#[derive(Clone, Copy, Debug)]
+pub struct Query<'a> {
+    pub life: Option<&'a [u8]>,
+    pub by: Option<&'a [u8]>,
+    pub number: Option<&'a [u8]>,
+    pub wait: Option<&'a [u8]>,
+    pub until: Option<&'a [u8]>,
+    pub after: Option<&'a [u8]>,
+}
+
+impl<'a> Query<'a> {
+    /// What this text gives, as `life=9f3a01c2&by=till-7`. An empty piece between two `&` gives nothing.
+    pub fn read(text: &'a [u8]) -> Result<Query<'a>, QueryFault>
+        ensures ok { IfOk result (λ query. Gives (raw_pairs text.now) (given_of query)) }
+        ensures fault { IfErr result (Faults (raw_pairs text.now)) }
+    {
+        let mut query = Query {
+            life: None,
+            by: None,
+            number: None,
+            wait: None,
+            until: None,
+            after: None,
+        };
+        let mut pairs = raw_pairs(text);
+        while let Some((name, value)) = pairs.next() {
+            let Some(parameter) = Parameter::read(name) else {
+                return Err(QueryFault::Unknown);
+            };
+            if query.has(parameter) {
+                return Err(QueryFault::Repeated(parameter));
+            }
+            query = query.with(parameter, value);
+        }
+        Ok(query)
+    }
+
+    /// Whether it gives this.
+    pub fn has(&self, parameter: Parameter) -> bool
+        ensures { result ≡ is_some (value_of (given_of self.now) parameter) }
+    {
+        match parameter {
+            Parameter::Life => self.life.is_some(),
+            Parameter::By => self.by.is_some(),
+            Parameter::Number => self.number.is_some(),
+            Parameter::Wait => self.wait.is_some(),
+            Parameter::Until => self.until.is_some(),
+            Parameter::After => self.after.is_some(),
+        }
+    }
+
+    /// The same, and this.
+    fn with(self, parameter: Parameter, value: &'a [u8]) -> Query<'a>
+        ensures { given_of result ≡ with_value (given_of self.entry) parameter value.now }
+    {
+        let value = Some(value);
+        match parameter {
+            Parameter::Life => Query {
+                life: value,
+                ..self
+            },
+            Parameter::By => Query { by: value, ..self },
+            Parameter::Number => Query {
+                number: value,
+                ..self
+            },
+            Parameter::Wait => Query {
+                wait: value,
+                ..self
+            },
+            Parameter::Until => Query {
+                until: value,
+                ..self
+            },
+            Parameter::After => Query {
+                after: value,
+                ..self
+            },
+        }
+    }
+}
