@@ -2,3 +2,4 @@ pub mod Order
 pub mod Told
 pub mod Again
 pub mod Pairs
+pub mod Blame

@@ -5,3 +5,4 @@ pub mod Place
 pub mod Routes
 pub mod Query
 pub mod Refusal
+pub mod Call

@@ -5,6 +5,7 @@
 //! - [`laws`]: what callers can rely on.
 #![tactic(auto)]
 
+mod call;
 mod claim;
 pub mod laws;
 mod numbers;
@@ -14,6 +15,7 @@ mod refusal;
 mod routes;
 mod word;
 
+pub use call::{Call, LONGEST_WAIT, Served};
 pub use claim::{Claim, Decision, EventPlace, Made};
 pub use numbers::Numbers;
 pub use place::{Method, Place};
