@@ -3,3 +3,4 @@ pub mod Told
 pub mod Again
 pub mod Pairs
 pub mod Blame
+pub mod Appends

@@ -6,3 +6,5 @@ pub mod Routes
 pub mod Query
 pub mod Refusal
 pub mod Call
+pub mod Json
+pub mod Answer

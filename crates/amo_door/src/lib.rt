@@ -5,8 +5,10 @@
 //! - [`laws`]: what callers can rely on.
 #![tactic(auto)]
 
+mod answer;
 mod call;
 mod claim;
+mod json;
 pub mod laws;
 mod numbers;
 mod place;
@@ -15,6 +17,7 @@ mod refusal;
 mod routes;
 mod word;
 
+pub use answer::{About, Answer, Extra, Fate, Kind, Last, ReceiverState, SenderState, When};
 pub use call::{Call, LONGEST_WAIT, Served};
 pub use claim::{Claim, Decision, EventPlace, Made};
 pub use numbers::Numbers;
