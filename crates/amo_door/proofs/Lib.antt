@@ -4,3 +4,4 @@ pub mod Again
 pub mod Pairs
 pub mod Blame
 pub mod Appends
+pub mod Alike

@@ -8,3 +8,4 @@ pub mod Refusal
 pub mod Call
 pub mod Json
 pub mod Answer
+pub mod Guard

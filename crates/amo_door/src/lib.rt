@@ -8,6 +8,7 @@
 mod answer;
 mod call;
 mod claim;
+mod guard;
 mod json;
 pub mod laws;
 mod numbers;
@@ -20,6 +21,7 @@ mod word;
 pub use answer::{About, Answer, Extra, Fate, Kind, Last, ReceiverState, SenderState, When};
 pub use call::{Call, LONGEST_WAIT, Served};
 pub use claim::{Claim, Decision, EventPlace, Made};
+pub use guard::{Credentials, Guard};
 pub use numbers::Numbers;
 pub use place::{Method, Place};
 pub use query::{Parameter, Query, QueryFault};
