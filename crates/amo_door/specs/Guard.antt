@@ -1,5 +1,5 @@
 -- Who may ask at the door.
-use Rattle.std.specs.Prelude.{◌≡◌, ℕ, Bool, true, false, not, if◌then◌else◌, Option, None, Some, Result, Ok, Err, List, String, ◌++◌, bytes_eq, codes}
+use Rattle.std.specs.Prelude.{ℕ, Bool, true, false, not, if◌then◌else◌, Option, None, Some, Result, Ok, Err, List, String, ◌++◌, bytes_eq, codes}
 use Rattle.std.specs.List.{list_any}
 use Rattle.std.specs.Option.{option_copied}
 use Rattle.std.specs.String.{string_bytes}

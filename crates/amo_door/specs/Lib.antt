@@ -9,3 +9,4 @@ pub mod Call
 pub mod Json
 pub mod Answer
 pub mod Guard
+pub mod Connection

@@ -8,7 +8,9 @@
 mod answer;
 mod call;
 mod claim;
+mod connection;
 mod guard;
+mod head;
 mod json;
 pub mod laws;
 mod numbers;
@@ -16,12 +18,15 @@ mod place;
 mod query;
 mod refusal;
 mod routes;
+mod spelling;
 mod word;
 
 pub use answer::{About, Answer, Extra, Fate, Kind, Last, ReceiverState, SenderState, When};
 pub use call::{Call, LONGEST_WAIT, Served};
 pub use claim::{Claim, Decision, EventPlace, Made};
+pub use connection::{Connection, LONGEST_HEAD, MOST_INPUT, MOST_OUTPUT, Step};
 pub use guard::{Credentials, Guard};
+pub use head::Reader;
 pub use numbers::Numbers;
 pub use place::{Method, Place};
 pub use query::{Parameter, Query, QueryFault};

@@ -1,4 +1,4 @@
-use Rattle.std.proofs.Common.{◌≡◌, ◌<◌, ℕ, get_or, length, arith, subst}
+use Rattle.std.proofs.Common.{◌≡◌, length, arith}
 use Rattle.amo_door.proofs.Alike.{alike}
 use Rattle.amo_door.proofs.guard.is_same.Goals as goal
 

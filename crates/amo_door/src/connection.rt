@@ -1,0 +1,413 @@
+//! A connection of a client.
+ghost use Rattle.std.specs.Prelude.{◌≡◌, ◌≤◌, [], drop, length, IfOk, OnErr};
+ghost use Rattle.httparse.specs.Spans.{IsRequestWithin};
+
+use crate::head::{read_head, refusal_of};
+use crate::spelling::write_answer;
+use crate::{Answer, Call, Reader, Refusal};
+use amo_packet::{MAX_MESSAGE, Message, MessageFault};
+use bytes::BytesMut;
+use http1::{BodySize, Event, Limits, Server, WriteError};
+use httparse::spans::{EMPTY_HEADER_SPAN, HeaderSpan, RequestSpans, Span};
+use std::alloc::{AllocError, Global};
+use std::marker::Model;
+
+/// The longest head of a request, in bytes.
+pub const LONGEST_HEAD: usize = 16 * 1024;
+
+/// The most fields of a head.
+const MOST_FIELDS: usize = 64;
+
+/// The most bytes that came and wait to be read.
+pub const MOST_INPUT: usize = 17 * 1024;
+
+/// While more bytes than these wait to be sent, no more requests are read.
+pub const MOST_OUTPUT: usize = 64 * 1024;
+
+/// The most bytes that are thrown away behind a request that was refused before it had come whole.
+const MOST_THROWN: usize = 256 * 1024;
+
+/// The most events that a read of what waits can have.
+const MOST_EVENTS: usize = 4 * MOST_INPUT;
+
+/// What a connection is at.
+#[derive(Clone, Copy, Debug, PartialEq, Eq)]
+enum Stage {
+    /// Requests are read.
+    Reading,
+    /// A request came whole, and waits for its answer.
+    Asked,
+    /// What is pending is sent, and no more is read.
+    Closing,
+    /// There is no more to do.
+    Over,
+}
+
+/// A request whose body has not come whole.
+#[derive(Drop)]
+struct Begun {
+    call: Result<Call, Refusal>,
+    /// How many bytes its body may have.
+    room: usize,
+}
+
+/// What a connection waits for, or has.
+#[derive(Debug, Drop)]
+pub enum Step {
+    /// A request that came whole, with the message that is its body. It wants an answer, and no more is read before.
+    Call { call: Call, message: Message },
+    /// It waits for bytes from the client, for an answer, or until what is pending is sent.
+    Wait,
+    /// There is no more to do: what was pending is sent, or cannot be.
+    Over,
+}
+
+/// A connection of a client: bytes come in, and calls come out; answers go in, and bytes go out, in the order of the requests. It knows no socket and no
+/// clock: who has these hands it what came, and sends what it has.
+///
+/// It wants no more memory than [`MOST_INPUT`], a message, [`MOST_OUTPUT`] and one answer.
+#[derive(Drop)]
+pub struct Connection {
+    alloc: Global,
+    server: Server,
+    input: BytesMut,
+    output: BytesMut,
+    begun: Option<Begun>,
+    body: Vec<u8>,
+    is_head: bool,
+    has_ended: bool,
+    thrown: usize,
+    stage: Stage,
+}
+
+impl Model for Connection {
+    ghost use Rattle.std.specs.Prelude.{◌≤◌, length};
+    ghost use Rattle.amo_door.specs.Connection.{ConnectionState};
+
+    ghost Value = { ConnectionState };
+
+    ghost view = { λ c. record { input = c.input.items; output = c.output.items } };
+
+    ghost invariant = { λ c. length c.input.items ≤ 17408 };
+}
+
+impl Connection {
+    /// A connection on which nothing came.
+    pub fn new(alloc: Global) -> Connection
+        ensures { result ≡ record { input = []; output = [] } }
+    {
+        let limits = Limits {
+            max_head_len: LONGEST_HEAD,
+            max_extensions_len: 1024,
+            max_trailers_len: 1024,
+        };
+        Connection {
+            alloc,
+            server: Server::new(limits),
+            input: BytesMut::new(alloc),
+            output: BytesMut::new(alloc),
+            begun: None,
+            body: Vec::new(alloc),
+            is_head: false,
+            has_ended: false,
+            thrown: 0,
+            stage: Stage::Reading,
+        }
+    }
+
+    /// Whether more bytes of the client are wanted: else they are left with the system, which holds the client back.
+    pub fn wants_input(&self) -> bool {
+        match self.stage {
+            Stage::Reading | Stage::Asked => !self.has_ended && self.input.len() < MOST_INPUT,
+            Stage::Closing => !self.has_ended,
+            Stage::Over => false,
+        }
+    }
+
+    /// Whether a request waits for its answer.
+    pub fn is_asked(&self) -> bool {
+        self.stage == Stage::Asked
+    }
+
+    /// Whether there is no more to do.
+    pub fn is_over(&self) -> bool {
+        self.stage == Stage::Over
+    }
+
+    /// Takes as many of these bytes as there is room for, and tells how many these are. Behind a refusal they are thrown away.
+    pub fn take(&mut self, bytes: &[u8]) -> Result<usize, AllocError>
+        ensures within { IfOk result (λ count. count ≤ length bytes.now) }
+        ensures output { self.new.output ≡ self.old.output }
+        ensures room { length self.new.input ≤ MOST_INPUT }
+        ensures err { OnErr result (self.new.input ≡ self.old.input) }
+    {
+        if self.stage == Stage::Closing {
+            self.throw(bytes.len());
+            return Ok(bytes.len());
+        }
+        let count = bytes.len().min(MOST_INPUT - self.input.len());
+        self.input.extend_from_slice(&bytes[..count])?;
+        Ok(count)
+    }
+
+    /// So many bytes were thrown away. A client that sends on and on is let go.
+    fn throw(&mut self, count: usize)
+        ensures { self.new ≡ self.old }
+    {
+        self.thrown = self.thrown.saturating_add(count);
+        if self.thrown > MOST_THROWN {
+            self.stage = Stage::Over;
+        }
+    }
+
+    /// The client sends no more. What it asked is answered all the same.
+    pub fn end_input(&mut self)
+        ensures { self.new ≡ self.old }
+    {
+        self.has_ended = true;
+    }
+
+    /// What is to be sent to the client.
+    pub fn output(&self) -> &[u8]
+        ensures { result.now ≡ self.now.output }
+    {
+        self.output.as_slice()
+    }
+
+    /// So many bytes of it were sent.
+    pub fn sent(&mut self, count: usize)
+        requires { count ≤ length self.old.output }
+        ensures output { self.new.output ≡ drop count self.old.output }
+        ensures input { self.new.input ≡ self.old.input }
+    {
+        self.output.advance(count);
+        if self.stage == Stage::Closing && self.output.is_empty() {
+            self.stage = Stage::Over;
+        }
+    }
+
+    /// Goes on with what came. Requests that are refused it answers itself. Where memory is refused the connection is over.
+    pub fn next(&mut self, reader: &Reader<'_>) -> Result<Step, AllocError> {
+        let mut spans = [EMPTY_HEADER_SPAN; MOST_FIELDS];
+        for _event in 0..MOST_EVENTS {
+            match self.step(reader, &mut spans) {
+                Ok(Some(step)) => return Ok(step),
+                Ok(None) => {}
+                Err(error) => {
+                    self.stage = Stage::Over;
+                    return Err(error);
+                }
+            }
+        }
+        Ok(Step::Wait)
+    }
+
+    /// One event of what came; none where there may be more.
+    fn step(
+        &mut self,
+        reader: &Reader<'_>,
+        spans: &mut [HeaderSpan],
+    ) -> Result<Option<Step>, AllocError> {
+        match self.stage {
+            Stage::Reading => {}
+            Stage::Asked | Stage::Closing => return Ok(Some(Step::Wait)),
+            Stage::Over => return Ok(Some(Step::Over)),
+        }
+        if self.output.len() > MOST_OUTPUT {
+            return Ok(Some(Step::Wait));
+        }
+        let read = match self.server.read(self.input.as_slice(), spans) {
+            Ok(read) => read,
+            Err(error) => {
+                self.refuse(refusal_of(error))?;
+                return Ok(Some(Step::Wait));
+            }
+        };
+        match read.event {
+            Event::Head(head) => {
+                self.begin(reader, &head, spans);
+                self.input.advance(read.consumed);
+                self.go_on()?;
+                Ok(None)
+            }
+            Event::Data(piece) => {
+                self.keep(piece)?;
+                self.drop_front(read.consumed);
+                Ok(None)
+            }
+            Event::End(_) => {
+                self.input.advance(read.consumed);
+                self.finish()
+            }
+            Event::NeedMore => {
+                self.input.advance(read.consumed);
+                self.need_more();
+                Ok(Some(Step::Wait))
+            }
+            _ => {
+                self.close();
+                Ok(Some(Step::Wait))
+            }
+        }
+    }
+
+    /// Drops what was read, where it is still there: a refusal drops all.
+    fn drop_front(&mut self, count: usize) {
+        let count = count.min(self.input.len());
+        self.input.advance(count);
+    }
+
+    /// Takes the request whose head is in front of the input.
+    fn begin(&mut self, reader: &Reader<'_>, head: &RequestSpans, spans: &[HeaderSpan])
+        requires { IsRequestWithin self.old.input spans.now head.now }
+        ensures { self.new ≡ self.old }
+    {
+        let input = self.input.as_slice();
+        let call = if self.server.has_codings() {
+            Err(Refusal::Coding)
+        } else {
+            read_head(reader, input, head, spans)
+        };
+        let room = match &call {
+            Ok(Call::Put(_) | Call::PutNext { .. }) => MAX_MESSAGE,
+            _ => 0,
+        };
+        self.is_head = head.method.of(input) == b"HEAD".as_slice();
+        self.begun = Some(Begun { call, room });
+        self.body.clear();
+    }
+
+    /// Goes on behind a head: a body that is not to be read refuses the request, and one that the client holds back is asked for.
+    fn go_on(&mut self) -> Result<(), AllocError> {
+        let Some(begun) = &self.begun else {
+            return Ok(());
+        };
+        let is_too_long = match self.server.unread_size() {
+            BodySize::Known(size) => size > begun.room as u64,
+            BodySize::Empty | BodySize::Unknown => false,
+        };
+        match begun.call {
+            Err(refusal) if self.server.unread_size() != BodySize::Empty => self.refuse(refusal),
+            Ok(_) if is_too_long => self.refuse(Refusal::TooLong),
+            _ => self.ask_on(),
+        }
+    }
+
+    /// Asks for the body where the client waits to be asked.
+    fn ask_on(&mut self) -> Result<(), AllocError> {
+        if !self.server.expects_continue() {
+            return Ok(());
+        }
+        match self
+            .server
+            .write_informational(&mut self.output, 100, b"Continue", &[])
+        {
+            Err(WriteError::OutOfMemory) => Err(AllocError),
+            Ok(()) | Err(_) => Ok(()),
+        }
+    }
+
+    /// Keeps a piece of the body, which lies so in the input.
+    fn keep(&mut self, piece: Span) -> Result<(), AllocError>
+        requires { (piece.start ≤ piece.end) × (piece.end ≤ length self.old.input) }
+    {
+        let bytes = piece.of(self.input.as_slice());
+        let room = match &self.begun {
+            Some(begun) => begun.room,
+            None => 0,
+        };
+        if self.body.len().saturating_add(bytes.len()) > room {
+            return self.refuse(Refusal::TooLong);
+        }
+        self.body.extend_from_slice(bytes)
+    }
+
+    /// The request came whole.
+    fn finish(&mut self) -> Result<Option<Step>, AllocError> {
+        let Some(begun) = self.begun.take() else {
+            return Ok(None);
+        };
+        let call = match begun.call {
+            Ok(call) => call,
+            Err(refusal) => {
+                let answer = Answer::refusal(self.alloc, refusal)?;
+                self.write(&answer, false)?;
+                return Ok(None);
+            }
+        };
+        match Message::copy(self.alloc, self.body.as_slice()) {
+            Ok(message) => {
+                self.stage = Stage::Asked;
+                Ok(Some(Step::Call { call, message }))
+            }
+            Err(MessageFault::NoMemory) => Err(AllocError),
+            Err(MessageFault::TooLong) => {
+                self.refuse(Refusal::TooLong)?;
+                Ok(Some(Step::Wait))
+            }
+        }
+    }
+
+    /// No whole event is there. Where the client sends no more, there will be none.
+    fn need_more(&mut self) {
+        if self.has_ended {
+            self.close();
+        }
+    }
+
+    /// Reads no more. What is pending is sent.
+    fn close(&mut self) {
+        self.input.clear();
+        self.begun = None;
+        self.stage = if self.output.is_empty() {
+            Stage::Over
+        } else {
+            Stage::Closing
+        };
+    }
+
+    /// Refuses a request, and reads no more: the rest of it may still come, and is thrown away.
+    fn refuse(&mut self, refusal: Refusal) -> Result<(), AllocError> {
+        let answer = Answer::refusal(self.alloc, refusal)?;
+        self.write(&answer, true)?;
+        self.close();
+        Ok(())
+    }
+
+    /// Answers the request that waits for it. Where none does, or it cannot be spelt, the connection is over.
+    pub fn answer(&mut self, answer: &Answer) -> Result<(), AllocError> {
+        if self.stage != Stage::Asked {
+            self.stage = Stage::Over;
+            return Ok(());
+        }
+        self.stage = Stage::Reading;
+        self.write(answer, false)?;
+        if self.server.is_closed() {
+            self.close();
+        }
+        Ok(())
+    }
+
+    /// Appends an answer to what is to be sent.
+    fn write(&mut self, answer: &Answer, closes: bool) -> Result<(), AllocError> {
+        let written = write_answer(
+            self.alloc,
+            &mut self.server,
+            &mut self.output,
+            answer,
+            self.is_head,
+            closes,
+        );
+        match written {
+            Ok(()) => Ok(()),
+            Err(WriteError::OutOfMemory) => {
+                self.stage = Stage::Over;
+                Err(AllocError)
+            }
+            Err(_) => {
+                self.stage = Stage::Over;
+                Ok(())
+            }
+        }
+    }
+}

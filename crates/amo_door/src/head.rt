@@ -1,0 +1,59 @@
+//! What the head of a request says.
+ghost use Rattle.std.specs.Prelude.{◌≡◌, ◌≤◌, All, length};
+ghost use Rattle.httparse.specs.Spans.{IsHeaderWithin, IsRequestWithin};
+
+use crate::{Call, Credentials, Guard, Method, Refusal, Routes, Served};
+use http1::ReadError;
+use httparse::spans::{HeaderSpan, RequestSpans};
+
+/// What a door needs to read requests.
+#[derive(Clone, Copy)]
+pub struct Reader<'a> {
+    /// The paths of its places.
+    pub routes: &'a Routes,
+    /// Who may ask.
+    pub guard: &'a Guard,
+    /// What the host serves.
+    pub served: Served,
+}
+
+/// The call that the head of a request makes, or why it is refused.
+pub(crate) fn read_head(
+    reader: &Reader<'_>,
+    input: &[u8],
+    head: &RequestSpans,
+    spans: &[HeaderSpan],
+) -> Result<Call, Refusal>
+    requires { IsRequestWithin input.now spans.now head.now }
+{
+    let fields = &spans[..head.headers];
+    let credentials = Credentials {
+        host: field(input, fields, b"host"),
+        origin: field(input, fields, b"origin"),
+        authorization: field(input, fields, b"authorization"),
+    };
+    reader.guard.check(&credentials)?;
+    let method = Method::read(head.method.of(input));
+    Call::read(reader.routes, reader.served, method, head.path.of(input))
+}
+
+/// What the first field of this name has.
+fn field<'a>(input: &'a [u8], fields: &[HeaderSpan], name: &[u8]) -> Option<&'a [u8]>
+    requires { All (IsHeaderWithin (length input.now)) fields.now }
+{
+    for field in fields {
+        if field.name.of(input).eq_ignore_ascii_case(name) {
+            return Some(field.value.of(input));
+        }
+    }
+    None
+}
+
+/// Why a request that does not read is refused.
+pub(crate) fn refusal_of(error: ReadError) -> Refusal {
+    match error.status() {
+        414 => Refusal::LongTarget,
+        431 => Refusal::LongHead,
+        _ => Refusal::Unreadable,
+    }
+}
