@@ -1,5 +1,6 @@
 //! A connection of a client.
-ghost use Rattle.std.specs.Prelude.{◌≡◌, ◌≤◌, [], drop, length, IfOk, OnErr};
+ghost use Rattle.std.specs.Prelude.{◌≡◌, ◌≤◌, [], drop, length, IfOk, IfSome, OnErr};
+ghost use Rattle.amo_door.specs.Connection.{IsCall, Takes};
 ghost use Rattle.httparse.specs.Spans.{IsRequestWithin};
 
 use crate::head::{read_head, refusal_of};
@@ -115,6 +116,13 @@ impl Connection {
         }
     }
 
+    /// The law of connections: what came and waits is bounded, whatever was called before. It does nothing.
+    pub fn is_bounded(&self)
+        ensures { length self.now.input ≤ MOST_INPUT }
+    {
+        let _input = self.input.len();
+    }
+
     /// Whether more bytes of the client are wanted: else they are left with the system, which holds the client back.
     pub fn wants_input(&self) -> bool {
         match self.stage {
@@ -137,8 +145,8 @@ impl Connection {
     /// Takes as many of these bytes as there is room for, and tells how many these are. Behind a refusal they are thrown away.
     pub fn take(&mut self, bytes: &[u8]) -> Result<usize, AllocError>
         ensures within { IfOk result (λ count. count ≤ length bytes.now) }
+        ensures taken { IfOk result (λ count. Takes self.old.input bytes.now count self.new.input) }
         ensures output { self.new.output ≡ self.old.output }
-        ensures room { length self.new.input ≤ MOST_INPUT }
         ensures err { OnErr result (self.new.input ≡ self.old.input) }
     {
         if self.stage == Stage::Closing {
@@ -187,7 +195,9 @@ impl Connection {
     }
 
     /// Goes on with what came. Requests that are refused it answers itself. Where memory is refused the connection is over.
-    pub fn next(&mut self, reader: &Reader<'_>) -> Result<Step, AllocError> {
+    pub fn next(&mut self, reader: &Reader<'_>) -> Result<Step, AllocError>
+        ensures { IfOk result (λ step. IsCall step → length self.new.output ≤ MOST_OUTPUT) }
+    {
         let mut spans = [EMPTY_HEADER_SPAN; MOST_FIELDS];
         for _event in 0..MOST_EVENTS {
             match self.step(reader, &mut spans) {
@@ -207,7 +217,9 @@ impl Connection {
         &mut self,
         reader: &Reader<'_>,
         spans: &mut [HeaderSpan],
-    ) -> Result<Option<Step>, AllocError> {
+    ) -> Result<Option<Step>, AllocError>
+        ensures { IfOk result (λ step. IfSome step (λ step. IsCall step → length self.new.output ≤ MOST_OUTPUT)) }
+    {
         match self.stage {
             Stage::Reading => {}
             Stage::Asked | Stage::Closing => return Ok(Some(Step::Wait)),
@@ -323,7 +335,9 @@ impl Connection {
     }
 
     /// The request came whole.
-    fn finish(&mut self) -> Result<Option<Step>, AllocError> {
+    fn finish(&mut self) -> Result<Option<Step>, AllocError>
+        ensures { IfOk result (λ step. IfSome step (λ step. IsCall step → self.new.output ≡ self.old.output)) }
+    {
         let Some(begun) = self.begun.take() else {
             return Ok(None);
         };
