@@ -1,6 +1,7 @@
 -- What requests are answered.
-use Rattle.std.specs.Prelude.{◌≡◌, ℕ, Bool, if◌then◌else◌, Option, None, Some, List, [], ◌++◌, codes}
+use Rattle.std.specs.Prelude.{◌≡◌, ℕ, Bool, if◌then◌else◌, Option, None, Some, List, [], ◌∷◌, ◌++◌, codes}
 use Rattle.std.specs.Fmt.{decimal}
+use Rattle.std.specs.List.{flat_map}
 use Rattle.amo_object.specs.declared.step.End.{End}
 use Rattle.amo_object.specs.declared.step.End.TheVariants.{Sender, Receiver}
 use Rattle.amo_door.specs.declared.answer.About.{About}
@@ -8,6 +9,7 @@ use Rattle.amo_door.specs.declared.answer.Extra.{Extra}
 use Rattle.amo_door.specs.declared.answer.Extra.TheVariants as extra
 use Rattle.amo_door.specs.declared.answer.Fate.{Fate}
 use Rattle.amo_door.specs.declared.answer.Fate.TheVariants as fate
+use Rattle.amo_door.specs.declared.answer.GotMessage.{GotMessage}
 use Rattle.amo_door.specs.declared.answer.Kind.{Kind}
 use Rattle.amo_door.specs.declared.answer.Kind.TheVariants as kind
 use Rattle.amo_door.specs.declared.answer.Last.{Last}
@@ -19,7 +21,7 @@ use Rattle.amo_door.specs.declared.answer.When.TheVariants as when
 use Rattle.amo_door.specs.declared.claim.Made.{Made}
 use Rattle.amo_door.specs.declared.refusal.Refusal.{Refusal}
 use Rattle.amo_door.specs.declared.refusal.Refusal.TheVariants as refusal
-use Rattle.amo_door.specs.Json.{quoted}
+use Rattle.amo_door.specs.Json.{message_member, quoted}
 use Rattle.amo_door.specs.Refusal.{retry_of, word_of}
 
 -- the media type of a body
@@ -132,3 +134,28 @@ abbrev pub extra_of : Refusal → Extra
 extra_of (refusal.Method place) = extra.Allow place
 extra_of refusal.Token = extra.Authenticate
 extra_of reason = retry_extra (retry_of reason)
+
+-- the front of an object about messages that were got of a stream
+abbrev pub got_front : ℕ → List ℕ
+got_front stream = codes "{\"stream\":" ++ decimal stream ++ codes ",\"got\":["
+
+-- the front of an object about a line
+abbrev pub line_front : ℕ → List ℕ
+line_front line = codes "{\"line\":" ++ decimal line ++ codes ","
+
+-- the object about a message that was got
+abbrev pub got_message : GotMessage → List ℕ
+got_message got = line_front got.line ++ message_member got.message.now ++ codes "}"
+
+-- the same behind another one
+abbrev pub next_got : GotMessage → List ℕ
+next_got got = codes "," ++ got_message got
+
+-- such objects, with commas between them
+abbrev pub got_list : List GotMessage → List ℕ
+got_list [] = []
+got_list (first ∷ rest) = got_message first ++ flat_map next_got rest
+
+-- the object about messages that were got of a stream
+abbrev pub got_body : ℕ → List GotMessage → List ℕ
+got_body stream messages = got_front stream ++ got_list messages ++ codes "]}"

@@ -10,3 +10,4 @@ pub mod Json
 pub mod Answer
 pub mod Guard
 pub mod Connection
+pub mod Event

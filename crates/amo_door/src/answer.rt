@@ -3,10 +3,13 @@ ghost use Rattle.std.specs.Prelude.{◌≡◌, ◌++◌, [], IfOk, codes};
 ghost use Rattle.amo_door.specs.declared.answer.Extra.TheVariants as AnyExtra;
 ghost use Rattle.amo_door.specs.declared.answer.Kind.TheVariants as AnyKind;
 ghost use Rattle.amo_door.specs.declared.refusal.Refusal.TheVariants.{Conflict, OtherLife};
-ghost use Rattle.amo_door.specs.Answer.{IsRefusal, extra_of, host_body, life_member, outcome_body, put_body, receiver_members, sender_members, status_of_put, type_of};
+ghost use Rattle.amo_door.specs.Answer.{IsRefusal, extra_of, got_body, host_body, life_member, outcome_body, put_body, receiver_members, sender_members, status_of_put, type_of};
 ghost use Rattle.amo_door.specs.Refusal.{status_of};
 
-use crate::json::{push_host, push_life, push_place, push_receiver, push_refusal, push_sender};
+use crate::json::{
+    push_got, push_got_front, push_host, push_life, push_place, push_receiver, push_refusal,
+    push_sender,
+};
 use crate::{EventPlace, Made, Place, Refusal, Word};
 use amo_object::End;
 use amo_text::push_decimal;
@@ -151,6 +154,15 @@ pub struct About<'a> {
     pub since: u64,
 }
 
+/// A message that was got, as its receiver's journal tells it.
+#[derive(Clone, Copy, Debug)]
+pub struct GotMessage<'a> {
+    /// The number of its line.
+    pub line: u64,
+    /// Its bytes.
+    pub message: &'a [u8],
+}
+
 impl Answer {
     /// An answer with this body, and nothing beside.
     pub fn new(status: u16, kind: Kind, body: Vec<u8>) -> Answer
@@ -265,6 +277,22 @@ impl Answer {
         body.extend_from_slice(b"{")?;
         push_receiver(&mut body, life, stream, state)?;
         body.extend_from_slice(b"}")?;
+        Ok(Answer::new(200, Kind::Json, body))
+    }
+
+    /// Which messages were got of a stream, in their order.
+    pub fn got(
+        alloc: Global,
+        stream: u32,
+        messages: &[GotMessage<'_>],
+    ) -> Result<Answer, AllocError>
+        ensures head { IfOk result (λ answer. (answer.status ≡ 200) × (answer.kind ≡ AnyKind.Json) × (answer.extra ≡ AnyExtra.None)) }
+        ensures body { IfOk result (λ answer. answer.body.items ≡ got_body stream messages.now) }
+    {
+        let mut body = Vec::new(alloc);
+        push_got_front(&mut body, stream)?;
+        push_got(&mut body, messages)?;
+        body.extend_from_slice(b"]}")?;
         Ok(Answer::new(200, Kind::Json, body))
     }
 

@@ -8,7 +8,7 @@ use crate::spelling::write_answer;
 use crate::{Answer, Call, Reader, Refusal};
 use amo_packet::{MAX_MESSAGE, Message, MessageFault};
 use bytes::BytesMut;
-use http1::{BodySize, Event, Limits, Server, WriteError};
+use http1::{BodySize, Event, Header, Limits, Server, WriteError};
 use httparse::spans::{EMPTY_HEADER_SPAN, HeaderSpan, RequestSpans, Span};
 use std::alloc::{AllocError, Global};
 use std::marker::Model;
@@ -38,6 +38,8 @@ enum Stage {
     Reading,
     /// A request came whole, and waits for its answer.
     Asked,
+    /// The client is told what happens, until it goes.
+    Following,
     /// What is pending is sent, and no more is read.
     Closing,
     /// There is no more to do.
@@ -126,7 +128,8 @@ impl Connection {
     /// Whether more bytes of the client are wanted: else they are left with the system, which holds the client back.
     pub fn wants_input(&self) -> bool {
         match self.stage {
-            Stage::Reading | Stage::Asked => !self.has_ended && self.input.len() < MOST_INPUT,
+            Stage::Reading | Stage::Asked | Stage::Following => !self.has_ended
+                && self.input.len() < MOST_INPUT,
             Stage::Closing => !self.has_ended,
             Stage::Over => false,
         }
@@ -135,6 +138,11 @@ impl Connection {
     /// Whether a request waits for its answer.
     pub fn is_asked(&self) -> bool {
         self.stage == Stage::Asked
+    }
+
+    /// Whether the client is told what happens.
+    pub fn is_following(&self) -> bool {
+        self.stage == Stage::Following
     }
 
     /// Whether there is no more to do.
@@ -222,7 +230,11 @@ impl Connection {
     {
         match self.stage {
             Stage::Reading => {}
-            Stage::Asked | Stage::Closing => return Ok(Some(Step::Wait)),
+            Stage::Following if self.has_ended => {
+                self.close();
+                return Ok(Some(Step::Wait));
+            }
+            Stage::Asked | Stage::Following | Stage::Closing => return Ok(Some(Step::Wait)),
             Stage::Over => return Ok(Some(Step::Over)),
         }
         if self.output.len() > MOST_OUTPUT {
@@ -402,16 +414,46 @@ impl Connection {
         Ok(())
     }
 
-    /// Appends an answer to what is to be sent.
-    fn write(&mut self, answer: &Answer, closes: bool) -> Result<(), AllocError> {
-        let written = write_answer(
-            self.alloc,
-            &mut self.server,
-            &mut self.output,
-            answer,
-            self.is_head,
-            closes,
-        );
+    /// Answers the request that waits for it with what happens from now on (server-sent events, of the HTML standard): [`Connection::tell`] goes on.
+    pub fn follow(&mut self) -> Result<(), AllocError> {
+        if self.stage != Stage::Asked {
+            self.stage = Stage::Over;
+            return Ok(());
+        }
+        let fields = [
+            Header {
+                name: b"cache-control",
+                value: b"no-store",
+            },
+            Header {
+                name: b"content-type",
+                value: b"text/event-stream",
+            },
+        ];
+        let written = self
+            .server
+            .write_response(&mut self.output, 200, b"OK", &fields, BodySize::Unknown);
+        self.stage = Stage::Following;
+        self.settle(written)
+    }
+
+    /// Tells a client that follows what happened, in the text of such events. One that lags too far behind is let go.
+    pub fn tell(&mut self, text: &[u8]) -> Result<(), AllocError> {
+        if self.stage != Stage::Following {
+            return Ok(());
+        }
+        if self.output.len() > MOST_OUTPUT {
+            self.stage = Stage::Over;
+            return Ok(());
+        }
+        let written = self.server.write_data(&mut self.output, text);
+        self.settle(written)
+    }
+
+    /// What could not be written whole ends the connection.
+    fn settle(&mut self, written: Result<(), WriteError>) -> Result<(), AllocError>
+        ensures { self.new ≡ self.old }
+    {
         match written {
             Ok(()) => Ok(()),
             Err(WriteError::OutOfMemory) => {
@@ -423,5 +465,18 @@ impl Connection {
                 Ok(())
             }
         }
+    }
+
+    /// Appends an answer to what is to be sent.
+    fn write(&mut self, answer: &Answer, closes: bool) -> Result<(), AllocError> {
+        let written = write_answer(
+            self.alloc,
+            &mut self.server,
+            &mut self.output,
+            answer,
+            self.is_head,
+            closes,
+        );
+        self.settle(written)
     }
 }

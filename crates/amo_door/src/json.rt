@@ -3,10 +3,10 @@ ghost use Rattle.std.specs.Prelude.{◌≡◌, ◌++◌, OnOk};
 ghost use Rattle.std.specs.List.{flat_map, list_any};
 ghost use Rattle.std.specs.Char.{is_ascii_control};
 ghost use Rattle.std.specs.Str.{chars};
-ghost use Rattle.amo_door.specs.Answer.{count_members, fate_word, host_body, last_value, life_member, network_members, place_members, program_members, receiver_members, refusal_members, sender_members, side_member, stream_members, streams_member, truth};
+ghost use Rattle.amo_door.specs.Answer.{count_members, fate_word, got_front, got_list, got_message, host_body, last_value, life_member, line_front, network_members, next_got, place_members, program_members, receiver_members, refusal_members, sender_members, side_member, stream_members, streams_member, truth};
 ghost use Rattle.amo_door.specs.Json.{escaped, is_text, message_member, quoted};
 
-use crate::{About, Fate, Last, ReceiverState, Refusal, SenderState, Word};
+use crate::{About, Fate, GotMessage, Last, ReceiverState, Refusal, SenderState, Word};
 use amo_object::End;
 use amo_text::{push_decimal, push_hex};
 use std::alloc::AllocError;
@@ -155,6 +155,64 @@ fn truth(value: bool) -> &'static str
     ensures { result.now ≡ truth value }
 {
     if value { "true" } else { "false" }
+}
+
+/// Appends the front of an object about messages that were got of a stream.
+pub(crate) fn push_got_front(text: &mut Vec<u8>, stream: u32) -> Result<(), AllocError>
+    ensures { OnOk result (text.new.items ≡ text.old.items ++ got_front stream) }
+{
+    text.extend_from_slice(b"{\"stream\":")?;
+    push_decimal(text, stream as u64)?;
+    text.extend_from_slice(b",\"got\":[")
+}
+
+/// Appends messages that were got, with commas between them.
+pub(crate) fn push_got(text: &mut Vec<u8>, messages: &[GotMessage<'_>]) -> Result<(), AllocError>
+    ensures { OnOk result (text.new.items ≡ text.old.items ++ got_list messages.now) }
+{
+    match messages {
+        [] => Ok(()),
+        [first, rest @ ..] => {
+            push_got_message(text, first)?;
+            push_more_got(text, rest)
+        }
+    }
+}
+
+/// Appends messages that were got behind another one.
+fn push_more_got(text: &mut Vec<u8>, messages: &[GotMessage<'_>]) -> Result<(), AllocError>
+    ensures { OnOk result (text.new.items ≡ text.old.items ++ flat_map next_got messages.now) }
+{
+    for message in messages {
+        push_next_got(text, message)?;
+    }
+    Ok(())
+}
+
+/// Appends a message that was got behind another one.
+fn push_next_got(text: &mut Vec<u8>, message: &GotMessage<'_>) -> Result<(), AllocError>
+    ensures { OnOk result (text.new.items ≡ text.old.items ++ next_got message.now) }
+{
+    text.extend_from_slice(b",")?;
+    push_got_message(text, message)
+}
+
+/// Appends a message that was got.
+fn push_got_message(text: &mut Vec<u8>, message: &GotMessage<'_>) -> Result<(), AllocError>
+    ensures { OnOk result (text.new.items ≡ text.old.items ++ got_message message.now) }
+{
+    push_line(text, message.line)?;
+    push_message(text, message.message)?;
+    text.extend_from_slice(b"}")
+}
+
+/// Appends the front of an object about a line.
+fn push_line(text: &mut Vec<u8>, line: u64) -> Result<(), AllocError>
+    ensures { OnOk result (text.new.items ≡ text.old.items ++ line_front line) }
+{
+    text.extend_from_slice(b"{\"line\":")?;
+    push_decimal(text, line)?;
+    text.extend_from_slice(b",")
 }
 
 /// Appends what a host is.

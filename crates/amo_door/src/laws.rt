@@ -1,4 +1,4 @@
-//! Laws of the turns of a life: what callers can rely on, however often they ask again and whoever else asks.
+//! Laws of the turns of a life, what callers can rely on however often they ask again and whoever else asks; and of paths, which lead to places.
 //!
 //! These functions do nothing. Their contracts are facts about the definitions, which callers may use.
 ghost use Rattle.std.specs.Prelude.{◌≡◌, ◌+◌, ◌≤◌, ◌==◌, ◌∷◌, [], codes, ℕ, List, Option, Some, None};
