@@ -3,7 +3,7 @@ use Rattle.std.specs.Prelude.{ℕ, Option, None, Some, List, codes}
 use Rattle.amo_door.specs.declared.query.QueryFault.{QueryFault}
 use Rattle.amo_door.specs.declared.query.QueryFault.TheVariants as query
 use Rattle.amo_door.specs.declared.refusal.Refusal.{Refusal}
-use Rattle.amo_door.specs.declared.refusal.Refusal.TheVariants.{Unreadable, Unknown, Repeated, Missing, Wrong, Stray, Token, Origin, NoPlace, NoStream, NoNumber, OtherSide, Method, Slow, Conflict, OtherLife, TooLong, LongTarget, Host, LongHead, Coding, Full, NotNow, Crowded, Version}
+use Rattle.amo_door.specs.declared.refusal.Refusal.TheVariants.{Unreadable, Unknown, Repeated, Missing, Wrong, Stray, Token, Origin, NoPlace, NoStream, NoNumber, OtherSide, Method, Slow, Conflict, OtherLife, TooLong, LongTarget, Host, LongHead, Coding, Full, NotNow, Crowded}
 use Rattle.amo_door.specs.Place.{methods_of}
 
 -- the status of a refusal (RFC 9110, section 15; RFC 6585 for 431)
@@ -32,7 +32,6 @@ status_of Coding = 501
 status_of Full = 503
 status_of NotNow = 503
 status_of Crowded = 503
-status_of Version = 505
 
 -- the word that tells a refusal from others
 abbrev pub word_of : Refusal → List ℕ
@@ -60,7 +59,6 @@ word_of Coding = codes "coding"
 word_of Full = codes "full"
 word_of NotNow = codes "not_now"
 word_of Crowded = codes "crowded"
-word_of Version = codes "version"
 
 -- the methods of a place that was asked by another one
 abbrev pub allow_of : Refusal → Option (List ℕ)

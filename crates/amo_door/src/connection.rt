@@ -1,5 +1,5 @@
 //! A connection of a client.
-ghost use Rattle.std.specs.Prelude.{◌≡◌, ◌≤◌, [], drop, length, IfOk, IfSome, OnErr};
+ghost use Rattle.std.specs.Prelude.{◌≡◌, ◌≤◌, ◌<◌, ◌↔◌, [], drop, length, IfOk, IfSome, IsTrue, OnErr};
 ghost use Rattle.amo_door.specs.Connection.{IsCall, Takes};
 ghost use Rattle.httparse.specs.Spans.{IsRequestWithin};
 
@@ -190,6 +190,13 @@ impl Connection {
         self.output.as_slice()
     }
 
+    /// Whether so much of it waits that no more requests are read.
+    fn has_much_to_send(&self) -> bool
+        ensures { IsTrue result ↔ (MOST_OUTPUT < length self.now.output) }
+    {
+        self.output.len() > MOST_OUTPUT
+    }
+
     /// So many bytes of it were sent.
     pub fn sent(&mut self, count: usize)
         requires { count ≤ length self.old.output }
@@ -237,7 +244,7 @@ impl Connection {
             Stage::Asked | Stage::Following | Stage::Closing => return Ok(Some(Step::Wait)),
             Stage::Over => return Ok(Some(Step::Over)),
         }
-        if self.output.len() > MOST_OUTPUT {
+        if self.has_much_to_send() {
             return Ok(Some(Step::Wait));
         }
         let read = match self.server.read(self.input.as_slice(), spans) {
@@ -392,8 +399,9 @@ impl Connection {
         };
     }
 
-    /// Refuses a request, and reads no more: the rest of it may still come, and is thrown away.
-    fn refuse(&mut self, refusal: Refusal) -> Result<(), AllocError> {
+    /// Refuses the request that has begun, and reads no more: the rest of it may still come, and is thrown away. Where no head has come there is nothing
+    /// to answer, and what is pending is sent.
+    pub fn refuse(&mut self, refusal: Refusal) -> Result<(), AllocError> {
         let answer = Answer::refusal(self.alloc, refusal)?;
         self.write(&answer, true)?;
         self.close();
@@ -442,7 +450,7 @@ impl Connection {
         if self.stage != Stage::Following {
             return Ok(());
         }
-        if self.output.len() > MOST_OUTPUT {
+        if self.has_much_to_send() {
             self.stage = Stage::Over;
             return Ok(());
         }
@@ -477,6 +485,7 @@ impl Connection {
             self.is_head,
             closes,
         );
+        self.is_head = false;
         self.settle(written)
     }
 }

@@ -82,9 +82,6 @@ pub enum Refusal {
     /// Too many connections ask at once.
     #[error("too many ask at once: ask again")]
     Crowded,
-    /// Its version of HTTP is not known here.
-    #[error("only HTTP/1.0 and 1.1 are known here")]
-    Version,
 }
 
 impl Refusal {
@@ -113,7 +110,6 @@ impl Refusal {
             Refusal::LongHead => 431,
             Refusal::Coding => 501,
             Refusal::Full | Refusal::NotNow | Refusal::Crowded => 503,
-            Refusal::Version => 505,
         }
     }
 
@@ -146,7 +142,6 @@ impl Refusal {
             Refusal::Full => "full",
             Refusal::NotNow => "not_now",
             Refusal::Crowded => "crowded",
-            Refusal::Version => "version",
         }
     }
 
