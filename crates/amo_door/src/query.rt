@@ -65,11 +65,17 @@ pub enum QueryFault {
 /// What a query gives, each as it stands there. No value that is taken needs an escape, and none is undone.
 #[derive(Clone, Copy, Debug)]
 pub struct Query<'a> {
+    /// The life of the host that is meant.
     pub life: Option<&'a [u8]>,
+    /// The caller.
     pub by: Option<&'a [u8]>,
+    /// The number that is claimed.
     pub number: Option<&'a [u8]>,
+    /// How many seconds the answer may take.
     pub wait: Option<&'a [u8]>,
+    /// What is waited for.
     pub until: Option<&'a [u8]>,
+    /// The number of the journal's line behind which to begin.
     pub after: Option<&'a [u8]>,
 }
 
