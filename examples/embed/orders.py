@@ -1,0 +1,129 @@
+#!/usr/bin/env python3
+"""Hands orders from a table to `amo send`, each to be carried out once, and learns what became of each: over crashes of this program and of both hosts.
+
+    orders.py TABLE add TEXT                         writes an order into the table
+    orders.py TABLE show                             prints each order with its state
+    orders.py TABLE send JOURNAL PEER AMO send ..    sends what is new, by the command that follows; PEER is the other host's journal, or -
+    orders.py TABLE work JOURNAL AMO                 carries out what the host that receives has got, until it is ended
+
+An order is new, sent (nothing is known of it yet), done, or in doubt: it may have been carried out, or may still be. Only what is new is sent.
+docs/EMBEDDING.md tells why each step stands where it does.
+"""
+
+import json
+import sqlite3
+import subprocess
+import sys
+import threading
+import time
+
+STATES = {"got": "done", "gone": "new", "open": "sent"}
+
+
+class Orders:
+    def __init__(self, path):
+        self.base = sqlite3.connect(path, timeout=30, isolation_level=None)
+        self.base.execute("PRAGMA synchronous = FULL")
+        self.base.execute("CREATE TABLE IF NOT EXISTS orders (id INTEGER PRIMARY KEY, text TEXT, state TEXT DEFAULT 'new')")
+        self.base.execute("CREATE TABLE IF NOT EXISTS work (line INTEGER PRIMARY KEY, text TEXT)")
+
+    def add(self, text):
+        self.base.execute("INSERT INTO orders (text) VALUES (?)", (text,))
+
+    def of(self, *states):
+        return [row for row in self.base.execute("SELECT id, text, state FROM orders ORDER BY id").fetchall() if row[2] in states]
+
+    def mark(self, number, state):
+        self.base.execute("UPDATE orders SET state = ? WHERE id = ?", (state, number))
+
+
+def outcomes(amo, *journals):
+    """What is told of each order that was put, by the number that its message begins with: of its last put. None where the journals tell nothing now."""
+    ran = subprocess.run([amo, "outcomes", *journals, "--json"], stdout=subprocess.PIPE, stderr=subprocess.DEVNULL, check=False)
+    if ran.returncode:
+        return None
+    return {int(it["text"].split(" ")[0]): it["outcome"] for it in map(json.loads, ran.stdout.splitlines())}
+
+
+def settle(orders, amo, journal, peer):
+    """Learns what became of what was handed to a host: of what the journal does not have, nothing was put."""
+    # A host at work may be in the middle of a line.
+    while (known := outcomes(amo, journal)) is None:
+        time.sleep(0.05)
+    by_both = (outcomes(amo, journal, peer) if peer != "-" else None) or {}
+    for number, _, _ in orders.of("sent", "doubt"):
+        outcome = known.get(number, "gone")
+        if outcome == "unknown" and by_both.get(number) != "open":
+            outcome = by_both.get(number, "unknown")
+        orders.mark(number, STATES.get(outcome, "doubt"))
+
+
+def start(command):
+    """Starts a host, and waits until it has its journal. One of an earlier life of this program may still have it: that one ends with its input."""
+    while True:
+        host = subprocess.Popen([*command, "--json", "--each"], stdin=subprocess.PIPE, stdout=subprocess.PIPE, stderr=subprocess.PIPE, text=True)
+        for line in host.stderr:
+            if line.startswith("amo: listens on"):
+                threading.Thread(target=host.stderr.read, daemon=True).start()
+                return host
+        host.wait()
+        time.sleep(0.1)
+
+
+def send(orders, journal, peer, command):
+    """One life of a host. What an earlier one left is settled before anything is sent."""
+    host = start(command)
+    sent = {}
+
+    def hand_on(stream):
+        if new := next(queue, None):
+            # First the table: were the line first, and this program killed behind it, the order would be sent again.
+            orders.mark(new[0], "sent")
+            sent[stream] = new[0]
+            print(stream, *new[:2], file=host.stdin, flush=True)
+
+    try:
+        # It notes the crash before it: what waited then is gone.
+        time.sleep(0.2)
+        settle(orders, command[0], journal, peer)
+        queue = iter(orders.of("new"))
+        for stream in range(1, int(command[command.index("--streams") + 1]) + 1):
+            hand_on(stream)
+        while sent and (line := host.stdout.readline()):
+            told = json.loads(line)
+            if told["event"] in ("yes", "no"):
+                orders.mark(sent.pop(told["stream"]), "done" if told["event"] == "yes" else "doubt")
+                hand_on(told["stream"])
+    except BrokenPipeError:
+        pass
+    finally:
+        host.kill()
+        host.wait()
+
+
+def work(orders, journal, amo):
+    """Carries out each message once: its line in the journal is kept in the same transaction as the work."""
+    while True:
+        (last,) = orders.base.execute("SELECT MAX(line) FROM work").fetchone()
+        after = [] if last is None else ["--after", str(last)]
+        ran = subprocess.run([amo, "got", journal, *after, "--json"], stdout=subprocess.PIPE, stderr=subprocess.DEVNULL, check=False)
+        for it in map(json.loads, ran.stdout.splitlines()):
+            orders.base.execute("INSERT INTO work VALUES (?, ?)", (it["number"], it["text"]))
+        time.sleep(0.1)
+
+
+def main(table, act, *words):
+    orders = Orders(table)
+    if act == "add":
+        orders.add(*words)
+    elif act == "show":
+        print(*("\t".join(map(str, row)) for row in orders.of("new", "sent", "done", "doubt")), sep="\n")
+    elif act == "send":
+        while orders.of("new", "sent"):
+            send(orders, *words[:2], words[2:])
+    else:
+        work(orders, *words)
+
+
+if __name__ == "__main__":
+    main(*sys.argv[1:])
