@@ -1,10 +1,12 @@
 -- What waits is lost but for a part of the messages got, from the end on.
-use Rattle.std.proofs.Common.{◌≡◌, ◌↔◌, ℕ, zero, suc, ◌+◌, ◌-◌, ◌<◌, ◌≤◌, ◌==◌, ◌||◌, ◌⊎◌, Bool, true, false, if◌then◌else◌, List, [], ◌∷◌, ◌++◌, length, take, drop, remove, get_or, refl, sym, ◌∙◌, ap, subst, inl, inr, arith}
+use denote.Enum.Bare.{sameb}
+use Rattle.std.proofs.Common.{◌≡◌, ◌↔◌, ℕ, zero, suc, ◌+◌, ◌-◌, ◌<◌, ◌≤◌, ◌==◌, ◌||◌, ◌⊎◌, Bool, true, false, not, if◌then◌else◌, List, [], ◌∷◌, ◌++◌, length, take, drop, remove, get_or, refl, sym, ◌∙◌, ap, subst, inl, inr, arith}
 use Rattle.std.proofs.lemmas.Bool.{ne_eqb, cases_eq, cases_lt}
 use Rattle.std.proofs.lemmas.List.{append-nil, length-append, drop-drop, drop_more, drop_all, take_all, get_or-drop, length-drop, length-take}
 use Rattle.std.proofs.lemmas.List.Edits.{length-remove}
 use Rattle.amo_object.specs.declared.status.Status.{Status}
-use Rattle.amo_object.specs.declared.status.Status.TheVariants.{No}
+use Rattle.amo_object.specs.contracts.status.Status.{the_type}
+use Rattle.amo_object.specs.declared.status.Status.TheVariants.{Yes, No, Open}
 use Rattle.amo_object.specs.declared.step.Step.TheVariants.{Lose, LoseAck}
 use Rattle.amo_object.specs.Queue.{QueueState, Allows, after, settled}
 use Rattle.amo_object.specs.Delivery.{IsSubsequence}
@@ -242,6 +244,22 @@ denied_settled q now lost wanted s is = subst (λ (x : QueueState). Settles q x 
   kept = λ up. absurd cc;
   sound = λ sound. tt;
 })
+
+pub is_no : (s : Status) (told : Bool) → told ≡ not (sameb the_type s No) → told ≡ false → s ≡ No
+is_no Yes told is e = let both : true ≡ false = sym is ∙ e in cc
+is_no No told is e = refl
+is_no Open told is e = let both : true ≡ false = sym is ∙ e in cc
+
+-- where nothing was known of it already, nothing more is lost
+pub denied_already : (q now : QueueState) (wanted : List (List ℕ)) → Settles q now wanted false → now.status ≡ No → Settles q now wanted true
+denied_already q now wanted s settled = record {
+  messages = s.messages;
+  sender = s.sender;
+  receiver = s.receiver;
+  denied = λ told. settled;
+  kept = λ up. absurd cc;
+  sound = s.sound;
+}
 
 last_behind : (xs ys : List (List ℕ)) (y : List ℕ) → last (xs ++ y ∷ ys) ≡ last (y ∷ ys)
 last_behind [] ys y = refl

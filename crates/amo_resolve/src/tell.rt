@@ -121,7 +121,7 @@ impl<'a> Told<'a> {
             return Ok(false);
         }
         self.queue.known = end;
-        if is_told_no {
+        if is_told_no && self.queue.status != Status::No {
             self.draft.add_loss(Loss::Answer)?;
             self.queue.status = Status::No;
         }

@@ -4,9 +4,10 @@ use Rattle.amo_object.specs.declared.step.Step.TheVariants.{LoseAck}
 use Rattle.amo_object.specs.Queue.{QueueState, after}
 use Rattle.amo_resolve.specs.Telling.{Settles, part, known_of, state_of, state_before}
 use Rattle.amo_resolve.specs.Weaving.{LeadsTo}
-use Rattle.amo_resolve.proofs.Losing.{looking, looked_on, all_behind, settles_all, denied_settled, losing_refused, losing_down}
+use Rattle.amo_resolve.proofs.Losing.{looking, looked_on, all_behind, settles_all, denied_settled, denied_already, is_no, losing_refused, losing_down}
 use Rattle.amo_resolve.proofs.Runs.{lost_on, lost_then}
 use Rattle.amo_resolve.proofs.tell.Told.lose_to.Goals as goal
+use Rattle.amo_resolve.proofs.tell.Told.lose_to.Goals.{else-is_told_no-via-then-is_told_no+else-ne, else-is_told_no-via-else-is_told_no}
 
 pub loop-self-init : goal.loop-self-init
 loop-self-init c =
@@ -78,4 +79,10 @@ returns-else-is_told_no-clause-settled c = λ yes.
     let wanted = take c.args.count (drop old.first got) in
     let none = nil_from_length r.others (omega (arith, c.loop-self-test.false, c.len.ensures.length)) in
     let s = settles_all got wanted old r end c.loop-self.left _ i.losing i.first none (omega (arith, c.if-left-max.false, c.max.ensures, i.first, i.known, i.losing.from)) c.part_end-end.ensures.whole in
-    subst (λ (told : Bool). Settles (state_of got old) (state_of got (record r { known = end })) wanted told) (sym c.if-is_told_no.false) s
+    let here : QueueState = state_of got (record r { known = end }) in
+    elim c.else-is_told_no.branch [
+      else-is_told_no-via-then-is_told_no+else-ne w ↦
+        subst (λ (told : Bool). Settles (state_of got old) here wanted told) (sym w.if-is_told_no.true) (denied_already (state_of got old) here wanted s (is_no r.status w.ne.result w.ne.ensures w.if-ne.false))
+    | else-is_told_no-via-else-is_told_no w ↦
+        subst (λ (told : Bool). Settles (state_of got old) here wanted told) (sym w.if-is_told_no.false) s
+    ]
