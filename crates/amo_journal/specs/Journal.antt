@@ -57,6 +57,12 @@ HasAct version side stream act.Crash = Unit {0}
 HasAct version side stream act.Recover = Unit {0}
 HasAct version side stream _ = ⊥
 
+-- the act tells of a batch: it starts one, or delivers one
+abbrev pub TellsOfBatch : Act → Type 0
+TellsOfBatch (act.Batch word) = Unit {0}
+TellsOfBatch (act.Deliver packet word) = version_of packet.body ≡ 2
+TellsOfBatch _ = ⊥
+
 -- the replies of an act
 abbrev pub HasReply : Act → Reply → Type 0
 HasReply (act.Put m) reply.Ok = Unit {0}

@@ -6,7 +6,7 @@ ghost use Rattle.amo_journal.specs.declared.numbered.Numbered.{Numbered};
 ghost use Rattle.amo_journal.specs.Version.{Opens};
 ghost use Rattle.amo_journal.specs.Journal.{CanSpell, InRange, ReadsAsLine, line_text};
 
-use crate::spelling::has_line;
+use crate::spelling::keeps_line;
 use crate::writing::push_line;
 use crate::{JournalFault, Numbered, Version};
 use amo_text::{LineItem, Sink, item_in_front, next_line, write_all};
@@ -80,7 +80,7 @@ pub fn read_line(
     let Some(line) = Numbered::read(alloc, text)? else {
         return Ok(None);
     };
-    if has_line(version, &line.event) {
+    if keeps_line(version, &line.event) {
         Ok(Some(line))
     } else {
         Ok(None)
@@ -99,7 +99,7 @@ pub fn line_in_front(
     let Some((line, text)) = item_in_front::<Numbered>(alloc, text)? else {
         return Ok(None);
     };
-    if has_line(version, &line.event) {
+    if keeps_line(version, &line.event) {
         Ok(Some((line, Lines { version, text })))
     } else {
         Ok(None)

@@ -5,7 +5,7 @@ ghost use Rattle.amo_packet.specs.Batch.{messages};
 ghost use Rattle.hex.specs.Hex.{IsBytes};
 ghost use Rattle.amo_packet.specs.Grammar.{IsSpellable, messages_of};
 ghost use Rattle.amo_text.specs.Message.{IsMessage};
-ghost use Rattle.amo_journal.specs.Journal.{CanSpell, HasAct, HasReply, IsPacketOf};
+ghost use Rattle.amo_journal.specs.Journal.{CanSpell, HasAct, HasReply, IsPacketOf, TellsOfBatch};
 ghost use Rattle.amo_journal.specs.Version.{HasBatches};
 
 use crate::Version;
@@ -46,6 +46,7 @@ fn have_lines(version: Version, events: &[Event]) -> bool
 }
 
 /// Whether the event has a line in a journal of this version.
+#[inline(always)]
 pub(crate) fn has_line(version: Version, event: &Event) -> bool
     ensures { IsTrue result ↔ CanSpell version event.now }
 {
@@ -56,7 +57,31 @@ pub(crate) fn has_line(version: Version, event: &Event) -> bool
         && has_reply(&event.act, &event.reply)
 }
 
+/// Whether an event that has a line in a journal of version 2 has one in a journal of this version, too.
+#[inline(always)]
+pub(crate) fn keeps_line(version: Version, event: &Event) -> bool
+    requires { CanSpell Version.Two event.now }
+    ensures { IsTrue result ↔ CanSpell version event.now }
+{
+    has_batches(version) || !tells_of_batch(&event.act)
+}
+
+/// Whether the act is the start of a batch or the delivery of one.
+fn tells_of_batch(act: &Act) -> bool
+    ensures { IsTrue result ↔ TellsOfBatch act.now }
+{
+    match act {
+        Act::Batch(_) => true,
+        Act::Deliver(packet, _) => match packet.body {
+            OwnedBody::Batch(_, _) => true,
+            _ => false,
+        },
+        _ => false,
+    }
+}
+
 /// Whether the act is one of this side of this stream.
+#[inline(always)]
 fn has_act(version: Version, side: End, stream: u32, act: &Act) -> bool
     ensures { IsTrue result ↔ HasAct version side stream act.now }
 {
@@ -74,6 +99,7 @@ fn has_act(version: Version, side: End, stream: u32, act: &Act) -> bool
 }
 
 /// Whether the reply is one of this act's.
+#[inline(always)]
 fn has_reply(act: &Act, reply: &Reply) -> bool
     ensures { IsTrue result ↔ HasReply act.now reply.now }
 {
@@ -103,6 +129,7 @@ fn has_batches(version: Version) -> bool
 }
 
 /// Whether it is a packet of this stream, and of a version that has lines.
+#[inline(always)]
 fn is_packet_of(version: Version, stream: u32, packet: &OwnedPacket) -> bool
     ensures { IsTrue result ↔ IsPacketOf version stream packet.now }
 {

@@ -2,6 +2,8 @@
 ghost use Rattle.std.specs.Prelude.{◌≡◌, ◌<◌, ◌++◌, ◌∷◌, length, IfSome, IfNone};
 ghost use Rattle.amo_text.specs.Line.{Lacks};
 
+use memchr::memchr;
+
 /// What stands before the first such byte, and what stands after it.
 pub fn cut(text: &[u8], byte: u8) -> Option<(&[u8], &[u8])>
     ensures found { IfSome result (λ parts. (text.now ≡ parts.0.now ++ byte ∷ parts.1.now) × Lacks byte parts.0.now) }
@@ -22,7 +24,8 @@ pub fn next_line(text: &[u8]) -> Option<(&[u8], &[u8])>
     ensures shorter { IfSome result (λ parts. length parts.1.now < length text.now) }
     ensures none { IfNone result (Lacks 10 text.now) }
 {
-    cut(text, b'\n')
+    let end = memchr(b'\n', text)?;
+    Some((&text[..end], &text[end + 1..]))
 }
 
 /// The first field and what stands behind the space after it, where there is a space. A field may be empty.

@@ -8,5 +8,5 @@ pub returns-clause-none : goal.returns-clause-none
 returns-clause-none c = λ line more known text.
     let here = rw c.in-Some.is at c.in_ok-line.ensures.some in
     let same = same_front Two _ line _ more here.0 (line_in_two c.args.lines.version line known) (sym here.1 ∙ text) in
-    let told = c.if-has_line.ensures.1 (rw same known.1) in
+    let told = c.if-keeps_line.ensures.1 (rw same known.1) in
     cc
