@@ -4,7 +4,7 @@ use Rattle.clap.specs.Words.{Text}
 use Rattle.amo_settings.specs.Limits.{IsWithin}
 use Rattle.amo_arguments.specs.Chosen.{Chooses, ChoosesBy, Met}
 use Rattle.amo_settings.specs.declared.settings.Settings.{Settings}
-use Rattle.amo_settings.specs.declared.settings.Settings.TheVariants.{Replay, Run, Send, Receive, Audit, Explain, Outcomes, Got, Manual, Completions}
+use Rattle.amo_settings.specs.declared.settings.Settings.TheVariants.{Replay, Run, Send, Receive, Stop, Audit, Explain, Outcomes, Got, Manual, Completions}
 
 -- by each command
 within_by : (met : Met) (chosen : Settings) → ChoosesBy met chosen → IsWithin chosen
@@ -12,6 +12,7 @@ within_by met (Replay file) h = tt
 within_by met (Run settings file) h = h.2.0.within
 within_by met (Send send) h = h.2.host.within
 within_by met (Receive receive) h = h.2.host.within
+within_by met (Stop file) h = tt
 within_by met (Audit file second) h = tt
 within_by met (Explain file second) h = tt
 within_by met (Outcomes settings) h = tt

@@ -16,7 +16,7 @@ use Rattle.amo_settings.specs.declared.settings.OutcomesSettings.{OutcomesSettin
 use Rattle.amo_settings.specs.declared.settings.ReceiveSettings.{ReceiveSettings}
 use Rattle.amo_settings.specs.declared.settings.SendSettings.{SendSettings}
 use Rattle.amo_settings.specs.declared.settings.Settings.{Settings}
-use Rattle.amo_settings.specs.declared.settings.Settings.TheVariants.{Replay, Run, Send, Receive, Audit, Explain, Outcomes, Got, Manual, Completions}
+use Rattle.amo_settings.specs.declared.settings.Settings.TheVariants.{Replay, Run, Send, Receive, Stop, Audit, Explain, Outcomes, Got, Manual, Completions}
 use Rattle.amo_settings.specs.declared.settings.Shell.{Shell}
 use Rattle.amo_settings.specs.declared.settings.Shell.TheVariants.{Bash, Zsh, Fish}
 
@@ -104,10 +104,12 @@ pub record HasHost (rows : List Row) (host : HostSettings) : Type 0 where
   pub streams : HasNumber rows (codes "streams") host.streams
   pub journal : HasJournal rows (string_bytes host.journal)
   pub tick : HasNumber rows (codes "tick") host.tick
+  pub tick_most : HasNumberOrNone rows (codes "tick-most") host.tick_most
   pub json : HasFlag rows (codes "json") host.json
   pub sync : HasFlag rows (codes "sync") host.sync
   pub wait : HasNumberOrNone rows (codes "wait") host.wait
   pub piece : HasNumberOrNone rows (codes "piece") host.piece
+  pub stats : HasNumberOrNone rows (codes "stats") host.stats
   pub within : IsHostWithin host
 
 -- the matches of `send` have these values, of which no two contradict each other
@@ -144,6 +146,7 @@ ChoosesBy met (Replay file) = (rows : List Row) × (met ≡ Some (codes "replay"
 ChoosesBy met (Run settings file) = (rows : List Row) × (met ≡ Some (codes "run", rows)) × ChoosesRun rows (Run settings file)
 ChoosesBy met (Send send) = (rows : List Row) × (met ≡ Some (codes "send", rows)) × HasSend rows send
 ChoosesBy met (Receive receive) = (rows : List Row) × (met ≡ Some (codes "receive", rows)) × HasReceive rows receive
+ChoosesBy met (Stop file) = (rows : List Row) × (met ≡ Some (codes "stop", rows)) × HasText rows (codes "FILE") (string_bytes file)
 ChoosesBy met (Audit file second) = (rows : List Row) × (met ≡ Some (codes "audit", rows))
     × HasText rows (codes "FILE") (string_bytes file) × HasTextOrNone rows (codes "SECOND") (option_map string_bytes second)
 ChoosesBy met (Explain file second) = (rows : List Row) × (met ≡ Some (codes "explain", rows))

@@ -81,14 +81,18 @@ placed name = with_rule (with_rule (with_rule (with_rule (new_app name) (text (c
 -- and what else both may be told
 abbrev pub host : Text → App
 host name =
-    with_rule (with_rule (with_rule (with_rule (with_rule (placed name) tick) (flag (codes "json"))) (flag (codes "sync"))) (optional_number (codes "wait") 0 1000000))
-    (optional_number (codes "piece") 1024 1000000000000)
+    with_rule (with_rule (with_rule (with_rule (with_rule (with_rule (with_rule (placed name) tick) (optional_number (codes "tick-most") 1 3600000000))
+    (flag (codes "json"))) (flag (codes "sync"))) (optional_number (codes "wait") 0 1000000)) (optional_number (codes "piece") 1024 1000000000000))
+    (optional_number (codes "stats") 1 1000000)
 
 abbrev pub send : App
 send = with_rule (with_rule (with_rule (host (codes "send")) (flag (codes "each"))) (flag (codes "batch"))) (flag (codes "hex"))
 
 abbrev pub receive : App
 receive = with_rule (host (codes "receive")) (optional_number (codes "count") 0 18446744073709551615)
+
+abbrev pub stop : App
+stop = with_rule (new_app (codes "stop")) file
 
 abbrev pub audit : App
 audit = with_rule (with_rule (new_app (codes "audit")) file) second_file
@@ -113,7 +117,7 @@ abbrev pub bare : App
 bare = let app = new_app (codes "amo") in record app { top = record app.top { has_version = true; subcommand_required = true; arg_required_else_help = true } }
 
 abbrev pub acting : Names → App
-acting links = with_subcommand (with_subcommand (with_subcommand (with_subcommand bare replay.top) (run links).top) send.top) receive.top
+acting links = with_subcommand (with_subcommand (with_subcommand (with_subcommand (with_subcommand bare replay.top) (run links).top) send.top) receive.top) stop.top
 
 abbrev pub before_manual : Names → App
 before_manual links = with_subcommand (with_subcommand (with_subcommand (with_subcommand (acting links) audit.top) explain.top) outcomes.top) got.top

@@ -7,9 +7,11 @@ ghost use Rattle.amo_arguments.specs.Arguments.{AreTaken, IsRefusalOf, IsToldOf}
 ghost use Rattle.amo_arguments.specs.Chosen.{Chooses, ChoosesBy, ChoosesRun, HasAddress, HasFlag, HasGot, HasHost, HasJournal, HasNoSeed, HasNumber, HasNumberOrNone, HasOutcomes, HasReceive, HasSend, HasText, HasTextOrNone, LacksSeed, Matches, MeetsSeedless, link_name, shell_name};
 
 use crate::ArgumentsFault;
-use crate::commands::{CLIENTS, CRASHES, LEAST_PIECE, PIECE, PUMPS, STREAMS, TICK, WAIT, command};
+use crate::commands::{
+    CLIENTS, CRASHES, LEAST_PIECE, PIECE, PUMPS, STATS, STREAMS, TICK, TICK_MOST, WAIT, command,
+};
 use crate::refusal::{Refusal, Unfit, told};
-use crate::values::{check_address, check_apart, number_in};
+use crate::values::{check_address, check_apart, check_ceiling, number_in};
 use amo_settings::{
     GotSettings, HostSettings, LinkKind, OutcomesSettings, ReceiveSettings, RunSettings,
     SendSettings, Settings, Shell,
@@ -67,6 +69,9 @@ fn parse(alloc: Global, matches: &ArgMatches<'_>) -> Result<Option<Settings>, Un
     }
     if let Some(receive) = matches.subcommand_matches("receive") {
         return Ok(Some(Settings::Receive(parse_receive(alloc, receive)?)));
+    }
+    if let Some(stop) = matches.subcommand_matches("stop") {
+        return Ok(Some(Settings::Stop(text_of(alloc, stop, "FILE")?)));
     }
     if let Some(audit) = matches.subcommand_matches("audit") {
         let file = text_of(alloc, audit, "FILE")?;
@@ -197,20 +202,25 @@ fn parse_host(alloc: Global, matches: &ArgMatches<'_>) -> Result<HostSettings, U
     let streams = number_of(alloc, matches, "streams", 1, STREAMS)?;
     let journal = journal_of(alloc, matches)?;
     let tick = number_of(alloc, matches, "tick", 1, TICK)?;
+    let tick_most = number_or_none_of(alloc, matches, "tick-most", 1, TICK_MOST)?;
+    check_ceiling(alloc, tick, tick_most)?;
     let json = flag_of(alloc, matches, "json")?;
     let sync = flag_of(alloc, matches, "sync")?;
     let wait = number_or_none_of(alloc, matches, "wait", 0, WAIT)?;
     let piece = number_or_none_of(alloc, matches, "piece", LEAST_PIECE, PIECE)?;
+    let stats = number_or_none_of(alloc, matches, "stats", 1, STATS)?;
     Ok(HostSettings {
         listen,
         peer,
         streams,
         journal,
         tick,
+        tick_most,
         json,
         sync,
         wait,
         piece,
+        stats,
     })
 }
 

@@ -20,10 +20,15 @@ pub(crate) const CRASHES: u32 = 1000;
 
 pub(crate) const PUMPS: u32 = 4;
 
-/// The greatest numbers of a host: of microseconds in its tick, and of seconds that it waits at its end.
+/// The greatest numbers of a host: of microseconds in its tick, of those up to which it grows, of seconds that it waits at its end, and of seconds
+/// between its figures.
 pub(crate) const TICK: u32 = 60_000_000;
 
+pub(crate) const TICK_MOST: u64 = 3_600_000_000;
+
 pub(crate) const WAIT: u64 = 1_000_000;
+
+pub(crate) const STATS: u64 = 1_000_000;
 
 /// How many bytes a piece of a journal has at least, and at most, before another one is begun.
 pub(crate) const LEAST_PIECE: u64 = 1024;
@@ -64,10 +69,12 @@ fn acting<'a>(alloc: Global) -> Result<Command<'a>, AllocError>
     let run = run(alloc)?;
     let send = send(alloc)?;
     let receive = receive(alloc)?;
+    let stop = stop(alloc)?;
     bare.subcommand(replay)?
         .subcommand(run)?
         .subcommand(send)?
-        .subcommand(receive)
+        .subcommand(receive)?
+        .subcommand(stop)
 }
 
 /// The program without its commands.
@@ -215,6 +222,14 @@ fn host<'a>(
             "Its journal, which is begun, or gone on with",
         ))?
         .arg(tick(alloc))?
+        .arg(optional_number(
+            alloc,
+            "tick-most",
+            "MICROSECONDS",
+            1,
+            TICK_MOST,
+            "How long it waits at most before it is sent once more, 1 to 3600000000; 64 ticks if absent",
+        ))?
         .arg(flag(alloc, "json", "Prints each line as a JSON object"))?
         .arg(flag(
             alloc,
@@ -236,7 +251,22 @@ fn host<'a>(
             LEAST_PIECE,
             PIECE,
             "How long its journal is when it begins a new piece, 1024 to 1000000000000",
+        ))?
+        .arg(optional_number(
+            alloc,
+            "stats",
+            "SECONDS",
+            1,
+            STATS,
+            "Tells its figures on standard error as often, and at its end, 1 to 1000000",
         ))
+}
+
+fn stop<'a>(alloc: Global) -> Result<Command<'a>, AllocError>
+    ensures { IfOk result (described.IsCommand described.stop) }
+{
+    with_texts(alloc, "stop", texts::STOP_ABOUT, texts::STOP_AFTER_HELP)
+        .arg(file(alloc, "The journal of the host"))
 }
 
 fn audit<'a>(alloc: Global) -> Result<Command<'a>, AllocError>

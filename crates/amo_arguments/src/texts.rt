@@ -11,6 +11,7 @@ pub(crate) const AFTER_HELP: &str = "Examples:
     --seed 0000000000000000000000000000000000000000000000000000000000000000
   amo receive --listen 127.0.0.1:7002 --peer 127.0.0.1:7001 --streams 8 --journal receive.journal
   amo send --listen 127.0.0.1:7001 --peer 127.0.0.1:7002 --streams 8 --journal send.journal
+  amo stop send.journal
   amo audit examples/good_journal.journal
   amo explain examples/good_journal.journal
   amo outcomes send.journal receive.journal
@@ -125,8 +126,13 @@ Output, a line of which each is of the message that was put last to the stream:
   STREAM no      a host crashed: it may or may not have been got
 With --json: {\"stream\":1,\"event\":\"ok\"}, and so on.
 
-At the end of standard input the host goes on until all is answered, or as long as --wait says.
+At the end of standard input, and once `amo stop FILE` asks it to, the host takes no more lines, and
+goes on until all is answered, or as long as --wait says. A line that had no `ok` by then was not put.
 SIGTERM and SIGINT end it at once, which is a crash like any other.
+
+What has no answer is sent again after --tick, then after twice as long, and so on up to --tick-most.
+With --stats the host tells on standard error, as often and at its end, how much it did, what came and
+was dropped, and how long handshakes took.
 
 ADDR is HOST:PORT. The other host is `amo receive`, with as many streams and with both addresses the
 other way round. What does not come from there is dropped, but nothing is authenticated: use a
@@ -172,8 +178,10 @@ With --json: {\"stream\":1,\"event\":\"got\",\"text\":\"TEXT\"}, or \"hex\":\"HE
 
 The host reads no standard input. It ends once it got as many messages as --count says, and those
 that came in one batch with the last of them, and then waits for what is still on its way: as long as
---wait says, or else for a second at most. SIGTERM and SIGINT end it at once, which is a crash like
-any other. Where nobody reads its output any more it fails.
+--wait says, or else for a second at most. So it does once `amo stop FILE` asks it to: what has come
+is shown, and nothing more is accepted. SIGTERM and SIGINT end it at once, which is a crash like any
+other. Where nobody reads its output any more it fails. --tick, --tick-most and --stats are as of
+`amo send`.
 
 Messages may come together, from a host with --batch. A new journal is of version 2, which has lines
 for that. One of version 1 is gone on with as it is: what comes together is dropped, and told once.
@@ -201,6 +209,27 @@ Status:
 
 Example:
   amo receive --listen 127.0.0.1:7002 --peer 127.0.0.1:7001 --streams 8 --journal receive.journal";
+
+pub(crate) const STOP_ABOUT: &str = "Has a host come to its end, and waits until it has";
+
+pub(crate) const STOP_AFTER_HELP: &str =
+    "FILE is the journal of the host, as --journal names it. A host that sends takes no more lines, and goes
+on until all that was put is answered. One that receives accepts nothing more, and shows what has
+come. Either waits for what is on its way as long as its own --wait says.
+
+The host is asked by the socket FILE.stop, which is there while it is at work, and which its owner
+alone may use. Where the name is longer than the system allows for sockets, 107 bytes, the host says
+so at its start, and cannot be asked.
+
+Status, which is the host's own:
+  0  it ended, and all is answered
+  2  it ended, and its last line had no end
+  4  it failed
+     `amo: FILE: no host has it in use`, or what the system says of FILE.stop, on standard error
+  5  its --wait is over, and something is still on its way
+
+Example:
+  amo stop send.journal";
 
 pub(crate) const AUDIT_ABOUT: &str =
     "Audits a journal, or those of two processes, and prints a line with the verdict";

@@ -1,5 +1,5 @@
 //! What the text of an argument has to be: a number within its limits, an address.
-ghost use Rattle.std.specs.Prelude.{◌≡◌, ◌≢◌, ℕ, ◌≤◌, ◌++◌, ◌∷◌, List, IfErr, IfNone, IfOk, IfSome, MatchOption, OnOk};
+ghost use Rattle.std.specs.Prelude.{◌≡◌, ◌≢◌, ℕ, ◌<◌, ◌≤◌, ◌++◌, ◌∷◌, List, IfErr, IfNone, IfOk, IfSome, MatchOption, OnOk};
 ghost use Rattle.std.specs.Fmt.{decimal};
 ghost use Rattle.amo_text.specs.Line.{Lacks};
 ghost use Rattle.amo_arguments.specs.Arguments.{BlamesIf};
@@ -107,6 +107,22 @@ fn behind_last(text: &[u8], byte: u8) -> Option<&[u8]>
         rest = further;
     }
     Some(rest)
+}
+
+/// Refuses a longest interval that is shorter than the first one.
+pub(crate) fn check_ceiling(alloc: Global, tick: u32, most: Option<u64>) -> Result<(), Unfit>
+    ensures fits { OnOk result (IfSome most (λ most. tick ≤ most)) }
+    ensures refused { IfErr result (BlamesIf (IfSome most (λ most. most < tick))) }
+{
+    let Some(most) = most else {
+        return Ok(());
+    };
+    if u64::from(tick) <= most {
+        return Ok(());
+    }
+    Err(Unfit::Value(format!(in alloc;
+        "--tick-most {most}: give --tick, which is {tick}, or more"
+    )?))
 }
 
 /// Refuses a host that would be its own peer: nothing ever comes of that.

@@ -73,6 +73,7 @@ impl<L: Link, S: Sink> Host<L, S> {
         let is_repeated = self.is_repetition(stream, &Act::Resend)?;
         if is_repeated {
             self.pump.repeat(stream, now);
+            self.traffic.again = self.traffic.again.saturating_add(1);
         }
         Ok(is_repeated)
     }

@@ -11,7 +11,7 @@ ghost use Rattle.amo_live.specs.Host.{IsNoted, IsOpened, sides_from};
 ghost use Rattle.amo_live.specs.Noted.{Holds};
 
 use crate::outbox::Outbox;
-use crate::{Durable, GivenWord, Journal, LiveFault};
+use crate::{Durable, GivenWord, Journal, LiveFault, Traffic};
 use amo_book::{Book, OpenFault, Pass};
 use amo_core::Mode;
 use amo_host::{NewPumpFault, Pump};
@@ -42,6 +42,7 @@ pub struct Host<L, S> {
     pub(crate) room: [u8; MAX_PACKET],
     pub(crate) outbox: Outbox,
     pub(crate) journal: Journal<S>,
+    pub(crate) traffic: Traffic,
 }
 
 impl<L, S> Model for Host<L, S> {
@@ -96,6 +97,7 @@ impl<L: Link + Drop, S: Sink + Drop> Host<L, S> {
                     room: [0; MAX_PACKET],
                     outbox,
                     journal,
+                    traffic: Traffic::default(),
                 })
             }
             Err(OpenFault::NoMemory) => Err(LiveFault::NoMemory),
@@ -111,7 +113,17 @@ impl<L: Link, S: Sink> Host<L, S> {
         ensures heard { IfSome result (λ _. L.failures self.new.link ≡ L.failures self.old.link) }
         ensures same { self.new ≡ record self.old { link = self.new.link } }
     {
-        self.link.receive(buffer).unwrap_or(None)
+        match self.link.receive(buffer) {
+            Ok(Some(length)) => {
+                self.traffic.received = self.traffic.received.saturating_add(1);
+                Some(length)
+            }
+            Ok(None) => None,
+            Err(_) => {
+                self.traffic.faults = self.traffic.faults.saturating_add(1);
+                None
+            }
+        }
     }
 
     /// Hands all packets that are to leave to the link, in their order, and answers how often it failed. Of all that the host did by then
@@ -121,7 +133,16 @@ impl<L: Link, S: Sink> Host<L, S> {
         ensures emitted { Each (WasEmitted self.old.pass) self.old.outbox.leaving }
         ensures sent { self.new ≡ record self.old { link = self.new.link; outbox = record self.old.outbox { leaving = [] } } }
     {
-        self.outbox.send(&mut self.link)
+        let leaving = self.outbox.leaving() as u64;
+        let failed = self.outbox.send(&mut self.link);
+        self.traffic.sent = self.traffic.sent.saturating_add(leaving);
+        self.traffic.faults = self.traffic.faults.saturating_add(failed);
+        failed
+    }
+
+    /// What went through its link.
+    pub fn traffic(&self) -> Traffic {
+        self.traffic
     }
 
     /// The version of the journal, which says which events this host can note.

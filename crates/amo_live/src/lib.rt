@@ -35,8 +35,10 @@
 #![tactic(auto)]
 
 mod acts;
+mod bell;
 mod calls;
 mod fault;
+mod figures;
 mod given_word;
 mod host;
 mod host_lives;
@@ -55,12 +57,15 @@ mod ready;
 mod recent;
 mod service;
 mod socket;
+mod stats;
 mod turns;
 mod words;
 
 pub use amo_disk::{Cause, Durable, OpenFault};
 pub use amo_journal::Version;
+pub use bell::Bell;
 pub use fault::{LiveFault, LivesOpenFault, ProcessFault, ServeFault, SocketFault};
+pub use figures::{Dropped, Figures, Times, Traffic};
 pub use given_word::GivenWord;
 pub use host::Host;
 pub use host_lives::HostLives;

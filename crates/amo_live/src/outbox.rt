@@ -100,6 +100,13 @@ impl Outbox {
         Ok(())
     }
 
+    /// How many packets are to leave.
+    pub fn leaving(&self) -> usize
+        ensures { result ≡ length self.now.leaving }
+    {
+        self.parcels.len()
+    }
+
     /// Hands all packets that are to leave to a link, in their order, and answers how often it failed. Then there are none.
     pub fn send<L: Link>(&mut self, link: &mut L) -> u64
         ensures { self.new ≡ record self.old { leaving = [] } }

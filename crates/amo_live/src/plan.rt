@@ -36,7 +36,7 @@ impl Plan {
             setup: Setup {
                 side: End::Sender,
                 streams: host.streams,
-                pace: pace_of(host.tick),
+                pace: pace_of(host.tick, host.tick_most),
                 each: settings.each,
                 batch: settings.batch,
                 most: u64::MAX,
@@ -50,6 +50,7 @@ impl Plan {
                 wait: in_microseconds(host.wait),
                 lingers: false,
                 sync: host.sync,
+                stats: in_microseconds(host.stats),
             },
             piece: host.piece.unwrap_or(PIECE),
         }
@@ -65,7 +66,7 @@ impl Plan {
             setup: Setup {
                 side: End::Receiver,
                 streams: host.streams,
-                pace: pace_of(host.tick),
+                pace: pace_of(host.tick, host.tick_most),
                 each: false,
                 batch: false,
                 most: settings.count.unwrap_or(u64::MAX),
@@ -79,6 +80,7 @@ impl Plan {
                 wait: in_microseconds(host.wait),
                 lingers: true,
                 sync: host.sync,
+                stats: in_microseconds(host.stats),
             },
             piece: host.piece.unwrap_or(PIECE),
         }
@@ -100,14 +102,14 @@ impl Plan {
     }
 }
 
-/// The intervals of a host whose tick has so many microseconds: the first is one, the longest 64.
-fn pace_of(tick: u32) -> Pace
-    ensures { result ≡ pace_of tick }
+/// The intervals of a host whose tick has so many microseconds: the first is one; the longest is 64, where it was not told.
+fn pace_of(tick: u32, most: Option<u64>) -> Pace
+    ensures { result ≡ pace_of tick most }
 {
     let first = u64::from(tick);
     Pace {
         first,
-        most: first * 64,
+        most: most.unwrap_or(first * 64),
     }
 }
 

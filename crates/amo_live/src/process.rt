@@ -7,7 +7,7 @@ ghost use Rattle.amo_live.specs.Service.{new_version, streams_of, words_of};
 ghost use Rattle.amo_live.specs.Words.{words_in};
 
 use crate::{
-    Desk, Durable, Ended, Host, Input, Journal, Limits, Lineage, LiveFault, Plan, ProcessFault,
+    Bell, Desk, Durable, Ended, Host, Input, Journal, Limits, Lineage, LiveFault, Plan, ProcessFault,
     Service, Setup, serve,
 };
 use amo_disk::Start;
@@ -22,7 +22,8 @@ use std::rt::Clock;
 
 /// Runs a host of 1 to 256 streams over this link until its clients are done. The system waits for the link by this number. A host that sends
 /// takes lines from the reader, and one that receives leaves it alone; answers and messages go to the output. The journal goes on in the sink, in
-/// this place, and new handshakes get these words. It is refused where batches are to be started for which it has no lines.
+/// this place, and new handshakes get these words. Who rings the bell asks it to come to its end. It is refused where batches are to be started for
+/// which it has no lines.
 pub fn run_process<
     R: AllocGlobal + Clock + Eprint,
     I: Read + AsRawFd + Drop,
@@ -40,6 +41,7 @@ pub fn run_process<
     sink: S,
     place: Start,
     words: W,
+    bell: Bell,
 ) -> Result<Ended, ProcessFault>
     requires { (1 ≤ plan.setup.streams) × (plan.setup.streams ≤ 256) }
 {
@@ -55,6 +57,7 @@ pub fn run_process<
         spelling: plan.setup.spelling,
         puts: plan.setup.side == End::Sender,
         kept: None,
+        bell,
     };
     work(rt, alloc, plan, link, sink, place, words, desk)
 }
@@ -82,7 +85,10 @@ fn work<
     let mut desk = desk;
     let mut service = start(alloc, plan.setup, link, sink, place, words)?;
     match serve(rt, &mut service, &mut desk, plan.limits) {
-        Ok(ended) => Ok(ended),
+        Ok(ended) => {
+            desk.bell.answer(ended);
+            Ok(ended)
+        }
         Err(fault) => {
             service.tell_unshown(rt);
             Err(ProcessFault::Serve(fault))

@@ -22,6 +22,8 @@ pub struct Waited {
     pub output: i32,
     /// And also to take more.
     pub takes: bool,
+    /// Where the host is asked to come to its end.
+    pub bell: i32,
 }
 
 /// What there was when a host had waited.
@@ -31,6 +33,8 @@ pub struct Ready {
     pub lines: bool,
     /// The output is gone.
     pub is_gone: bool,
+    /// Somebody may ask the host to come to its end.
+    pub bell: bool,
 }
 
 /// Waits until something has come or the output is gone, or for so many milliseconds; without a limit where that is negative.
@@ -39,6 +43,7 @@ pub fn wait<C: Clock>(rt: &C, what: Waited, limit: i32) -> Ready {
         watched(what.lines, net::POLLIN),
         watched(what.socket, net::POLLIN),
         watched(what.output, if what.takes { net::POLLOUT } else { 0 }),
+        watched(what.bell, net::POLLIN),
     ];
     if limit == 0 || !comes_soon(rt, &mut waited) {
         net::poll(&mut waited, limit);
@@ -47,7 +52,7 @@ pub fn wait<C: Clock>(rt: &C, what: Waited, limit: i32) -> Ready {
 }
 
 /// Whether something comes while the host looks.
-fn comes_soon<C: Clock>(rt: &C, waited: &mut [pollfd; 3]) -> bool {
+fn comes_soon<C: Clock>(rt: &C, waited: &mut [pollfd; 4]) -> bool {
     let Ok(since) = Instant::now(rt) else {
         return false;
     };
@@ -73,10 +78,11 @@ fn watched(number: i32, events: i16) -> pollfd {
     }
 }
 
-fn found_in(waited: &[pollfd; 3]) -> Ready {
+fn found_in(waited: &[pollfd; 4]) -> Ready {
     Ready {
         lines: waited[0].revents != 0,
         is_gone: waited[2].revents & !net::POLLOUT != 0,
+        bell: waited[3].revents != 0,
     }
 }
 

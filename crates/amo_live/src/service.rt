@@ -11,9 +11,10 @@ ghost use Rattle.amo_live.specs.Shown.{ShowsMore};
 ghost use Rattle.amo_live.specs.Words.{BearsNew, IsNew, StaysDrawn};
 
 mod getting;
+mod notes;
 
 use crate::lines::{Spelling, Word, push_word};
-use crate::{Host, Lineage, LiveFault};
+use crate::{Dropped, Figures, Host, Lineage, LiveFault, Times};
 use amo_core::{MAX_WAITING, Mode};
 use amo_journal::Version;
 use amo_net::{Link, MAX_DATAGRAM};
@@ -34,9 +35,11 @@ const LONGEST_LINE: usize = 2112;
 
 /// What a host knows of the messages of one of its streams.
 #[derive(Clone, Copy)]
-struct Lane {
+pub(crate) struct Lane {
     /// How many wait for their handshake.
     waiting: u64,
+    /// When the last handshake began, in microseconds.
+    began: u64,
     /// How many have come and were not got.
     held: usize,
     /// One was put, and its client does not know yet what became of it.
@@ -48,6 +51,7 @@ impl Lane {
     fn new() -> Lane {
         Lane {
             waiting: 0,
+            began: 0,
             held: 0,
             owed: false,
         }
@@ -84,6 +88,13 @@ pub struct Service<L, S, W> {
     next: u32,
     /// A stream that it has not, for which a packet came.
     foreign: Option<u32>,
+    /// No more messages are accepted.
+    closes: bool,
+    put: u64,
+    yes: u64,
+    no: u64,
+    dropped: Dropped,
+    times: Times,
 }
 
 /// How a service is set up.
@@ -150,6 +161,12 @@ impl<L: Link + Drop, S: Sink + Drop, W: Lineage + Drop> Service<L, S, W> {
             behind: false,
             next: 1,
             foreign: None,
+            closes: false,
+            put: 0,
+            yes: 0,
+            no: 0,
+            dropped: Dropped::default(),
+            times: Times::new(),
         })
     }
 }
@@ -311,27 +328,6 @@ impl<L: Link, S: Sink, W: Lineage> Service<L, S, W> {
         }
     }
 
-    /// A message more of this stream has no answer.
-    fn owe(&mut self, stream: u32, lane: Lane)
-        ensures host { self.new.host ≡ self.old.host }
-        ensures streams { streams_of self.new ≡ streams_of self.old }
-        ensures shown { (shown_by self.new ≡ shown_by self.old) × (self.new.setup ≡ self.old.setup) }
-        ensures words { words_of self.new ≡ words_of self.old }
-    {
-        if !lane.owed {
-            self.owed = self.owed.saturating_add(1);
-        }
-        let waiting = lane.waiting.saturating_add(1);
-        self.set_lane(
-            stream,
-            Lane {
-                waiting,
-                owed: true,
-                ..lane
-            },
-        );
-    }
-
     /// Begins the handshake of a stream's next messages, if its sender is at rest and one waits; unless another stream waits for its turn.
     #[tactic(auto, using(crate::proofs::Fresh::bears_none))]
     fn begin(&mut self, stream: u32, now: u64) -> Result<(), LiveFault>
@@ -422,25 +418,8 @@ impl<L: Link, S: Sink, W: Lineage> Service<L, S, W> {
             return Ok(());
         }
         let started = self.start_anew(stream, now)?;
-        self.note_start(stream, lane, started);
+        self.note_start(stream, lane, started, now);
         Ok(())
-    }
-
-    /// A handshake was begun on a stream, whose sender is in this mode then; or it could not be.
-    fn note_start(&mut self, stream: u32, lane: Lane, started: Option<Mode>)
-        ensures host { self.new.host ≡ self.old.host }
-        ensures streams { streams_of self.new ≡ streams_of self.old }
-        ensures shown { (shown_by self.new ≡ shown_by self.old) × (self.new.setup ≡ self.old.setup) }
-        ensures words { words_of self.new ≡ words_of self.old }
-    {
-        match started {
-            Some(Mode::NeedId) => {
-                let waiting = lane.waiting.saturating_sub(self.most_at_once());
-                self.set_lane(stream, Lane { waiting, ..lane });
-            }
-            Some(_) => (),
-            None => self.behind = true,
-        }
     }
 
     /// Begins a handshake on a stream under the next word, if its sender is at rest and a message waits.
@@ -485,9 +464,10 @@ impl<L: Link, S: Sink, W: Lineage> Service<L, S, W> {
         }
     }
 
-    /// Takes the datagrams that have come, up to a bound. So many bytes of messages may be shown in this turn, those that waited for room first.
+    /// Takes the datagrams that have come, up to a bound. So many bytes of messages may be shown in this turn, those that waited for room first. A host
+    /// that comes to its end accepts no more messages.
     #[tactic(auto, using(crate::proofs::Fresh::bears_none))]
-    pub fn hear(&mut self, now: u64, room: usize) -> Result<(), LiveFault>
+    pub fn hear(&mut self, now: u64, room: usize, closes: bool) -> Result<(), LiveFault>
         requires { IsNoted S.written self.old.host }
         ensures noted { OnOk result (IsNoted S.written self.new.host) }
         ensures none_put { OnOk result (PutsNone self.old.host.pass self.new.host.pass) }
@@ -497,6 +477,7 @@ impl<L: Link, S: Sink, W: Lineage> Service<L, S, W> {
         ensures words { OnOk result (BearsNew W.is_drawn (words_of self.old) (words_of self.new) self.old.host.pass self.new.host.pass) }
     {
         self.room = room;
+        self.closes = closes;
         self.heard = false;
         self.get_unread(now)?;
         self.take_datagrams(now)?;
@@ -565,49 +546,17 @@ impl<L: Link, S: Sink, W: Lineage> Service<L, S, W> {
             return Ok(());
         };
         if !self.has(packet.stream) {
-            self.foreign = Some(packet.stream);
+            self.drop_foreign(packet.stream);
             return Ok(());
         }
         let before = self.host.mode_of(packet.stream);
         let Some((stream, mode)) = self.deliver_anew(&packet, bytes, now)? else {
+            self.drop_idle();
             return Ok(());
         };
         let is_other = is_other(before, mode);
-        self.arrive(stream, mode, is_other, brought_by(&packet));
+        self.arrive(stream, mode, is_other, brought_by(&packet), now);
         self.go_on(stream, mode, is_other, now)
-    }
-
-    /// A datagram came that is no packet for which the journal has a line.
-    fn miss(&mut self, bytes: &[u8])
-        ensures host { self.new.host ≡ self.old.host }
-        ensures streams { streams_of self.new ≡ streams_of self.old }
-        ensures shown { (shown_by self.new ≡ shown_by self.old) × (self.new.setup ≡ self.old.setup) }
-        ensures words { words_of self.new ≡ words_of self.old }
-    {
-        let is_missed = match read(bytes) {
-            Ok(
-                Packet {
-                    stream,
-                    body: Body::Batch(_, _),
-                },
-            ) => self.setup.side == End::Receiver && self.has(stream),
-            _ => false,
-        };
-        self.missed = self.missed || is_missed;
-    }
-
-    /// A packet that brings so many messages was delivered on a stream, whose side is in this mode now. It holds them, if it held none before.
-    fn arrive(&mut self, stream: u32, mode: Mode, is_other: bool, brought: usize)
-        ensures host { self.new.host ≡ self.old.host }
-        ensures streams { streams_of self.new ≡ streams_of self.old }
-        ensures shown { (shown_by self.new ≡ shown_by self.old) × (self.new.setup ≡ self.old.setup) }
-        ensures words { words_of self.new ≡ words_of self.old }
-    {
-        if let Some(lane) = self.lane(stream) {
-            let holds_more = is_other && mode == Mode::Rcvd;
-            let held = if holds_more { brought } else { lane.held };
-            self.set_lane(stream, Lane { held, ..lane });
-        }
     }
 
     /// Goes on where a packet was delivered on a stream, whose side is in this mode now, which may be another than before.
@@ -651,7 +600,7 @@ impl<L: Link, S: Sink, W: Lineage> Service<L, S, W> {
         let Body::NeedUid(_) = packet.body else {
             return self.host.deliver(bytes, 0, now);
         };
-        if self.has_enough() {
+        if self.closes || self.has_enough() {
             return Ok(None);
         }
         let word = draw(&mut self.words, self.host.next_line())?;
@@ -680,14 +629,7 @@ impl<L: Link, S: Sink, W: Lineage> Service<L, S, W> {
         };
         let word = if was_got { Word::Yes } else { Word::No };
         push_word(&mut self.shown, stream, word, self.setup.spelling)?;
-        self.owed = self.owed.saturating_sub(1);
-        self.set_lane(
-            stream,
-            Lane {
-                owed: false,
-                ..lane
-            },
-        );
+        self.note_answer(stream, lane, was_got);
         Ok(())
     }
 

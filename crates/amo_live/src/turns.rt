@@ -11,7 +11,8 @@ ghost use Rattle.amo_live.specs.declared.turns.Ended.TheVariants.{AtRest};
 use crate::lines::LineFault;
 use crate::notices::Notices;
 use crate::ready::{Waited, takes_more, wait};
-use crate::{Durable, Input, Line, Lineage, LiveFault, ServeFault, Service, Spelling};
+use crate::stats::Stats;
+use crate::{Bell, Durable, Input, Line, Lineage, LiveFault, ServeFault, Service, Spelling};
 use amo_net::Link;
 use amo_packet::Message;
 use std::io::{Read, Write};
@@ -41,6 +42,8 @@ pub struct Limits {
     pub lingers: bool,
     /// The journal is put on its disk once a turn, before packets leave.
     pub sync: bool,
+    /// It tells its figures each time that so many microseconds have passed, and at its end.
+    pub stats: Option<u64>,
 }
 
 /// Where a host's clients are.
@@ -64,6 +67,8 @@ pub struct Desk<I, O> {
     pub puts: bool,
     /// The message that was not taken, which is put again.
     pub kept: Option<(u32, Message)>,
+    /// Where the host is asked to come to its end.
+    pub bell: Bell,
 }
 
 /// How a host ended.
@@ -102,21 +107,25 @@ pub fn serve<C: Clock + Eprint, L: Link, S: Durable, W: Lineage, I: Read, O: Wri
     let start = started(rt)?;
     let mut since: Option<u64> = None;
     let mut notices = Notices::new();
+    let mut stats = Stats::each(limits.stats);
     let mut told_torn = false;
     'turns: for _turn in 0..u64::MAX {
         let now = microseconds(rt, &start)?;
         notices.tell(rt, service, now);
+        stats.tell(rt, service, now);
         let is_over = limits.count.is_some_and(|count| count <= service.got());
         since = if is_over || desk.takes_none() {
             Some(since.unwrap_or(now))
         } else {
             None
         };
-        let is_at_rest = service.is_at_rest() && desk.kept.is_none();
+        let is_at_rest = service.is_at_rest() && !service.has_unread() && desk.keeps_none();
         if let Some(ended) = limits.ending(is_at_rest, since, now) {
+            desk.tell_of_rest(rt);
+            stats.tell_last(rt, service, now);
             return Ok(desk.ended(ended));
         }
-        let until = limits.until(service.next_due(), since);
+        let until = stats.until(limits.until(service.next_due(), since));
         turn(
             rt,
             service,
@@ -155,7 +164,7 @@ fn turn<C: Clock + Eprint, L: Link, S: Durable, W: Lineage, I: Read, O: Write>(
 {
     desk.wait(rt, limit, service.has_unread())?;
     let now = microseconds(rt, start)?;
-    service.hear(now, desk.room())?;
+    service.hear(now, desk.room(), desk.bell.was_rung())?;
     service.resend(now)?;
     // After the datagrams: what they made room for is put before the host waits again.
     take_lines(rt, service, desk, now)?;
@@ -185,6 +194,9 @@ fn take_lines<C: Eprint, L: Link, S: Durable, W: Lineage, I: Read, O: Write>(
     ensures spells { spelling_of service.new ≡ spelling_of service.old }
     ensures same { desk.new ≡ record desk.old { input = desk.new.input; kept = desk.new.kept } }
 {
+    if desk.bell.was_rung() {
+        return Ok(());
+    }
     put_kept(service, desk, now)?;
     'lines: for _line in 0..u64::MAX {
         if desk.kept.is_some() {
@@ -311,7 +323,26 @@ impl Limits {
 impl<I: Read, O: Write> Desk<I, O> {
     /// Whether no line is taken any more, or none before the peer has answered: then one waits to be put, and its stream is not at rest.
     fn takes_none(&self) -> bool {
-        !self.input.is_open() || self.kept.is_some()
+        self.bell.was_rung() || !self.input.is_open() || self.kept.is_some()
+    }
+
+    /// Whether no message waits to be put: none was refused, or the host comes to its end before.
+    fn keeps_none(&self) -> bool {
+        self.bell.was_rung() || self.kept.is_none()
+    }
+
+    /// Tells which lines were not put, where the host was asked to come to its end.
+    fn tell_of_rest<C: Eprint>(&self, rt: &C) {
+        if !self.bell.was_rung() {
+            return;
+        }
+        let kept = u64::from(self.kept.is_some());
+        let put = self.input.lines().saturating_sub(kept);
+        let _ = if self.puts {
+            eprintln!(rt; "amo: was asked to come to its end: no line behind line {put} was put")
+        } else {
+            eprintln!(rt; "amo: was asked to come to its end")
+        };
     }
 
     /// Waits, also until messages that wait to be shown can be, and reads lines once where some have come. While a message waits to be put again, lines wait too. A host that puts none reads nothing,
@@ -319,12 +350,15 @@ impl<I: Read, O: Write> Desk<I, O> {
     fn wait<C: Clock>(&mut self, rt: &C, limit: i32, takes: bool) -> Result<(), ServeFault>
         ensures unread { OnOk result (self.old.puts ≡ false → self.new.reader ≡ self.old.reader) }
         ensures waits { OnOk result ((bytes : List ℕ) × Consumes (I.remaining self.old.reader) (I.remaining self.new.reader) bytes × Waits self.old.input self.new.input bytes) }
-        ensures same { self.new ≡ record self.old { reader = self.new.reader; input = self.new.input } }
+        ensures same { self.new ≡ record self.old { reader = self.new.reader; input = self.new.input; bell = self.new.bell } }
     {
         let reads = self.reads();
         let ready = wait(rt, self.waited(reads, takes), limit);
         if ready.is_gone {
             return Err(ServeFault::Gone);
+        }
+        if ready.bell {
+            self.bell.hear()?;
         }
         if ready.lines && reads {
             self.input.fill(&mut self.reader)?;
@@ -337,7 +371,7 @@ impl<I: Read, O: Write> Desk<I, O> {
         ensures puts { result ≡ true → self.now.puts ≡ true }
         ensures opened { result ≡ true → self.now.input.is_open ≡ true }
     {
-        self.puts && self.input.is_open() && self.kept.is_none()
+        self.puts && self.input.is_open() && self.kept.is_none() && !self.bell.was_rung()
     }
 
     /// What is waited for, where lines are read or not, and messages wait to be shown or not.
@@ -351,6 +385,7 @@ impl<I: Read, O: Write> Desk<I, O> {
                 self.output_number
             },
             takes,
+            bell: self.bell.number(),
         }
     }
 

@@ -12,12 +12,15 @@ pub record AreWithin (s : RunSettings) : Type 0 where
   pub crashes : s.crashes ≤ 1000
   pub pumps : (1 ≤ s.pumps) × (s.pumps ≤ 4)
 
--- 1 to 256 streams, a tick of 1 to 60000000 microseconds, a wait of 1000000 seconds at most, and pieces of 1024 bytes to a terabyte
+-- 1 to 256 streams, a tick of 1 to 60000000 microseconds, which grows to an hour at most, a wait of 1000000 seconds at most, pieces of 1024 bytes to a
+-- terabyte, and figures each second or less often
 pub record IsHostWithin (host : HostSettings) : Type 0 where
   pub streams : (1 ≤ host.streams) × (host.streams ≤ 256)
   pub tick : (1 ≤ host.tick) × (host.tick ≤ 60000000)
+  pub tick_most : IfSome host.tick_most (λ most. (host.tick ≤ most) × (most ≤ 3600000000))
   pub wait : IfSome host.wait (λ seconds. seconds ≤ 1000000)
   pub piece : IfSome host.piece (λ bytes. (1024 ≤ bytes) × (bytes ≤ 1000000000000))
+  pub stats : IfSome host.stats (λ seconds. (1 ≤ seconds) × (seconds ≤ 1000000))
 
 -- what is asked of a run, and what a host is told, is within its limits
 abbrev pub IsWithin : Settings → Type 0

@@ -12,6 +12,8 @@ pub enum Settings {
     Send(SendSettings),
     /// Be a host that receives.
     Receive(ReceiveSettings),
+    /// Have the host that holds the journal in this file come to its end.
+    Stop(String),
     /// Audit the journal in this file, or the journals of two processes, in this file and the next.
     Audit(String, Option<String>),
     /// Explain the journal in this file, or the journals of two processes, in this file and the next.
@@ -26,7 +28,7 @@ pub enum Settings {
     Completions(Shell),
 }
 
-/// What a host in a process of its own is told, whichever its side. Times are at most 60000000 microseconds and 1000000 seconds.
+/// What a host in a process of its own is told, whichever its side.
 #[derive(Debug, Drop)]
 pub struct HostSettings {
     /// The address that it listens at.
@@ -37,16 +39,20 @@ pub struct HostSettings {
     pub streams: u32,
     /// The file of its journal.
     pub journal: String,
-    /// How many microseconds a packet waits for its answer before it is sent again for the first time, 1 at least.
+    /// How many microseconds a packet waits for its answer before it is sent again for the first time, 1 to a minute.
     pub tick: u32,
+    /// The longest that it waits between two sendings, in microseconds, where it was told: from `tick` up to an hour.
+    pub tick_most: Option<u64>,
     /// Whether what is shown is spelt in JSON.
     pub json: bool,
     /// Whether the journal is put on its disk before packets leave.
     pub sync: bool,
     /// How many bytes a piece of its journal has before another one is begun, 1024 to 10^12, where it was told.
     pub piece: Option<u64>,
-    /// How many seconds it waits at its end for what is still on its way, if that has a limit.
+    /// How many seconds it waits at its end for what is still on its way, at most 1000000, if that has a limit.
     pub wait: Option<u64>,
+    /// After how many seconds it tells its figures again and again, 1 to 1000000, if it does.
+    pub stats: Option<u64>,
 }
 
 /// What a host that sends is told.

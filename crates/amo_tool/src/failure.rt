@@ -64,6 +64,12 @@ pub(crate) enum Failure {
     /// A host in this process cannot go on.
     #[error("amo: {0}")]
     Host(ProcessFault),
+    /// No host has the journal in this file.
+    #[error("amo: {0}: no host has it in use")]
+    NoHost(String),
+    /// A host that was asked to come to its end did so by a failure.
+    #[error("amo: the host failed, or was killed, before it came to its end")]
+    Ended,
 }
 
 impl Failure {
@@ -207,6 +213,20 @@ impl Failure {
         match String::from_str(alloc, path) {
             Ok(path) => Failure::Disk(path, cause),
             Err(_) => Failure::NoMemory,
+        }
+    }
+
+    /// The host of the journal in this file cannot be asked by the bell at this path.
+    pub(crate) fn of_bell(alloc: Global, journal: &str, bell: &str, error: io::Error) -> Failure {
+        match error.kind() {
+            ErrorKind::OutOfMemory => Failure::NoMemory,
+            ErrorKind::NotFound | ErrorKind::ConnectionRefused => {
+                match String::from_str(alloc, journal) {
+                    Ok(journal) => Failure::NoHost(journal),
+                    Err(_) => Failure::NoMemory,
+                }
+            }
+            _ => Failure::of_disk(alloc, bell, Cause::from(error)),
         }
     }
 

@@ -3,6 +3,7 @@ ghost use Rattle.std.specs.Prelude.{◌≡◌, ◌<◌, ◌≤◌};
 ghost use Rattle.amo_settings.specs.Limits.{IsHostWithin};
 
 use crate::failure::Failure;
+use crate::stopping::{hang_bell, take_down_bell};
 use amo_disk::{Cause, Disk, Opened, open};
 use amo_live::{Ended, HostLives, LiveFault, OpenedLives, Plan, ProcessFault, Socket, run_process};
 use amo_object::End;
@@ -169,8 +170,13 @@ fn run_opened<
     let why = Cell::new(None);
     let words = open_lives::<R, N>(rt, file.as_str(), &plan, start.lines, &why, lives)?;
     tell_of_start(rt, host.listen.as_str(), port, path, start.lines);
+    let bell = hang_bell(rt, path)?;
     let number = socket.number();
-    match run_process(rt, plan, input, output, socket, number, disk, start, words) {
+    let ran = run_process(
+        rt, plan, input, output, socket, number, disk, start, words, bell,
+    );
+    take_down_bell(rt, path)?;
+    match ran {
         Ok(ended) => Ok(ended),
         Err(fault) if fault == ProcessFault::from(LiveFault::Lives) => {
             Err(Failure::of_host(alloc, file.as_str(), fault, why.get()))

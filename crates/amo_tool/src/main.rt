@@ -17,12 +17,14 @@ mod pieces;
 mod progress;
 mod replaying;
 mod running;
+mod stopping;
 mod telling;
 mod watched;
 
 use crate::failure::Failure;
 use crate::judging::{audit_files, explain_files};
 use crate::live::{receive_lines, send_lines};
+use crate::stopping::stop_host;
 use crate::replaying::replay_file;
 use crate::running::run_to_file;
 use crate::telling::{tell_got_of, tell_outcomes_of};
@@ -83,6 +85,7 @@ fn obey<
         Ok(Settings::Run(settings, file)) => run_to_file(rt, &settings, file.as_str(), errors),
         Ok(Settings::Send(settings)) => send_lines(rt, &settings, input, output),
         Ok(Settings::Receive(settings)) => receive_lines(rt, &settings, input, output),
+        Ok(Settings::Stop(file)) => stop_host(rt, file.as_str()),
         Ok(Settings::Manual) => show_page(rt, page(rt.alloc())),
         Ok(Settings::Completions(shell)) => show_page(rt, script(rt.alloc(), shell)),
         Err(ArgumentsFault::Text(text, status)) => show(rt, text.as_str(), status),

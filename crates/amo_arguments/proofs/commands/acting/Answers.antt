@@ -8,4 +8,5 @@ returns c =
     let replay = with_command c.in_ok-subcommand.ensures c.in_ok-replay.ensures c.in_ok-bare.ensures in
     let run = with_command c.in_ok-subcommand-2.ensures links.2 replay in
     let send = with_command c.in_ok-subcommand-3.ensures c.in_ok-send.ensures run in
-    IfOk-weaker c.subcommand-4.result _ _ (λ m h. (links.0, links.1, with_command h c.in_ok-receive.ensures send)) c.subcommand-4.ensures
+    let receive = with_command c.in_ok-subcommand-4.ensures c.in_ok-receive.ensures send in
+    IfOk-weaker c.subcommand-5.result _ _ (λ m h. (links.0, links.1, with_command h c.in_ok-stop.ensures receive)) c.subcommand-5.ensures

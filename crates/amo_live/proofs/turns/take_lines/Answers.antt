@@ -1,9 +1,9 @@
-use Rattle.std.proofs.Common.{◌≡◌, false, is_some, rules, ◌∙◌}
+use Rattle.std.proofs.Common.{◌≡◌, false, is_some, refl, rules, ◌∙◌}
 use Rattle.amo_live.specs.Client.{moment}
 use Rattle.amo_live.specs.Service.{shown_by, spelling_of, streams_of, words_of}
 use Rattle.amo_live.proofs.Fresh.{bears_on}
 use Rattle.amo_live.proofs.Showing.{shows_after}
-use Rattle.amo_live.proofs.Conserving.{line_over, none_kept, none_over, serves_none}
+use Rattle.amo_live.proofs.Conserving.{line_over, none_kept, none_moved, none_over, serves_none}
 use Rattle.amo_live.proofs.turns.take_lines.Goals as goal
 
 pub lines-init : goal.lines-init
@@ -38,6 +38,12 @@ lines-preserved g c =
       spells = c.in_ok-put_line.ensures.spells ∙ c.lines.invariant.spells;
       same = search rules;
     }
+
+pub returns-then-was_rung-clause-serves : goal.returns-then-was_rung-clause-serves
+returns-then-was_rung-clause-serves g c =
+    let first = moment c.args.desk.now.input c.args.desk.now.kept c.args.service.now.host.pass in
+    serves_none c.args.desk.now.spelling c.args.desk.now.puts (streams_of c.args.service.now) first first refl
+    (none_moved c.args.desk.now.kept c.args.desk.now.kept c.args.service.now.host.pass c.args.service.now.host.pass refl refl)
 
 pub returns-in_default-clause-serves : goal.returns-in_default-clause-serves
 returns-in_default-clause-serves g c =

@@ -2,7 +2,7 @@ use Rattle.std.proofs.Common.{◌≡◌, refl, rules}
 use Rattle.std.proofs.lemmas.Result.{on_ok_weaker}
 use Rattle.amo_live.specs.Service.{shown_by, spelling_of, words_of}
 use Rattle.amo_live.proofs.Fresh.{bears_as, bears_on}
-use Rattle.amo_live.proofs.Showing.{delivered_then}
+use Rattle.amo_live.proofs.Showing.{delivered_then, delivery_shows, shows_as}
 use Rattle.amo_live.proofs.service.Service.deliver.Goals as goal
 
 pub returns-clause-shown : goal.returns-clause-shown
@@ -22,3 +22,13 @@ returns-clause-words g c =
     on_ok_weaker c.go_on.result (λ two. bears_on old (words_of c.arrive.new.self) (words_of c.go_on.new.self) first c.arrive.new.self.host.pass c.go_on.new.self.host.pass
     (bears_as old (words_of c.deliver_anew.new.self) old (words_of c.arrive.new.self) first c.deliver_anew.new.self.host.pass first c.arrive.new.self.host.pass refl words refl pass c.in_ok-stream.ensures.words) two)
     c.go_on.ensures.words
+
+pub returns-in_default-2-clause-shown : goal.returns-in_default-2-clause-shown
+returns-in_default-2-clause-shown g c =
+    let did = c.in_ok-stream.ensures.delivered in
+    let same : shown_by c.drop_idle.new.self ≡ shown_by c.args.self.now = search rules in
+    let pass : c.drop_idle.new.self.host.pass ≡ c.deliver_anew.new.self.host.pass = search rules in
+    let old = shown_by c.args.self.now in
+    let spelling = spelling_of c.args.self.now in
+    shows_as spelling spelling c.args.self.now.host.pass c.deliver_anew.new.self.host.pass c.args.self.now.host.pass c.drop_idle.new.self.host.pass old old old (shown_by c.drop_idle.new.self) refl refl pass refl same
+    (delivery_shows c.args.self.now.host c.deliver_anew.new.self.host spelling c.args.bytes.now did.0 c.in_ok-stream.field-0 old old did.1 refl)

@@ -20,9 +20,9 @@ pub returns-clause-shown : goal.returns-clause-shown
 returns-clause-shown g c =
     let spelling = spelling_of c.args.self.now in
     let first = c.args.self.now.host.pass in
-    let last = c.set_lane.new.self.host.pass in
+    let last = c.note_answer.new.self.host.pass in
     let old = shown_by c.args.self.now in
-    let new = shown_by c.set_lane.new.self in
+    let new = shown_by c.note_answer.new.self in
     let pass : last ≡ c.get_ack.new.self.pass = search rules in
     elim c.if-was_got.branch [
       | then-was_got w ↦
@@ -47,7 +47,7 @@ returns-in_default-2-clause-words g c =
 pub returns-clause-words : goal.returns-clause-words
 returns-clause-words g c =
     let old = words_of c.args.self.now in let first = c.args.self.now.host.pass in
-    let pass : c.set_lane.new.self.host.pass ≡ c.get_ack.new.self.pass = search rules in
-    let words : words_of c.set_lane.new.self ≡ old = search rules in
-    bears_as old old old (words_of c.set_lane.new.self) first c.get_ack.new.self.pass first c.set_lane.new.self.host.pass refl words refl pass
+    let pass : c.note_answer.new.self.host.pass ≡ c.get_ack.new.self.pass = search rules in
+    let words : words_of c.note_answer.new.self ≡ old = search rules in
+    bears_as old old old (words_of c.note_answer.new.self) first c.get_ack.new.self.pass first c.note_answer.new.self.host.pass refl words refl pass
     (bears_none old old first c.get_ack.new.self.pass refl (call_bears first c.get_ack.new.self.pass Sender c.args.stream act.Ack (ack_answer c.in_ok-was_got.field-0) refl c.in_ok-was_got.ensures.known))

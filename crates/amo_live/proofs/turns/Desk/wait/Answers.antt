@@ -1,12 +1,15 @@
-use Rattle.std.proofs.Common.{sym, ◌∙◌, rules}
-use Rattle.std.proofs.lemmas.Bool.{true≢false}
-use Rattle.amo_live.proofs.Conserving.{waits_filled}
+use Rattle.std.proofs.Common.{◌≡◌, [], rules, subst, sym}
+use Rattle.std.specs.Io.KnownBytes.{Consumes}
+use Rattle.amo_live.proofs.Conserving.{waits_none}
+use Rattle.amo_live.proofs.Readers.{none_taken}
 use Rattle.amo_live.proofs.turns.Desk.wait.Goals as goal
+use Rattle.amo_live.proofs.turns.Desk.wait.Goals.{then-ready-2+in_ok-hear, else-ready-2}
 
-pub returns-in_ok-fill-clause-waits : goal.returns-in_ok-fill-clause-waits
-returns-in_ok-fill-clause-waits g c =
-    let filled = c.in_ok-fill.ensures.filled in
-    (filled.0, filled.1, waits_filled c.args.self.now.input c.fill.new.self filled.0 (c.reads-reads.ensures.opened (search rules)) filled.2)
-
-pub returns-in_ok-fill-clause-unread : goal.returns-in_ok-fill-clause-unread
-returns-in_ok-fill-clause-unread g c = λ shut. absurd (true≢false (sym (c.reads-reads.ensures.puts (search rules)) ∙ shut))
+pub returns-else-ready-3-clause-waits : goal.returns-else-ready-3-clause-waits
+returns-else-ready-3-clause-waits g c =
+    let reader : c.if-ready-2.self.reader ≡ c.args.self.now.reader = elim c.if-ready-2.branch [ then-ready-2+in_ok-hear w ↦ search rules | else-ready-2 w ↦ search rules ] in
+    let input : c.if-ready-2.self.input ≡ c.args.self.now.input = elim c.if-ready-2.branch [ then-ready-2+in_ok-hear w ↦ search rules | else-ready-2 w ↦ search rules ] in (
+      [],
+      subst (λ r. Consumes (g.I.Read.remaining c.args.self.now.reader) (g.I.Read.remaining r) []) (sym reader) (none_taken (g.I.Read.remaining c.args.self.now.reader)),
+      waits_none c.args.self.now.input c.if-ready-2.self.input input,
+    )

@@ -1,0 +1,108 @@
+//! How a host is asked to come to its end.
+use crate::{Cause, Ended};
+use std::alloc::{AllocError, Global};
+use std::fs;
+use std::io::{self, ErrorKind, Write};
+use std::net::Net;
+use std::os::fd::AsRawFd;
+use std::os::unix::net::{UnixListener, UnixStream};
+use std::rt::Files;
+
+/// How many who ask are answered. The others see that the host is gone.
+const MOST_ASKERS: usize = 16;
+
+/// The number of what is not waited for.
+const NOTHING: i32 = -1;
+
+/// A socket in the file system. Who connects to it asks the host to come to its end, and gets a byte when it has.
+#[derive(Drop)]
+pub struct Bell {
+    listener: Option<UnixListener>,
+    askers: Vec<UnixStream>,
+    rung: bool,
+}
+
+impl Bell {
+    /// A bell that nobody can ring.
+    pub fn none(alloc: Global) -> Bell {
+        Bell {
+            listener: None,
+            askers: Vec::new(alloc),
+            rung: false,
+        }
+    }
+
+    /// A bell at this path. A socket that an earlier host left there is replaced, and nothing else is.
+    pub fn hang<R: Files + Net>(rt: &R, alloc: Global, path: &str) -> Result<Bell, Cause> {
+        let listener = match listening(rt, path) {
+            Ok(listener) => listener,
+            Err(error) => return Err(Cause::from(error)),
+        };
+        Ok(Bell {
+            listener: Some(listener),
+            askers: Vec::new(alloc),
+            rung: false,
+        })
+    }
+
+    /// The number by which the system waits for it, or a negative one.
+    pub fn number(&self) -> i32 {
+        match &self.listener {
+            Some(listener) => listener.as_raw_fd(),
+            None => NOTHING,
+        }
+    }
+
+    /// Whether somebody asked.
+    pub fn was_rung(&self) -> bool {
+        self.rung
+    }
+
+    /// Hears who asks.
+    pub fn hear(&mut self) -> Result<(), AllocError> {
+        let Some(listener) = &self.listener else {
+            return Ok(());
+        };
+        if let Ok((asker, _)) = listener.accept() {
+            self.rung = true;
+            if self.askers.len() < MOST_ASKERS {
+                self.askers.push(asker)?;
+            }
+        }
+        Ok(())
+    }
+
+    /// Tells those who asked how the host ended, by the digit of its status.
+    pub fn answer(&mut self, ended: Ended) {
+        let status = match ended {
+            Ended::AtRest => b"0",
+            Ended::Torn => b"2",
+            Ended::OnItsWay => b"5",
+        };
+        for asker in self.askers.iter_mut() {
+            let _ = asker.write_all(status.as_slice());
+        }
+    }
+}
+
+/// A socket that listens at this path, and no call of which waits.
+fn listening<R: Files + Net>(rt: &R, path: &str) -> io::Result<UnixListener> {
+    let listener = match UnixListener::bind(rt, path) {
+        Err(error) if error.kind() == ErrorKind::AddrInUse => {
+            remove_socket(rt, path)?;
+            UnixListener::bind(rt, path)?
+        }
+        bound => bound?,
+    };
+    listener.set_nonblocking(true)?;
+    Ok(listener)
+}
+
+/// Removes what is at this path, unless it is a file or a folder.
+fn remove_socket<R: Files>(rt: &R, path: &str) -> io::Result<()> {
+    let found = fs::symlink_metadata(rt, path)?;
+    if found.is_file() || found.is_dir() || found.is_symlink() {
+        return Err(io::Error::from(ErrorKind::AddrInUse));
+    }
+    fs::remove_file(rt, path)
+}

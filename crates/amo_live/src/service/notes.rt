@@ -1,0 +1,168 @@
+//! What a service knows of its streams from what it did, and what it counts.
+ghost use Rattle.std.specs.Prelude.{◌≡◌};
+ghost use Rattle.amo_live.specs.Service.{shown_by, streams_of, words_of};
+
+use crate::service::{Lane, Service};
+use crate::{Figures, Lineage, Times};
+use amo_core::Mode;
+use amo_net::Link;
+use amo_object::End;
+use amo_packet::{Body, Packet, read};
+use amo_text::Sink;
+
+impl<L: Link, S: Sink, W: Lineage> Service<L, S, W> {
+    /// A message more of this stream has no answer.
+    pub(crate) fn owe(&mut self, stream: u32, lane: Lane)
+        ensures host { self.new.host ≡ self.old.host }
+        ensures streams { streams_of self.new ≡ streams_of self.old }
+        ensures shown { (shown_by self.new ≡ shown_by self.old) × (self.new.setup ≡ self.old.setup) }
+        ensures words { words_of self.new ≡ words_of self.old }
+    {
+        self.put = self.put.saturating_add(1);
+        if !lane.owed {
+            self.owed = self.owed.saturating_add(1);
+        }
+        let waiting = lane.waiting.saturating_add(1);
+        self.set_lane(
+            stream,
+            Lane {
+                waiting,
+                owed: true,
+                ..lane
+            },
+        );
+    }
+
+    /// A handshake was begun on a stream, whose sender is in this mode then; or it could not be.
+    pub(crate) fn note_start(&mut self, stream: u32, lane: Lane, started: Option<Mode>, began: u64)
+        ensures host { self.new.host ≡ self.old.host }
+        ensures streams { streams_of self.new ≡ streams_of self.old }
+        ensures shown { (shown_by self.new ≡ shown_by self.old) × (self.new.setup ≡ self.old.setup) }
+        ensures words { words_of self.new ≡ words_of self.old }
+    {
+        match started {
+            Some(Mode::NeedId) => {
+                let waiting = lane.waiting.saturating_sub(self.most_at_once());
+                self.set_lane(
+                    stream,
+                    Lane {
+                        waiting,
+                        began,
+                        ..lane
+                    },
+                );
+            }
+            Some(_) => (),
+            None => self.behind = true,
+        }
+    }
+
+    /// A packet came for a stream that it has not.
+    pub(crate) fn drop_foreign(&mut self, stream: u32)
+        ensures { self.new ≡ record self.old { foreign = self.new.foreign; dropped = self.new.dropped } }
+    {
+        self.foreign = Some(stream);
+        self.dropped.foreign = self.dropped.foreign.saturating_add(1);
+    }
+
+    /// A packet came that made no event.
+    pub(crate) fn drop_idle(&mut self)
+        ensures { self.new ≡ record self.old { dropped = self.new.dropped } }
+    {
+        self.dropped.idle = self.dropped.idle.saturating_add(1);
+    }
+
+    /// A datagram came that is no packet for which the journal has a line.
+    pub(crate) fn miss(&mut self, bytes: &[u8])
+        ensures host { self.new.host ≡ self.old.host }
+        ensures streams { streams_of self.new ≡ streams_of self.old }
+        ensures shown { (shown_by self.new ≡ shown_by self.old) × (self.new.setup ≡ self.old.setup) }
+        ensures words { words_of self.new ≡ words_of self.old }
+    {
+        let is_missed = match read(bytes) {
+            Ok(
+                Packet {
+                    stream,
+                    body: Body::Batch(_, _),
+                },
+            ) => self.setup.side == End::Receiver && self.has(stream),
+            _ => false,
+        };
+        self.missed = self.missed || is_missed;
+        self.dropped.unread = self.dropped.unread.saturating_add(1);
+    }
+
+    /// A packet that brings so many messages was delivered on a stream, whose side is in this mode now. It holds them, if it held none before.
+    pub(crate) fn arrive(&mut self, stream: u32, mode: Mode, is_other: bool, brought: usize, now: u64)
+        ensures host { self.new.host ≡ self.old.host }
+        ensures streams { streams_of self.new ≡ streams_of self.old }
+        ensures shown { (shown_by self.new ≡ shown_by self.old) × (self.new.setup ≡ self.old.setup) }
+        ensures words { words_of self.new ≡ words_of self.old }
+    {
+        if let Some(lane) = self.lane(stream) {
+            let holds_more = is_other && mode == Mode::Rcvd;
+            let held = if holds_more { brought } else { lane.held };
+            self.set_lane(stream, Lane { held, ..lane });
+            if is_other && mode == Mode::Quiet {
+                self.times.note(now.saturating_sub(lane.began));
+            }
+        }
+    }
+
+    /// The client of a stream was told what became of its last message.
+    pub(crate) fn note_answer(&mut self, stream: u32, lane: Lane, was_got: bool)
+        ensures host { self.new.host ≡ self.old.host }
+        ensures streams { streams_of self.new ≡ streams_of self.old }
+        ensures shown { (shown_by self.new ≡ shown_by self.old) × (self.new.setup ≡ self.old.setup) }
+        ensures words { words_of self.new ≡ words_of self.old }
+    {
+        if was_got {
+            self.yes = self.yes.saturating_add(1);
+        } else {
+            self.no = self.no.saturating_add(1);
+        }
+        self.owed = self.owed.saturating_sub(1);
+        self.set_lane(
+            stream,
+            Lane {
+                owed: false,
+                ..lane
+            },
+        );
+    }
+
+    /// How long handshakes took.
+    pub fn times(&self) -> &Times {
+        &self.times
+    }
+
+    /// How it is, and what it has done.
+    pub fn figures(&self) -> Figures {
+        let (mut waiting, mut held, mut open) = (0u64, 0u64, 0u64);
+        'streams: for place in 0..self.setup.streams {
+            let stream = place.saturating_add(1);
+            let lane = self.lane(stream).unwrap_or(Lane::new());
+            waiting = waiting.saturating_add(lane.waiting);
+            held = held.saturating_add(lane.held as u64);
+            open = open.saturating_add(u64::from(is_open(self.host.mode_of(stream))));
+        }
+        Figures {
+            put: self.put,
+            got: self.got,
+            yes: self.yes,
+            no: self.no,
+            waiting,
+            held,
+            open,
+            ended: self.times.ended(),
+            traffic: self.host.traffic(),
+            dropped: self.dropped,
+            line: self.host.next_line(),
+        }
+    }
+}
+
+/// Whether a handshake is open in this mode.
+fn is_open(mode: Option<Mode>) -> bool {
+    !matches!(mode, None | Some(Mode::Down | Mode::Quiet | Mode::Idle))
+}
