@@ -113,8 +113,8 @@ pub(crate) const SEND_AFTER_HELP: &str = "A line of standard input is a message 
 A line that is none is told on standard error with its reason, as `amo: line L: stream 5 of 4`, L
 counted from 1, and nothing is put. Nor is a last line put that lacks its line feed: who wrote it may
 have died in the middle, and `amo: line L has no end` is told. While a stream is full, with 16
-messages waiting, its next line waits, and so do all lines behind it. With --each a line waits also
-for the answer to the stream's last message.
+messages waiting, its next lines wait, and those of other streams are put. With --each a line waits
+for the answer to its stream's last message. Where 1,024 lines wait no more are read.
 
 With --batch the messages that wait on a stream when a handshake begins travel together, up to four.
 Both hosts have to be of this version, and their journals of version 2, as new ones then are. A host
@@ -163,7 +163,7 @@ Status:
      `amo: FILE: it is of version 1, ..`: it has no lines for batches, and was not changed
      `amo: FILE: CAUSE`, `amo: the journal is full`: the file, or the disk
      `amo: standard input failed: ..`, `amo: standard output failed: ..`, or `.. is closed`
-  5  --wait is over, and something is still on its way
+  5  --wait is over, and something is still on its way: how much, is told
 
 Example:
   amo send --listen 127.0.0.1:7001 --peer 127.0.0.1:7002 --streams 8 --journal send.journal";

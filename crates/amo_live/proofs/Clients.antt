@@ -16,7 +16,8 @@ use Rattle.amo_live.specs.declared.input.Line.{Line}
 use Rattle.amo_live.specs.declared.lines.LineFault.{LineFault}
 use Rattle.amo_live.specs.declared.lines.LineFault.TheVariants.{NoStream, Stream, TooLong, NoHex, TooLongLine}
 use Rattle.amo_live.specs.declared.lines.Spelling.{Spelling}
-use Rattle.amo_live.specs.Client.{Addressed, BlamesField, InputState, IsGone, IsPending, IsPut, ReadsAs, read_of, spelt}
+use Rattle.amo_live.specs.Backlog.{Addressed}
+use Rattle.amo_live.specs.Client.{BlamesField, InputState, IsGone, IsPending, IsPut, ReadsAs, read_of, spelt}
 
 -- a message in HEX, and as it is
 pub hex_spelt : (spelling : Spelling) (m : List ℕ) → spelling.hex ≡ true → spelt spelling m ≡ hex m

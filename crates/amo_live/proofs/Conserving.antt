@@ -1,35 +1,72 @@
 -- Lines are taken, and their messages put, from one moment to a later one.
-use Rattle.std.proofs.Common.{◌≡◌, ℕ, Bool, true, false, List, [], ◌∷◌, ◌++◌, Option, Some, None, is_some, reverse, refl, sym, ap, ◌∙◌, subst, append_assoc, append-nil}
-use Rattle.std.specs.Option.{option_to_list}
-use Rattle.std.proofs.lemmas.Bool.{true≢false}
+use Rattle.std.proofs.Common.{◌≡◌, ◌==◌, if◌then◌else◌, ℕ, Bool, true, false, List, [], ◌∷◌, ◌++◌, Option, Some, None, reverse, refl, sym, ap, ◌∙◌, subst, append_assoc, append-nil}
+use Rattle.std.proofs.lemmas.Bool.{eqb-true, true≢false}
 use Rattle.std.proofs.lemmas.List.{reverse-append}
 use Rattle.amo_book.specs.Pass.{PassState, mine}
 use Rattle.amo_live.specs.declared.input.Line.{Line}
 use Rattle.amo_live.specs.declared.lines.Spelling.{Spelling}
-use Rattle.amo_live.specs.Client.{Addressed, AreLines, Fills, InputState, IsPending, Moment, Moves, Serves, Takes, Waits, message_of, messages_of, moment}
+use Rattle.amo_live.specs.Backlog.{Addressed, BacklogState, kept_on, message_on, messages_on}
+use Rattle.amo_live.specs.Client.{AreLines, Fills, InputState, IsPending, Moment, Moves, Serves, Takes, Waits, message_of, messages_of, moment}
 use Rattle.amo_live.specs.Host.{puts_in}
 
 -- no message, and none was put
-pub none_moved : (kept kept' : Option Addressed) (v w : PassState) → kept' ≡ kept → puts_in (mine w) ≡ puts_in (mine v) → Moves [] kept kept' v w
-none_moved kept kept' v w still same = record { put = []; mine_is = same; order = append-nil (option_to_list kept) ∙ ap option_to_list (sym still) }
+pub none_moved : (kept kept' : BacklogState) (v w : PassState) → kept' ≡ kept → puts_in (mine w) ≡ puts_in (mine v) → Moves [] kept kept' v w
+none_moved kept kept' v w still same = record { put = []; mine_is = same; order = λ at. append-nil (kept_on at kept) ∙ ap (kept_on at) (sym still) }
 
--- one message, which was put or is kept
-pub one_moved : (v w : PassState) (stream : ℕ) (message : List ℕ) → puts_in (mine w) ≡ (stream, message) ∷ puts_in (mine v) → Moves ((stream, message) ∷ []) None None v w
-one_moved v w stream message put = record { put = (stream, message) ∷ []; mine_is = put; order = refl }
+-- one message, which is put where none is kept on its stream
+one_order : (at stream : ℕ) (message : List ℕ) (kept : BacklogState) (here : Bool) → (at == stream) ≡ here → kept_on stream kept ≡ []
+    → kept_on at kept ++ (if here then (message ∷ []) else []) ≡ (if here then (message ∷ []) else []) ++ kept_on at kept
+one_order at stream message kept true is none =
+    let empty : kept_on at kept ≡ [] = ap (λ s. kept_on s kept) (eqb-true at stream is) ∙ none in
+    ap (λ (l : List (List ℕ)). l ++ message ∷ []) empty ∙ ap (λ (l : List (List ℕ)). message ∷ l) (sym empty)
+one_order at stream message kept false is none = append-nil (kept_on at kept)
 
-pub one_kept : (v w : PassState) (stream : ℕ) (message back : List ℕ) → back ≡ message → puts_in (mine w) ≡ puts_in (mine v) → Moves ((stream, message) ∷ []) None (Some (stream, back)) v w
-one_kept v w stream message back is same = record { put = []; mine_is = same; order = ap (λ (m : List ℕ). (stream, m) ∷ []) (sym is) }
+pub one_moved : (v w : PassState) (stream : ℕ) (message : List ℕ) (kept kept' : BacklogState) → kept_on stream kept ≡ [] → kept' ≡ kept → puts_in (mine w) ≡ (stream, message) ∷ puts_in (mine v) → Moves ((stream, message) ∷ []) kept kept' v w
+one_moved v w stream message kept kept' none still put = record {
+  put = (stream, message) ∷ [];
+  mine_is = put;
+  order = λ at. ap (λ (l : List (List ℕ)). kept_on at kept ++ l) (append-nil (message_on at (stream, message)))
+      ∙ (one_order at stream message kept (at == stream) refl none ∙ (ap (λ (l : List (List ℕ)). l ++ kept_on at kept) (sym (append-nil (message_on at (stream, message)))) ∙ ap (λ (k : BacklogState). messages_on at ((stream, message) ∷ []) ++ kept_on at k) (sym still)));
+}
 
--- the message that was kept is the first
-pub kept_moved : (v w : PassState) (one : Addressed) (kept : Option Addressed) → Moves (one ∷ []) None kept v w → Moves [] (Some one) kept v w
-kept_moved v w one kept m = record { put = m.put; mine_is = m.mine_is; order = m.order }
+-- or is kept behind those that are
+pub one_kept : (v w : PassState) (stream : ℕ) (message back : List ℕ) (kept kept' : BacklogState) → back ≡ message → ((at : ℕ) → kept_on at kept' ≡ kept_on at kept ++ message_on at (stream, back)) → puts_in (mine w) ≡ puts_in (mine v) → Moves ((stream, message) ∷ []) kept kept' v w
+one_kept v w stream message back kept kept' is keeps same = record {
+  put = [];
+  mine_is = same;
+  order = λ at. ap (λ (l : List (List ℕ)). kept_on at kept ++ l) (append-nil (message_on at (stream, message))) ∙ (ap (λ (m : List ℕ). kept_on at kept ++ message_on at (stream, m)) (sym is) ∙ sym (keeps at));
+}
+
+-- the first that is kept on a stream is put
+pub first_moved : (v w : PassState) (stream : ℕ) (message : List ℕ) (kept kept' : BacklogState) → ((at : ℕ) → kept_on at kept ≡ message_on at (stream, message) ++ kept_on at kept') → puts_in (mine w) ≡ (stream, message) ∷ puts_in (mine v) → Moves [] kept kept' v w
+first_moved v w stream message kept kept' first put = record {
+  put = (stream, message) ∷ [];
+  mine_is = put;
+  order = λ at. append-nil (kept_on at kept) ∙ (first at ∙ ap (λ (l : List (List ℕ)). l ++ kept_on at kept') (sym (append-nil (message_on at (stream, message)))));
+}
+
+-- or is kept as it was
+pub first_kept : (v w : PassState) (stream : ℕ) (message back : List ℕ) (kept taken kept' : BacklogState) → back ≡ message → ((at : ℕ) → kept_on at kept ≡ message_on at (stream, message) ++ kept_on at taken)
+    → ((at : ℕ) → kept_on at kept' ≡ message_on at (stream, back) ++ kept_on at taken) → puts_in (mine w) ≡ puts_in (mine v) → Moves [] kept kept' v w
+first_kept v w stream message back kept taken kept' is first again same = record {
+  put = [];
+  mine_is = same;
+  order = λ at. append-nil (kept_on at kept) ∙ (first at ∙ (ap (λ (m : List ℕ). message_on at (stream, m) ++ kept_on at taken) (sym is) ∙ sym (again at)));
+}
+
+on_append : (at : ℕ) (some more : List Addressed) → messages_on at (some ++ more) ≡ messages_on at some ++ messages_on at more
+on_append at [] more = refl
+on_append at (one ∷ some) more = ap (λ (l : List (List ℕ)). message_on at one ++ l) (on_append at some more) ∙ sym (append_assoc (message_on at one) (messages_on at some) (messages_on at more))
 
 -- more messages
-pub moves_on : (u v w : PassState) (some more : List Addressed) (first second third : Option Addressed) → Moves some first second u v → Moves more second third v w → Moves (some ++ more) first third u w
+pub moves_on : (u v w : PassState) (some more : List Addressed) (first second third : BacklogState) → Moves some first second u v → Moves more second third v w → Moves (some ++ more) first third u w
 moves_on u v w some more first second third one two = record {
   put = one.put ++ two.put;
   mine_is = two.mine_is ∙ (ap (λ (l : List Addressed). reverse two.put ++ l) one.mine_is ∙ (sym (append_assoc (reverse two.put) (reverse one.put) (puts_in (mine u))) ∙ ap (λ (l : List Addressed). l ++ puts_in (mine u)) (sym (reverse-append one.put two.put))));
-  order = sym (append_assoc (option_to_list first) some more) ∙ (ap (λ (l : List Addressed). l ++ more) one.order ∙ (append_assoc one.put (option_to_list second) more ∙ (ap (λ (l : List Addressed). one.put ++ l) two.order ∙ sym (append_assoc one.put two.put (option_to_list third)))));
+  order = λ at. ap (λ (l : List (List ℕ)). kept_on at first ++ l) (on_append at some more) ∙ (sym (append_assoc (kept_on at first) (messages_on at some) (messages_on at more))
+      ∙ (ap (λ (l : List (List ℕ)). l ++ messages_on at more) (one.order at) ∙ (append_assoc (messages_on at one.put) (kept_on at second) (messages_on at more)
+      ∙ (ap (λ (l : List (List ℕ)). messages_on at one.put ++ l) (two.order at) ∙ (sym (append_assoc (messages_on at one.put) (messages_on at two.put) (kept_on at third))
+      ∙ ap (λ (l : List (List ℕ)). l ++ kept_on at third) (sym (on_append at one.put two.put)))))));
 }
 
 messages_append : (puts : Bool) (streams : ℕ) (some more : List Line) → messages_of puts streams (some ++ more) ≡ messages_of puts streams some ++ messages_of puts streams more
@@ -87,8 +124,8 @@ module _ (spelling : Spelling) (puts : Bool) (streams : ℕ) where
   serves_on m n o some more one two = record {
     lines = one.lines ++ two.lines;
     closed = λ shut.
-        let was = one.closed shut in let then = two.closed was.1 in
-        (ap (λ (l : List ℕ). l ++ more) was.0 ∙ then.0, then.1);
+        let was = one.closed shut in let later = two.closed was.1 in
+        (ap (λ (l : List ℕ). l ++ more) was.0 ∙ later.0, later.1);
     text = λ text p.
         let (f, middle, is, are, q) = one.text text p in
         let (g, rest, next, too, r) = two.text middle q in (
@@ -107,22 +144,22 @@ module _ (spelling : Spelling) (puts : Bool) (streams : ℕ) where
   serves_as other were many bytes m n one two three h =
       subst (λ (x : Spelling). Serves x puts streams bytes m n) one (subst (λ (b : Bool). Serves other b streams bytes m n) two (subst (λ (k : ℕ). Serves other were k bytes m n) three h))
 
-  pub serves_to : (bytes : List ℕ) (m : Moment) (i j : InputState) (k l : Option Addressed) (v w : PassState) → j ≡ i → l ≡ k → w ≡ v → Serves spelling puts streams bytes m (moment i k v) → Serves spelling puts streams bytes m (moment j l w)
+  pub serves_to : (bytes : List ℕ) (m : Moment) (i j : InputState) (k l : BacklogState) (v w : PassState) → j ≡ i → l ≡ k → w ≡ v → Serves spelling puts streams bytes m (moment i k v) → Serves spelling puts streams bytes m (moment j l w)
   serves_to bytes m i j k l v w one two three h =
-      subst (λ (x : InputState). Serves spelling puts streams bytes m (moment x l w)) (sym one) (subst (λ (x : Option Addressed). Serves spelling puts streams bytes m (moment i x w)) (sym two) (subst (λ (x : PassState). Serves spelling puts streams bytes m (moment i k x)) (sym three) h))
+      subst (λ (x : InputState). Serves spelling puts streams bytes m (moment x l w)) (sym one) (subst (λ (x : BacklogState). Serves spelling puts streams bytes m (moment i x w)) (sym two) (subst (λ (x : PassState). Serves spelling puts streams bytes m (moment i k x)) (sym three) h))
 
   -- one line more
-  pub line_over : (other : Spelling) (were : Bool) (many : ℕ) (m : Moment) (i j at : InputState) (k l : Option Addressed) (v w : PassState) (line : Line) (read : Option Line)
-      → other ≡ spelling → were ≡ puts → many ≡ streams → Serves spelling puts streams [] m (moment i k v) → read ≡ Some line → Takes other i j read → j.is_open ≡ i.is_open → at ≡ j → k ≡ None
-      → Moves (message_of were many line) None l v w → Serves spelling puts streams [] m (moment at l w)
-  line_over other were many m i j at k l v w line read one two three h is takes still same none moves =
+  pub line_over : (other : Spelling) (were : Bool) (many : ℕ) (m : Moment) (i j at : InputState) (k l : BacklogState) (v w : PassState) (line : Line) (read : Option Line)
+      → other ≡ spelling → were ≡ puts → many ≡ streams → Serves spelling puts streams [] m (moment i k v) → read ≡ Some line → Takes other i j read → j.is_open ≡ i.is_open → at ≡ j
+      → Moves (message_of were many line) k l v w → Serves spelling puts streams [] m (moment at l w)
+  line_over other were many m i j at k l v w line read one two three h is takes still same moves =
       let taken : Takes spelling i j (Some line) = subst (λ (x : Spelling). Takes x i j (Some line)) one (subst (λ (r : Option Line). Takes other i j r) is takes) in
-      let here : Moves (message_of puts streams line) k l v w = subst (λ (x : Option Addressed). Moves (message_of puts streams line) x l v w) (sym none)
-      (subst (λ (b : Bool). Moves (message_of b streams line) None l v w) two (subst (λ (n : ℕ). Moves (message_of were n line) None l v w) three moves)) in
+      let here : Moves (message_of puts streams line) k l v w =
+      subst (λ (b : Bool). Moves (message_of b streams line) k l v w) two (subst (λ (n : ℕ). Moves (message_of were n line) k l v w) three moves) in
       serves_to [] m j at l l w w same refl refl (serves_on m (moment i k v) (moment j l w) [] [] h (serves_line (moment i k v) (moment j l w) line taken still here))
 
   -- no line more
-  pub none_over : (other : Spelling) (m : Moment) (i j : InputState) (k : Option Addressed) (v : PassState) (read : Option Line)
+  pub none_over : (other : Spelling) (m : Moment) (i j : InputState) (k : BacklogState) (v : PassState) (read : Option Line)
       → Serves spelling puts streams [] m (moment i k v) → read ≡ None → Takes other i j read → j.is_open ≡ i.is_open → Serves spelling puts streams [] m (moment j k v)
   none_over other m i j k v read h is takes still =
       let none : Takes other i j None = subst (λ (r : Option Line). Takes other i j r) is takes in
@@ -133,7 +170,7 @@ module _ (spelling : Spelling) (puts : Bool) (streams : ℕ) where
       serves_on m (moment i k v) (moment j k v) [] [] h (serves_bytes (moment i k v) (moment j k v) [] waits (none_moved k k v v refl refl))
 
   -- a turn: a reader was asked, nothing was put, and then lines were taken
-  pub turn_over : (bytes : List ℕ) (i j at to : InputState) (k l m n : Option Addressed) (v w x y : PassState) → Waits i j bytes → l ≡ k → puts_in (mine w) ≡ puts_in (mine v)
+  pub turn_over : (bytes : List ℕ) (i j at to : InputState) (k l m n : BacklogState) (v w x y : PassState) → Waits i j bytes → l ≡ k → puts_in (mine w) ≡ puts_in (mine v)
       → Serves spelling puts streams [] (moment j l w) (moment at m x) → to ≡ at → n ≡ m → y ≡ x → Serves spelling puts streams bytes (moment i k v) (moment to n y)
   turn_over bytes i j at to k l m n v w x y waits still quiet h one two three =
       serves_to bytes (moment i k v) at to m n x y one two three
@@ -153,7 +190,3 @@ waits_filled i j bytes opened fills = record {
   closed = λ shut. let no : true ≡ false = sym opened ∙ shut in absurd (true≢false no);
   text = fills;
 }
-
-pub none_kept : (kept : Option Addressed) → is_some kept ≡ false → kept ≡ None
-none_kept None is = refl
-none_kept (Some m) is = absurd (true≢false is)

@@ -1,4 +1,5 @@
 pub mod Clients
+pub mod Backlogs
 pub mod Conserving
 pub mod Driving
 pub mod Emissions

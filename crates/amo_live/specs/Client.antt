@@ -1,6 +1,5 @@
 -- A client's lines, and what becomes of the messages in them.
 use Rattle.std.specs.Prelude.{◌≡◌, ◌≢◌, ℕ, ◌<◌, ◌^◌, Bool, true, false, not, ◌&&◌, ◌||◌, nat_le, ◌==◌, if◌then◌else◌, Option, Some, None, Result, Ok, Err, List, [], ◌∷◌, ◌++◌, length, reverse}
-use Rattle.std.specs.Option.{option_to_list}
 use Rattle.std.specs.Fmt.{decimal}
 use Rattle.amo_packet.specs.Stream.{IsStream}
 use Rattle.amo_text.specs.Hexadecimal.{hex}
@@ -12,11 +11,8 @@ use Rattle.amo_live.specs.declared.lines.LineFault.TheVariants.{NoStream, Stream
 use Rattle.amo_live.specs.declared.lines.Spelling.{Spelling}
 use Rattle.amo_live.specs.declared.input.Line.{Line}
 use Rattle.amo_live.specs.declared.input.Line.TheVariants.{Put, Unread}
+use Rattle.amo_live.specs.Backlog.{Addressed, BacklogState, kept_on, messages_on}
 use Rattle.amo_live.specs.Host.{puts_in}
-
--- a message on a stream
-abbrev pub Addressed : Type 0
-Addressed = ℕ × List ℕ
 
 -- a message, as a client spells it
 abbrev pub spelt : Spelling → List ℕ → List ℕ
@@ -110,20 +106,20 @@ abbrev pub messages_of : Bool → ℕ → List Line → List Addressed
 messages_of puts streams [] = []
 messages_of puts streams (line ∷ lines) = message_of puts streams line ++ messages_of puts streams lines
 
--- The message that was kept, and then those of these lines, are those that were put meanwhile, in their order, and then the one that is kept now.
--- So a message that is not taken is the next to be put, and none is put twice or left out.
-pub record Moves (messages : List Addressed) (kept kept' : Option Addressed) (v w : PassState) : Type 0 where
+-- On each stream the messages that were kept, and then those of these lines, are those that were put meanwhile, in their order, and then those that are
+-- kept now. So a message that is not taken is the next to be put on its stream, none is put twice or left out, and no stream waits for another.
+pub record Moves (messages : List Addressed) (kept kept' : BacklogState) (v w : PassState) : Type 0 where
   pub put : List Addressed
   pub mine_is : puts_in (mine w) ≡ reverse put ++ puts_in (mine v)
-  pub order : option_to_list kept ++ messages ≡ put ++ option_to_list kept'
+  pub order : (stream : ℕ) → kept_on stream kept ++ messages_on stream messages ≡ messages_on stream put ++ kept_on stream kept'
 
--- what a host and its clients have at a moment: what came and was not taken, the message that is kept, and what the host did
+-- what a host and its clients have at a moment: what came and was not taken, the messages that are kept, and what the host did
 pub record Moment : Type 0 where
   pub input : InputState
-  pub kept : Option Addressed
+  pub kept : BacklogState
   pub pass : PassState
 
-abbrev pub moment : InputState → Option Addressed → PassState → Moment
+abbrev pub moment : InputState → BacklogState → PassState → Moment
 moment input kept pass = record { input = input; kept = kept; pass = pass }
 
 -- Between two moments a reader brought these bytes. What was pending, and they behind it, is the text of the lines that were taken and then what is

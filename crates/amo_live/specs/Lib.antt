@@ -1,4 +1,5 @@
 pub use Rattle.amo_settings.specs.Limits
+pub mod Backlog
 pub mod Client
 pub mod Emitted
 pub mod Fault

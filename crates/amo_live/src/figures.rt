@@ -111,7 +111,10 @@ fn span_of(micros: u64) -> usize {
     }
     let power = micros.ilog2();
     let part = (micros >> power.saturating_sub(2)) & 3;
-    (power as usize).saturating_sub(1).saturating_mul(PARTS).saturating_add(part as usize)
+    (power as usize)
+        .saturating_sub(1)
+        .saturating_mul(PARTS)
+        .saturating_add(part as usize)
 }
 
 /// The longest time of a span, in microseconds.
@@ -123,5 +126,8 @@ fn end_of(span: usize) -> u64 {
     let part = (span % PARTS) as u64;
     let first = part.saturating_add(PARTS as u64);
     let wide = power.saturating_sub(2).min(61) as u32;
-    first.saturating_add(1).saturating_mul(1 << wide).saturating_sub(1)
+    first
+        .saturating_add(1)
+        .saturating_mul(1 << wide)
+        .saturating_sub(1)
 }

@@ -35,6 +35,7 @@
 #![tactic(auto)]
 
 mod acts;
+mod backlog;
 mod bell;
 mod calls;
 mod fault;
@@ -63,6 +64,7 @@ mod words;
 
 pub use amo_disk::{Cause, Durable, OpenFault};
 pub use amo_journal::Version;
+pub use backlog::Backlog;
 pub use bell::Bell;
 pub use fault::{LiveFault, LivesOpenFault, ProcessFault, ServeFault, SocketFault};
 pub use figures::{Dropped, Figures, Times, Traffic};

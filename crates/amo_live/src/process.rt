@@ -7,8 +7,8 @@ ghost use Rattle.amo_live.specs.Service.{new_version, streams_of, words_of};
 ghost use Rattle.amo_live.specs.Words.{words_in};
 
 use crate::{
-    Bell, Desk, Durable, Ended, Host, Input, Journal, Limits, Lineage, LiveFault, Plan, ProcessFault,
-    Service, Setup, serve,
+    Backlog, Bell, Desk, Durable, Ended, Host, Input, Journal, Limits, Lineage, LiveFault, Plan,
+    ProcessFault, Service, Setup, serve,
 };
 use amo_disk::Start;
 use amo_journal::Version;
@@ -56,7 +56,7 @@ pub fn run_process<
         input: Input::new(alloc)?,
         spelling: plan.setup.spelling,
         puts: plan.setup.side == End::Sender,
-        kept: None,
+        kept: Backlog::new(alloc, plan.setup.streams)?,
         bell,
     };
     work(rt, alloc, plan, link, sink, place, words, desk)

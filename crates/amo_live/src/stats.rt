@@ -86,6 +86,12 @@ fn tell_figures<C: Eprint, L: Link, S: Sink, W: Lineage>(
     let seconds = now / SECOND;
     let _ = eprintln!(rt;
         "amo: stats: seconds={seconds} put={put} got={got} yes={yes} no={no} waiting={waiting} held={held} open={open} handshakes={ended} p50_us={half} p99_us={most} sent={} again={} received={} unread={} foreign={} idle={} faults={} line={line}",
-        traffic.sent, traffic.again, traffic.received, dropped.unread, dropped.foreign, dropped.idle, traffic.faults
+        traffic.sent,
+        traffic.again,
+        traffic.received,
+        dropped.unread,
+        dropped.foreign,
+        dropped.idle,
+        traffic.faults
     );
 }

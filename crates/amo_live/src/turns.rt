@@ -12,7 +12,9 @@ use crate::lines::LineFault;
 use crate::notices::Notices;
 use crate::ready::{Waited, takes_more, wait};
 use crate::stats::Stats;
-use crate::{Bell, Durable, Input, Line, Lineage, LiveFault, ServeFault, Service, Spelling};
+use crate::{
+    Backlog, Bell, Durable, Figures, Input, Line, Lineage, LiveFault, ServeFault, Service, Spelling,
+};
 use amo_net::Link;
 use amo_packet::Message;
 use std::io::{Read, Write};
@@ -65,8 +67,8 @@ pub struct Desk<I, O> {
     pub spelling: Spelling,
     /// Lines are messages to be put. Otherwise none is read.
     pub puts: bool,
-    /// The message that was not taken, which is put again.
-    pub kept: Option<(u32, Message)>,
+    /// The messages that were not taken, which are put again.
+    pub kept: Backlog,
     /// Where the host is asked to come to its end.
     pub bell: Bell,
 }
@@ -91,7 +93,7 @@ pub fn serve<C: Clock + Eprint, L: Link, S: Durable, W: Lineage, I: Read, O: Wri
 ) -> Result<Ended, ServeFault>
     requires { IsNoted S.written service.old.host }
     ensures noted { OnOk result (IsNoted S.written service.new.host) }
-    // Each line was taken once, and its message put once or kept; a message that was refused was the next to be put again.
+    // Each line was taken once, and its message put once or kept; a message that was refused was the next to be put on its stream.
     ensures serves { OnOk result ((bytes : List ℕ) × Consumes (I.remaining desk.old.reader) (I.remaining desk.new.reader) bytes
         × Serves desk.old.spelling desk.old.puts (streams_of service.old) bytes
         (moment desk.old.input desk.old.kept service.old.host.pass) (moment desk.new.input desk.new.kept service.new.host.pass)) }
@@ -122,6 +124,7 @@ pub fn serve<C: Clock + Eprint, L: Link, S: Durable, W: Lineage, I: Read, O: Wri
         let is_at_rest = service.is_at_rest() && !service.has_unread() && desk.keeps_none();
         if let Some(ended) = limits.ending(is_at_rest, since, now) {
             desk.tell_of_rest(rt);
+            desk.tell_of_open(rt, ended, service.figures());
             stats.tell_last(rt, service, now);
             return Ok(desk.ended(ended));
         }
@@ -177,7 +180,7 @@ fn turn<C: Clock + Eprint, L: Link, S: Durable, W: Lineage, I: Read, O: Write>(
     Ok(())
 }
 
-/// Puts what came: first the message that was kept, then each line, until a message is not taken.
+/// Puts what came: first what waits, stream after stream, and then each line, until as many messages wait as may.
 fn take_lines<C: Eprint, L: Link, S: Durable, W: Lineage, I: Read, O: Write>(
     rt: &C,
     service: &mut Service<L, S, W>,
@@ -197,9 +200,9 @@ fn take_lines<C: Eprint, L: Link, S: Durable, W: Lineage, I: Read, O: Write>(
     if desk.bell.was_rung() {
         return Ok(());
     }
-    put_kept(service, desk, now)?;
+    put_kept(service, &mut desk.kept, now)?;
     'lines: for _line in 0..u64::MAX {
-        if desk.kept.is_some() {
+        if desk.kept.is_full() {
             break;
         }
         let Some(line) = desk.input.next(desk.spelling)? else {
@@ -210,26 +213,79 @@ fn take_lines<C: Eprint, L: Link, S: Durable, W: Lineage, I: Read, O: Write>(
     Ok(())
 }
 
-/// Puts the message that was kept, if there is one.
-#[tactic(auto, using(crate::proofs::Fresh::bears_none))]
-fn put_kept<L: Link, S: Durable, W: Lineage, I: Read, O: Write>(
+/// Puts the messages that wait, stream after stream, each as far as it takes them.
+fn put_kept<L: Link, S: Durable, W: Lineage>(
     service: &mut Service<L, S, W>,
-    desk: &mut Desk<I, O>,
+    kept: &mut Backlog,
     now: u64,
 ) -> Result<(), ServeFault>
     requires { IsNoted S.written service.old.host }
     ensures noted { OnOk result (IsNoted S.written service.new.host) }
-    ensures moves { OnOk result (Moves [] desk.old.kept desk.new.kept service.old.host.pass service.new.host.pass) }
+    ensures moves { OnOk result (Moves [] kept.old kept.new service.old.host.pass service.new.host.pass) }
     ensures streams { streams_of service.new ≡ streams_of service.old }
     ensures shown { OnOk result (ShowsMore (spelling_of service.old) service.old.host.pass service.new.host.pass (shown_by service.old) (shown_by service.new)) }
     ensures words { OnOk result (BearsNew W.is_drawn (words_of service.old) (words_of service.new) service.old.host.pass service.new.host.pass) }
     ensures spells { spelling_of service.new ≡ spelling_of service.old }
-    ensures same { desk.new ≡ record desk.old { kept = desk.new.kept } }
 {
-    if let Some((stream, message)) = desk.kept.take() {
-        desk.kept = put_or_keep(service, stream, message, now)?;
+    if kept.is_empty() {
+        return Ok(());
+    }
+    let streams = kept.streams();
+    'streams: for place in 0..streams {
+        put_kept_on(service, kept, place.saturating_add(1), now)?;
     }
     Ok(())
+}
+
+/// Puts the messages that wait on a stream, until it takes no more.
+fn put_kept_on<L: Link, S: Durable, W: Lineage>(
+    service: &mut Service<L, S, W>,
+    kept: &mut Backlog,
+    stream: u32,
+    now: u64,
+) -> Result<(), ServeFault>
+    requires { IsNoted S.written service.old.host }
+    ensures noted { OnOk result (IsNoted S.written service.new.host) }
+    ensures moves { OnOk result (Moves [] kept.old kept.new service.old.host.pass service.new.host.pass) }
+    ensures streams { streams_of service.new ≡ streams_of service.old }
+    ensures shown { OnOk result (ShowsMore (spelling_of service.old) service.old.host.pass service.new.host.pass (shown_by service.old) (shown_by service.new)) }
+    ensures words { OnOk result (BearsNew W.is_drawn (words_of service.old) (words_of service.new) service.old.host.pass service.new.host.pass) }
+    ensures spells { spelling_of service.new ≡ spelling_of service.old }
+{
+    'messages: for _message in 0..u64::MAX {
+        if !put_first(service, kept, stream, now)? {
+            break;
+        }
+    }
+    Ok(())
+}
+
+/// Puts the first message that waits on a stream. Answers whether it was taken.
+#[tactic(auto, using(crate::proofs::Fresh::bears_none))]
+fn put_first<L: Link, S: Durable, W: Lineage>(
+    service: &mut Service<L, S, W>,
+    kept: &mut Backlog,
+    stream: u32,
+    now: u64,
+) -> Result<bool, ServeFault>
+    requires { IsNoted S.written service.old.host }
+    ensures noted { OnOk result (IsNoted S.written service.new.host) }
+    ensures moves { OnOk result (Moves [] kept.old kept.new service.old.host.pass service.new.host.pass) }
+    ensures streams { streams_of service.new ≡ streams_of service.old }
+    ensures shown { OnOk result (ShowsMore (spelling_of service.old) service.old.host.pass service.new.host.pass (shown_by service.old) (shown_by service.new)) }
+    ensures words { OnOk result (BearsNew W.is_drawn (words_of service.old) (words_of service.new) service.old.host.pass service.new.host.pass) }
+    ensures spells { spelling_of service.new ≡ spelling_of service.old }
+{
+    let Some(message) = kept.take(stream) else {
+        return Ok(false);
+    };
+    match service.put(stream, message, now)? {
+        Some(message) => {
+            kept.put_back(stream, message)?;
+            Ok(false)
+        }
+        None => Ok(true),
+    }
 }
 
 /// Puts the message of a line, if it is one for a stream of this host.
@@ -241,10 +297,9 @@ fn put_line<C: Eprint, L: Link, S: Durable, W: Lineage, I: Read, O: Write>(
     line: Line,
     now: u64,
 ) -> Result<(), ServeFault>
-    requires noted { IsNoted S.written service.old.host }
-    requires none_kept { desk.old.kept ≡ None }
+    requires { IsNoted S.written service.old.host }
     ensures noted { OnOk result (IsNoted S.written service.new.host) }
-    ensures moves { OnOk result (Moves (message_of desk.old.puts (streams_of service.old) line) None desk.new.kept service.old.host.pass service.new.host.pass) }
+    ensures moves { OnOk result (Moves (message_of desk.old.puts (streams_of service.old) line) desk.old.kept desk.new.kept service.old.host.pass service.new.host.pass) }
     ensures streams { streams_of service.new ≡ streams_of service.old }
     ensures shown { OnOk result (ShowsMore (spelling_of service.old) service.old.host.pass service.new.host.pass (shown_by service.old) (shown_by service.new)) }
     ensures words { OnOk result (BearsNew W.is_drawn (words_of service.old) (words_of service.new) service.old.host.pass service.new.host.pass) }
@@ -253,7 +308,7 @@ fn put_line<C: Eprint, L: Link, S: Durable, W: Lineage, I: Read, O: Write>(
 {
     match line {
         Line::Put(stream, message) if desk.puts && service.has(stream) => {
-            desk.kept = put_or_keep(service, stream, message, now)?;
+            put_or_keep(service, &mut desk.kept, stream, message, now)?;
         }
         Line::Put(stream, _) => {
             let fault = LineFault::Stream(u64::from(stream));
@@ -264,25 +319,31 @@ fn put_line<C: Eprint, L: Link, S: Durable, W: Lineage, I: Read, O: Write>(
     Ok(())
 }
 
-/// Puts a message. One that is not taken is to be kept, with its stream.
+/// Puts a message, unless others wait on its stream. One that is not taken waits behind them.
+#[tactic(auto, using(crate::proofs::Fresh::bears_none))]
 fn put_or_keep<L: Link, S: Durable, W: Lineage>(
     service: &mut Service<L, S, W>,
+    kept: &mut Backlog,
     stream: u32,
     message: Message,
     now: u64,
-) -> Result<Option<(u32, Message)>, LiveFault>
+) -> Result<(), ServeFault>
     requires { IsNoted S.written service.old.host }
     ensures noted { OnOk result (IsNoted S.written service.new.host) }
-    ensures moves { IfOk result (λ kept. Moves ((stream, message) ∷ []) None kept service.old.host.pass service.new.host.pass) }
+    ensures moves { OnOk result (Moves ((stream, message) ∷ []) kept.old kept.new service.old.host.pass service.new.host.pass) }
     ensures streams { streams_of service.new ≡ streams_of service.old }
     ensures shown { OnOk result (ShowsMore (spelling_of service.old) service.old.host.pass service.new.host.pass (shown_by service.old) (shown_by service.new)) }
     ensures words { OnOk result (BearsNew W.is_drawn (words_of service.old) (words_of service.new) service.old.host.pass service.new.host.pass) }
     ensures spells { spelling_of service.new ≡ spelling_of service.old }
 {
-    match service.put(stream, message, now)? {
-        Some(message) => Ok(Some((stream, message))),
-        None => Ok(None),
+    if kept.has(stream) {
+        kept.keep(stream, message)?;
+        return Ok(());
     }
+    if let Some(message) = service.put(stream, message, now)? {
+        kept.keep(stream, message)?;
+    }
+    Ok(())
 }
 
 impl Limits {
@@ -321,14 +382,14 @@ impl Limits {
 }
 
 impl<I: Read, O: Write> Desk<I, O> {
-    /// Whether no line is taken any more, or none before the peer has answered: then one waits to be put, and its stream is not at rest.
+    /// Whether no line is taken any more.
     fn takes_none(&self) -> bool {
-        self.bell.was_rung() || !self.input.is_open() || self.kept.is_some()
+        self.bell.was_rung() || !self.input.is_open()
     }
 
     /// Whether no message waits to be put: none was refused, or the host comes to its end before.
     fn keeps_none(&self) -> bool {
-        self.bell.was_rung() || self.kept.is_none()
+        self.bell.was_rung() || self.kept.is_empty()
     }
 
     /// Tells which lines were not put, where the host was asked to come to its end.
@@ -336,17 +397,41 @@ impl<I: Read, O: Write> Desk<I, O> {
         if !self.bell.was_rung() {
             return;
         }
-        let kept = u64::from(self.kept.is_some());
-        let put = self.input.lines().saturating_sub(kept);
-        let _ = if self.puts {
-            eprintln!(rt; "amo: was asked to come to its end: no line behind line {put} was put")
-        } else {
+        let (kept, lines) = (self.kept.len(), self.input.lines());
+        let _ = if !self.puts {
             eprintln!(rt; "amo: was asked to come to its end")
+        } else if kept == 0 {
+            eprintln!(rt; "amo: was asked to come to its end: no line behind line {lines} was put")
+        } else {
+            eprintln!(rt;
+                "amo: was asked to come to its end: {kept} of the lines up to line {lines} were not put, and none behind it"
+            )
         };
     }
 
-    /// Waits, also until messages that wait to be shown can be, and reads lines once where some have come. While a message waits to be put again, lines wait too. A host that puts none reads nothing,
-    /// and ends where nobody reads its messages any more.
+    /// Tells how much is open at the end, where something is.
+    fn tell_of_open<C: Eprint>(&self, rt: &C, ended: Ended, figures: Figures) {
+        let Ended::OnItsWay = ended else {
+            return;
+        };
+        let Figures {
+            waiting,
+            held,
+            open,
+            ..
+        } = figures;
+        let kept = self.kept.len();
+        let _ = if self.puts {
+            eprintln!(rt;
+                "amo: {open} handshakes are open, {waiting} messages wait behind them, and {kept} lines were not put"
+            )
+        } else {
+            eprintln!(rt; "amo: {open} handshakes are open, and {held} messages were not got")
+        };
+    }
+
+    /// Waits, also until messages that wait to be shown can be, and reads lines once where some have come, unless as many messages wait to be put as
+    /// may. A host that puts none reads nothing, and ends where nobody reads its messages any more.
     fn wait<C: Clock>(&mut self, rt: &C, limit: i32, takes: bool) -> Result<(), ServeFault>
         ensures unread { OnOk result (self.old.puts ≡ false → self.new.reader ≡ self.old.reader) }
         ensures waits { OnOk result ((bytes : List ℕ) × Consumes (I.remaining self.old.reader) (I.remaining self.new.reader) bytes × Waits self.old.input self.new.input bytes) }
@@ -371,7 +456,7 @@ impl<I: Read, O: Write> Desk<I, O> {
         ensures puts { result ≡ true → self.now.puts ≡ true }
         ensures opened { result ≡ true → self.now.input.is_open ≡ true }
     {
-        self.puts && self.input.is_open() && self.kept.is_none() && !self.bell.was_rung()
+        self.puts && self.input.is_open() && !self.kept.is_full() && !self.bell.was_rung()
     }
 
     /// What is waited for, where lines are read or not, and messages wait to be shown or not.
@@ -413,7 +498,7 @@ impl<I: Read, O: Write> Desk<I, O> {
 
     /// Tells that the last line has no end, if it has none and each line before it was taken. Answers whether it did.
     fn tell_of_torn<C: Eprint>(&self, rt: &C) -> bool {
-        let is_torn = self.kept.is_none() && self.input.is_torn();
+        let is_torn = self.kept.is_empty() && self.input.is_torn();
         if is_torn {
             let line = self.input.lines().saturating_add(1);
             let _ = eprintln!(rt; "amo: line {line} has no end");

@@ -93,7 +93,14 @@ impl<L: Link, S: Sink, W: Lineage> Service<L, S, W> {
     }
 
     /// A packet that brings so many messages was delivered on a stream, whose side is in this mode now. It holds them, if it held none before.
-    pub(crate) fn arrive(&mut self, stream: u32, mode: Mode, is_other: bool, brought: usize, now: u64)
+    pub(crate) fn arrive(
+        &mut self,
+        stream: u32,
+        mode: Mode,
+        is_other: bool,
+        brought: usize,
+        now: u64,
+    )
         ensures host { self.new.host ≡ self.old.host }
         ensures streams { streams_of self.new ≡ streams_of self.old }
         ensures shown { (shown_by self.new ≡ shown_by self.old) × (self.new.setup ≡ self.old.setup) }
