@@ -322,8 +322,8 @@ pub(crate) const OUTCOMES_ABOUT: &str =
     "Tells what became of each message that was put: it was got, is gone, is open, or unknown";
 
 pub(crate) const OUTCOMES_AFTER_HELP: &str =
-    "Of a sender's and a receiver's journal, in either order, of which `amo audit` prints `yes`, a line
-is printed for each message that was put, in the order of the journal:
+    "Of a sender's and a receiver's journal, in either order, a line is printed for each message that was
+put, in the order of the journal:
   NUMBER STREAM OUTCOME TEXT    NUMBER stands in front of the put's own line in its journal
 or 0xHEX in place of TEXT where it is no UTF-8 or has a control character other than a tab.
 With --json: {\"number\":12,\"stream\":1,\"outcome\":\"gone\",\"text\":\"TEXT\"}, or \"hex\":\"HEX\" in
@@ -348,13 +348,18 @@ whether it was got, is gone or is open. A journal of both sides, as of `amo run`
 Got means that the message is in the receiver's journal and was handed to its standard output. It does
 not mean that anybody acted on it.
 
-Stop both hosts first: of hosts at work one journal may be ahead of the other, or end in the middle of
-a line, and then nothing is told but that. A loss of power may have taken last lines of a host without
---sync, whose packets had left: then gone may be said of a message that is got all the same.
+Hosts may be at work, and one journal may end earlier than the other, or in the middle of a line. Then
+what is told is of beginnings of both that explain each other, and got and gone stay so. Standard error
+names the first line of the other one of which nothing is told:
+  amo: FILE: not told from line L on: it delivers what the other journal has not sent
+A loss of power may have taken last lines of a host without --sync, whose packets had left. By FILE.lives,
+beside each journal, what would be gone is unknown where the machine started again behind a life of a
+host, or behind its last one now. Where that file is missing standard error says so, and then gone may be
+said of a message that is got all the same.
 
-Of any other files the line that `amo audit` prints goes to standard error. Of a sender's journal alone
-it is not asked whether what came was sent, which both together tell. Journals may be in pieces, as of
-`amo audit`.
+Of files with a fault, whatever follows in them, the line that `amo audit` prints goes to standard error,
+and nothing is told. Of a sender's journal alone it is not asked whether what came was sent, which both
+together tell. Journals may be in pieces, as of `amo audit`.
 
 Status:
   0  all is told

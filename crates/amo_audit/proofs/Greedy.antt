@@ -35,14 +35,14 @@ abbrev pub IsAhead : List Event → List Event → List Event → List Event →
 IsAhead now was first second = (n : ℕ) (side : End) → sight n side now ≡ run n side second (run n side first (sight n side was))
 
 -- what might go then, may go now
-goes : (now was first second : List Event) (e : Event) → IsAhead now was first second → DeliversEmitted was e → DeliversEmitted now e
+pub goes : (now was first second : List Event) (e : Event) → IsAhead now was first second → DeliversEmitted was e → DeliversEmitted now e
 goes now was first second e ahead = still was now e
     (λ n at p c. subst (λ (v : Sight). Contains v.emitted p) (sym (ahead n at)) (kept n at second (run n at first (sight n at was)) p (kept n at first (sight n at was) p c)))
 
-ahead_first : (now was first second : List Event) (e : Event) → IsAhead now was (e ∷ first) second → IsAhead now (e ∷ was) first second
+pub ahead_first : (now was first second : List Event) (e : Event) → IsAhead now was (e ∷ first) second → IsAhead now (e ∷ was) first second
 ahead_first now was first second e ahead n side = ahead n side ∙ ap (λ (v : Sight). run n side second (run n side first v)) (sym (sight_more n side was e))
 
-ahead_second : (now was first second : List Event) (e : Event) → ((x : Event) → Contains first x → x.stream ≡ e.stream → x.side ≡ e.side → ⊥) → IsAhead now was first (e ∷ second) → IsAhead now (e ∷ was) first second
+pub ahead_second : (now was first second : List Event) (e : Event) → ((x : Event) → Contains first x → x.stream ≡ e.stream → x.side ≡ e.side → ⊥) → IsAhead now was first (e ∷ second) → IsAhead now (e ∷ was) first second
 ahead_second now was first second e apart ahead n side =
     ahead n side
     ∙ ap (run n side second) (sym (in_either_order n side e first (sight n side was) apart))
@@ -71,10 +71,10 @@ abbrev tail : List Event → List Event
 tail [] = []
 tail (x ∷ xs) = xs
 
-same_head : (x y : Event) (xs ys : List Event) → x ∷ xs ≡ y ∷ ys → x ≡ y
+pub same_head : (x y : Event) (xs ys : List Event) → x ∷ xs ≡ y ∷ ys → x ≡ y
 same_head x y xs ys e = ap (head_or x) e
 
-same_tail : (x y : Event) (xs ys : List Event) → x ∷ xs ≡ y ∷ ys → xs ≡ ys
+pub same_tail : (x y : Event) (xs ys : List Event) → x ∷ xs ≡ y ∷ ys → xs ≡ ys
 same_tail x y xs ys e = ap tail e
 
 end_of : (xs ys : List Event) → xs ++ ys ≡ [] → ys ≡ []
@@ -201,7 +201,7 @@ decided past [] = inr (λ no. no)
 decided past (e ∷ es) = was_decided (stream_before past e) e.side e.act
 
 -- so greed gets to the end where any interleaving does
-one_after : (first : List Event) (x : Event) (xs : List Event) → first ++ x ∷ xs ≡ (first ++ x ∷ []) ++ xs
+pub one_after : (first : List Event) (x : Event) (xs : List Event) → first ++ x ∷ xs ≡ (first ++ x ∷ []) ++ xs
 one_after first x xs = simp append_assoc
 
 abbrev Completes : ℕ → List Event → Type 0

@@ -11,7 +11,10 @@ pub mod Explained
 pub mod Together
 pub mod Marked
 pub mod Entries
+pub mod Stopped
 pub mod Named
+pub mod Beginnings
 pub mod Lone
 pub mod Senders
 pub mod Exchanged
+pub mod Furthest

@@ -55,12 +55,12 @@ none_within lines (verdict.Unsent at) found = absurd found
 none_within lines (verdict.Repeat at) found = absurd found
 
 -- an interleaving is as long as both lists
-as_long : (x y merged : List Event) → Interleaves x y merged → length merged ≡ length x + length y
+pub as_long : (x y merged : List Event) → Interleaves x y merged → length merged ≡ length x + length y
 as_long x y [] both = let p = ap length both.0 in let q = ap length both.1 in omega (arith, p, q)
 as_long x y (e ∷ merged) (inl (rest, is, more)) = let p = ap length is in let long = as_long rest y merged more in omega (arith, p, long)
 as_long x y (e ∷ merged) (inr (rest, is, more)) = let p = ap length is in let long = as_long x rest merged more in omega (arith, p, long)
 
-events_within : (events : List Event) (v : Verdict) → JudgesEvents events v → audit.line_named v ≤ length events
+pub events_within : (events : List Event) (v : Verdict) → JudgesEvents events v → audit.line_named v ≤ length events
 events_within events verdict.Yes judged = omega arith
 events_within events verdict.NoMemory judged = omega arith
 events_within events (verdict.Malformed at) judged = absurd judged

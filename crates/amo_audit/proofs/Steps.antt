@@ -8,15 +8,16 @@ use Rattle.std.proofs.Math.Seq.{drop-cons}
 use Rattle.amo_world.specs.declared.event.Event.{Event}
 use Rattle.amo_world.specs.History.{IsHonest, DeliversEmitted}
 use Rattle.amo_audit.specs.Merge.{Interleaves, MayGo, Prefers, SharesSide}
-use Rattle.amo_audit.proofs.Greedy.{AreApart, IsAhead, shift, took_first, took_second, goes_on, apart_from, honest_events}
+use Rattle.amo_audit.proofs.Greedy.{AreApart, IsAhead, one_after, shift, took_first, took_second, goes_on, apart_from, honest_events}
 
 pub record Reached (first second : List Event) (i j : ℕ) (past : List Event) : Type 0 where
   pub ahead : IsAhead past [] (take i first) (take j second)
-  pub on : (rest : List Event) → Prefers past (drop i first) (drop j second) rest → Prefers [] first second (reverse past ++ rest)
+  pub on : (a b behind behind' rest : List Event) → drop i first ≡ a ++ behind → drop j second ≡ b ++ behind' → Prefers past a b rest
+      → Prefers [] (take i first ++ a) (take j second ++ b) (reverse past ++ rest)
   pub apart : AreApart first second
 
 pub nothing_taken : (first second : List Event) → (¬ (SharesSide first second)) → Reached first second 0 0 []
-nothing_taken first second not = record { ahead = λ n side. refl; on = λ rest p. p; apart = apart_from first second not }
+nothing_taken first second not = record { ahead = λ n side. refl; on = λ a b behind behind' rest p q pref. pref; apart = apart_from first second not }
 
 -- a list's next event may go only if there is one
 pub inside : (past es : List Event) (i : ℕ) → MayGo past (drop i es) → i < length es
@@ -33,6 +34,21 @@ next es i x small is =
 taken : (es : List Event) (i : ℕ) (x : Event) → i < length es → x ≡ get_or es i x → take (i + 1) es ≡ take i es ++ x ∷ []
 taken es i x small is = take_more es i x small ∙ ap (λ (y : Event). take i es ++ y ∷ []) (sym is)
 
+one_further : (es : List Event) (i : ℕ) (x : Event) (a : List Event) → i < length es → x ≡ get_or es i x → take i es ++ x ∷ a ≡ take (i + 1) es ++ a
+one_further es i x a small is = one_after (take i es) x a ∙ ap (λ (t : List Event). t ++ a) (sym (taken es i x small is))
+
+-- what may go first may go, whatever is behind it
+goes_with : (past a behind : List Event) → MayGo past a → MayGo past (a ++ behind)
+goes_with past [] behind may = absurd may
+goes_with past (e ∷ a) behind may = may
+
+-- all of both, by what is left of them
+pub on_to_the_end : (first second : List Event) (i j : ℕ) (past rest : List Event) → Reached first second i j past → Prefers past (drop i first) (drop j second) rest → Prefers [] first second (reverse past ++ rest)
+on_to_the_end first second i j past rest reached pref =
+    subst (λ (t : List Event). Prefers [] t second (reverse past ++ rest)) (take-append-drop i first)
+    (subst (λ (t : List Event). Prefers [] (take i first ++ drop i first) t (reverse past ++ rest)) (take-append-drop j second)
+    (reached.on (drop i first) (drop j second) [] [] rest (sym (append-nil (drop i first))) (sym (append-nil (drop j second))) pref))
+
 stands : (es : List Event) (i : ℕ) (x : Event) → i < length es → x ≡ get_or es i x → Contains es x
 stands es i x small is = (i, small, sym is)
 
@@ -44,7 +60,10 @@ first_taken first second i j past x small is may reached =
     let more = next first i x small is in record {
       ahead = subst (λ (t : List Event). IsAhead (x ∷ past) [] t (take j second)) (sym (taken first i x small is))
           (took_first past [] (take i first) (take j second) x (λ y c. reached.apart x y (stands first i x small is) (in_taken second j y c)) reached.ahead);
-      on = λ rest p. subst (Prefers [] first second) (sym (shift rest past x)) (reached.on (x ∷ rest) (inl (drop (i + 1) first, more, subst (MayGo past) more may, p)));
+      on = λ a b behind behind' rest p q pref.
+          subst (λ (t : List Event). Prefers [] t (take j second ++ b) (reverse (x ∷ past) ++ rest)) (one_further first i x a small is)
+          (subst (Prefers [] (take i first ++ x ∷ a) (take j second ++ b)) (sym (shift rest past x))
+          (reached.on (x ∷ a) b behind behind' (x ∷ rest) (more ∙ ap (λ (t : List Event). x ∷ t) p) q (inl (a, refl, subst (MayGo past) more may, pref))));
       apart = reached.apart;
     }
 
@@ -53,7 +72,11 @@ pub second_taken : (first second : List Event) (i j : ℕ) (past : List Event) (
 second_taken first second i j past x small is may not reached =
     let more = next second j x small is in record {
       ahead = subst (IsAhead (x ∷ past) [] (take i first)) (sym (taken second j x small is)) (took_second past [] (take i first) (take j second) x reached.ahead);
-      on = λ rest p. subst (Prefers [] first second) (sym (shift rest past x)) (reached.on (x ∷ rest) (inr (drop (j + 1) second, more, not, subst (MayGo past) more may, p)));
+      on = λ a b behind behind' rest p q pref.
+          subst (λ (t : List Event). Prefers [] (take i first ++ a) t (reverse (x ∷ past) ++ rest)) (one_further second j x b small is)
+          (subst (Prefers [] (take i first ++ a) (take j second ++ x ∷ b)) (sym (shift rest past x))
+          (reached.on a (x ∷ b) behind behind' (x ∷ rest) p (more ∙ ap (λ (t : List Event). x ∷ t) q)
+          (inr (b, refl, λ goes. not (subst (MayGo past) (sym p) (goes_with past a behind goes)), subst (MayGo past) more may, pref))));
       apart = reached.apart;
     }
 
@@ -64,7 +87,7 @@ past_end (e ∷ es) zero end = absurd (omega arith)
 past_end (e ∷ es) (suc i) end = past_end es i (omega arith)
 
 pub all_taken : (first second : List Event) (i j : ℕ) (past : List Event) → length first ≤ i → length second ≤ j → Reached first second i j past → Prefers [] first second (reverse past)
-all_taken first second i j past p q reached = subst (Prefers [] first second) (append-nil (reverse past)) (reached.on [] (past_end first i p, past_end second j q))
+all_taken first second i j past p q reached = subst (Prefers [] first second) (append-nil (reverse past)) (on_to_the_end first second i j past [] reached (past_end first i p, past_end second j q))
 
 not_end : (es : List Event) (i : ℕ) → drop i es ≡ [] → length es ≤ i
 not_end [] i e = omega arith

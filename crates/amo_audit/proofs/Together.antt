@@ -16,7 +16,7 @@ use Rattle.amo_audit.specs.Judgement.{AreApart, CannotMerge}
 use Rattle.amo_audit.specs.Merge.{IsPreferred, MayGo, Prefers}
 use Rattle.amo_audit.specs.Merging.{OfSources}
 use Rattle.amo_journal.proofs.Fields.{IsLine-fields_of}
-use Rattle.amo_audit.proofs.Steps.{Reached, nothing_taken, first_taken, second_taken, none_honest}
+use Rattle.amo_audit.proofs.Steps.{Reached, nothing_taken, first_taken, second_taken, none_honest, on_to_the_end}
 use Rattle.amo_journal.proofs.Unambiguous.{fields_of-injective}
 
 -- the event of the line in front comes first
@@ -60,7 +60,7 @@ first_of_these : (past events : List Event) → MayGo past events → (e : Event
 first_of_these past [] may = absurd may
 first_of_these past (e ∷ events) may = (e, events, refl)
 
-none_left : (events : List Event) (rest : Source) → AreComing events None rest → events ≡ []
+pub none_left : (events : List Event) (rest : Source) → AreComing events None rest → events ≡ []
 none_left [] rest coming = refl
 none_left (e ∷ events) rest coming = let no : None ≡ Some e = coming.0 in cc
 
@@ -89,7 +89,7 @@ pub record Going (first second : Source) (past : List Event) (left : Option Even
   pub right_is : AreComing (drop j y) right right_rest
 
 -- both begin
-pub begin : (first second : Source) (left : Option Event) (left_rest : Source) (right : Option Event) (right_rest : Source) (x y : List Event) → IsWhole first x → IsWhole second y → AreApart x y
+unfoldable pub begin : (first second : Source) (left : Option Event) (left_rest : Source) (right : Option Event) (right_rest : Source) (x y : List Event) → IsWhole first x → IsWhole second y → AreApart x y
     → AreComing x left left_rest → AreComing y right right_rest → Going first second [] left left_rest right right_rest
 begin first second left left_rest right right_rest x y p q apart coming coming' = record {
   x = x;
@@ -104,7 +104,7 @@ begin first second left left_rest right right_rest x y p q apart coming coming' 
 }
 
 -- the events behind the next one
-tail_of : (events : List Event) (e : Event) (next : Option Event) (rest : Source) → AreComing events next rest → next ≡ Some e → (more : List Event) × (events ≡ e ∷ more)
+pub tail_of : (events : List Event) (e : Event) (next : Option Event) (rest : Source) → AreComing events next rest → next ≡ Some e → (more : List Event) × (events ≡ e ∷ more)
 tail_of [] e next rest coming is = let no : None ≡ Some e = sym coming ∙ is in cc
 tail_of (d ∷ events) e next rest coming is =
     let same : d ≡ e = cc in
@@ -112,7 +112,7 @@ tail_of (d ∷ events) e next rest coming is =
 
 -- one event more was taken
 module _ (first second : Source) (past : List Event) (left : Option Event) (left_rest : Source) (right : Option Event) (right_rest : Source) (going : Going first second past left left_rest right right_rest) (e : Event) where
-  pub left_goes : (left' : Option Event) (left_rest' : Source) → left ≡ Some e → DeliversEmitted past e
+  unfoldable pub left_goes : (left' : Option Event) (left_rest' : Source) → left ≡ Some e → DeliversEmitted past e
       → ((more : List Event) → AreComing (e ∷ more) left left_rest → AreComing more left' left_rest')
       → Going first second (e ∷ past) left' left_rest' right right_rest
   left_goes left' left_rest' next may comes_next =
@@ -130,7 +130,7 @@ module _ (first second : Source) (past : List Event) (left : Option Event) (left
         right_is = going.right_is;
       }
 
-  pub right_goes : (right' : Option Event) (right_rest' : Source) → (NextMayGo past left → ⊥) → right ≡ Some e → DeliversEmitted past e
+  unfoldable pub right_goes : (right' : Option Event) (right_rest' : Source) → (NextMayGo past left → ⊥) → right ≡ Some e → DeliversEmitted past e
       → ((more : List Event) → AreComing (e ∷ more) right right_rest → AreComing more right' right_rest')
       → Going first second (e ∷ past) left left_rest right' right_rest'
   right_goes right' right_rest' not next may comes_next =
@@ -149,35 +149,29 @@ module _ (first second : Source) (past : List Event) (left : Option Event) (left
         right_is = subst (λ (es : List Event). AreComing es right' right_rest') at.2 (comes_next more (subst (λ (es : List Event). AreComing es right right_rest) is going.right_is));
       }
 
-apart_of : (x y : List Event) (i j : ℕ) (past : List Event) → Reached x y i j past → AreApart x y
+pub apart_of : (x y : List Event) (i j : ℕ) (past : List Event) → Reached x y i j past → AreApart x y
 apart_of x y i j past reached = λ (a, b, p, q, stream, side). reached.apart a b p q stream side
 
-past_end : (es : List Event) (i : ℕ) → length es ≤ i → drop i es ≡ []
+pub past_end : (es : List Event) (i : ℕ) → length es ≤ i → drop i es ≡ []
 past_end [] zero end = refl
 past_end [] (suc i) end = refl
 past_end (e ∷ es) zero end = absurd (omega arith)
 past_end (e ∷ es) (suc i) end = past_end es i (omega arith)
 
-none_next : (events : List Event) (next : Option Event) (rest : Source) → AreComing events next rest → events ≡ [] → next ≡ None
+pub none_next : (events : List Event) (next : Option Event) (rest : Source) → AreComing events next rest → events ≡ [] → next ≡ None
 none_next [] next rest coming is = coming
 none_next (e ∷ events) next rest coming is = cc
 
 module _ (first second : Source) (past : List Event) (left : Option Event) (left_rest : Source) (right : Option Event) (right_rest : Source) (going : Going first second past left left_rest right right_rest) where
   -- neither may go
-  pub stuck : (left ≡ None → right ≡ None → ⊥) → (NextMayGo past left → ⊥) → (NextMayGo past right → ⊥) → OfSources first second CannotMerge
+  pub stuck : (left ≡ None → right ≡ None → ⊥) → (NextMayGo past left → ⊥) → (NextMayGo past right → ⊥) → CannotMerge going.x going.y
   stuck some not not' = (
-    going.x,
-    going.y,
-    going.x_is,
-    going.y_is,
-    (
-      apart_of going.x going.y going.i going.j past going.reached,
-      none_honest going.x going.y going.i going.j past
-          (λ p q. some (none_next (drop going.i going.x) left left_rest going.left_is (past_end going.x going.i p)) (none_next (drop going.j going.y) right right_rest going.right_is (past_end going.y going.j q)))
-          (λ goes. not ((next_may_go past (drop going.i going.x) left left_rest going.left_is).1 goes))
-          (λ goes. not' ((next_may_go past (drop going.j going.y) right right_rest going.right_is).1 goes))
-          going.reached,
-    ),
+    apart_of going.x going.y going.i going.j past going.reached,
+    none_honest going.x going.y going.i going.j past
+        (λ p q. some (none_next (drop going.i going.x) left left_rest going.left_is (past_end going.x going.i p)) (none_next (drop going.j going.y) right right_rest going.right_is (past_end going.y going.j q)))
+        (λ goes. not ((next_may_go past (drop going.i going.x) left left_rest going.left_is).1 goes))
+        (λ goes. not' ((next_may_go past (drop going.j going.y) right right_rest going.right_is).1 goes))
+        going.reached,
   )
 
   -- all was taken
@@ -189,5 +183,5 @@ module _ (first second : Source) (past : List Event) (left : Option Event) (left
         going.y,
         going.x_is,
         going.y_is,
-        (apart_of going.x going.y going.i going.j past going.reached, subst (Prefers [] going.x going.y) (append-nil (reverse past)) (going.reached.on [] (p, q))),
+        (apart_of going.x going.y going.i going.j past going.reached, subst (Prefers [] going.x going.y) (append-nil (reverse past)) (on_to_the_end going.x going.y going.i going.j past [] going.reached (p, q))),
       )

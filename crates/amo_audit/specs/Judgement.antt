@@ -35,6 +35,13 @@ OfBoth first second Holds = (x : List Event) × (y : List Event) × Tell x first
 abbrev pub AreApart : List Event → List Event → Type 0
 AreApart x y = ¬ (SharesSide x y)
 
+-- why the lines of two are not merged at all: either is no journal, or a side has events in both
+abbrev pub AreNotMerged : Lines → Lines → Judgement → Type 0
+AreNotMerged first second (First v) = TellNone first v
+AreNotMerged first second (Second v) = TellSome first × TellNone second v
+AreNotMerged first second Shared = OfBoth first second SharesSide
+AreNotMerged first second _ = ⊥
+
 -- of lists that share no side, the preferred interleaving is judged so
 abbrev pub MergeIsJudged : Verdict → List Event → List Event → Type 0
 MergeIsJudged v x y = AreApart x y × ((merged : List Event) × IsPreferred x y merged × JudgesEvents merged v)

@@ -9,6 +9,7 @@ pub mod Merge
 pub mod MergeFault
 pub mod Judgement
 pub mod Merging
+pub mod Reach
 pub mod Report
 pub mod Explanation
 pub mod Outcomes

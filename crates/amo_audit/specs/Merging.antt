@@ -1,5 +1,5 @@
 -- Merging events into a site while they are read.
-use Rattle.std.specs.Prelude.{◌≡◌, ◌≤◌, Option, Some, List, ◌∷◌, reverse, IfSome}
+use Rattle.std.specs.Prelude.{◌≡◌, ◌≤◌, ℕ, ◌+◌, Bool, true, false, Option, Some, List, ◌∷◌, reverse, IfSome}
 use Rattle.amo_world.specs.declared.event.Event.{Event}
 use Rattle.amo_world.specs.History.{DeliversEmitted}
 use Rattle.amo_world.specs.Stream.{IsStream}
@@ -12,10 +12,23 @@ use Rattle.amo_audit.specs.declared.merging.Ending.TheVariants as ending
 use Rattle.amo_audit.specs.Coming.{AreComing, AreOnStreams, Has, IsWhole, NextMayGo, left_of, size_of}
 use Rattle.amo_audit.specs.Judgement.{AreApart, CannotMerge}
 use Rattle.amo_audit.specs.Merge.{IsPreferred}
+use Rattle.amo_audit.specs.declared.reach.Reach.{Reach}
+use Rattle.amo_audit.specs.declared.reach.Reach.TheVariants as how_far
+use Rattle.amo_audit.specs.Reach.{AreBeginnings, Reaches, StaysStuck}
 
 -- this holds of the events of both
 abbrev pub OfSources : Source → Source → (List Event → List Event → Type 0) → Type 0
 OfSources first second Holds = (x : List Event) × (y : List Event) × IsWhole first x × IsWhole second y × Holds x y
+
+-- of lists that share no side, no interleaving is honest, whatever follows
+abbrev pub NeverMerge : List Event → List Event → Type 0
+NeverMerge x y = CannotMerge x y × StaysStuck x y
+
+-- how a merge ends where neither next event may go, behind so many of each, if there is a next one of each
+abbrev pub stopped_at : {S : Type 0} → S → Bool → Bool → ℕ → ℕ → Ending S
+stopped_at site true true first second = ending.Stuck
+stopped_at site true false first second = ending.Early site (how_far.First (first + 1))
+stopped_at site false _ first second = ending.Early site (how_far.Second (second + 1))
 
 -- given what it is to have taken events, the newest first
 module _ {S : Type 0} (HasTaken : S → List Event → Type 0) where
@@ -39,8 +52,19 @@ module _ {S : Type 0} (HasTaken : S → List Event → Type 0) where
   abbrev pub Merges : S → List Event → List Event → Type 0
   Merges site x y = AreApart x y × ((merged : List Event) × IsPreferred x y merged × HasTaken site (reverse merged))
 
+  -- of lists that do not merge, the site has taken the preferred interleaving of the greatest beginnings that do, and they go so far
+  pub record Begins (site : S) (reach : Reach) (x y : List Event) : Type 0 where
+    pub cannot : CannotMerge x y
+    pub first : List Event
+    pub second : List Event
+    pub merged : List Event
+    pub beginnings : AreBeginnings x y first second merged
+    pub reaches : Reaches reach x y first second
+    pub taken : HasTaken site (reverse merged)
+
   -- how the merge of two sources ended
   abbrev pub Ends : Type 0 → Source → Source → Ending S → Type 0
   Ends MayEnd first second (ending.Whole site) = OfSources first second (Merges site)
-  Ends MayEnd first second ending.Stuck = OfSources first second CannotMerge
+  Ends MayEnd first second (ending.Early site reach) = OfSources first second (Begins site reach)
+  Ends MayEnd first second ending.Stuck = OfSources first second NeverMerge
   Ends MayEnd first second ending.GivenUp = MayEnd

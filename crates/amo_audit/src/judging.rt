@@ -1,6 +1,6 @@
 //! The judgement of one journal, or of two that are merged.
 ghost use Rattle.std.specs.Prelude.{◌≢◌, IfErr, IfOk, OnOk};
-ghost use Rattle.amo_audit.specs.Judgement.{AreApart, JudgesBoth, JudgesFiles, JudgesTwo, OfBoth};
+ghost use Rattle.amo_audit.specs.Judgement.{AreApart, AreNotMerged, JudgesBoth, JudgesFiles, JudgesTwo, OfBoth};
 
 use crate::auditor::Auditor;
 use crate::coming::Source;
@@ -54,6 +54,7 @@ pub(crate) fn check_apart(
 ) -> Result<(), Judgement>
     ensures apart { OnOk result (OfBoth first.entry second.entry AreApart) }
     ensures judged { IfErr result (λ judgement. JudgesTwo first.entry second.entry judgement × (judgement ≢ Judgement.Whole Verdict.Yes)) }
+    ensures not_merged { IfErr result (AreNotMerged first.entry second.entry) }
 {
     let ours = match sides_of(alloc, first) {
         Ok(sides) => sides,
@@ -82,7 +83,7 @@ fn judge_merged(alloc: Global, first: Lines<'_>, second: Lines<'_>) -> Result<Ju
         world,
     )? {
         Ending::Whole(_) => Ok(Judgement::Whole(Verdict::Yes)),
-        Ending::Stuck => Ok(Judgement::Stuck),
+        Ending::Early(..) | Ending::Stuck => Ok(Judgement::Stuck),
         Ending::GivenUp => judge_at_fault(alloc, first, second),
     }
 }
@@ -95,7 +96,7 @@ fn judge_at_fault(alloc: Global, first: Lines<'_>, second: Lines<'_>) -> Result<
     let site = Hosted::new(alloc, Auditor::new(alloc)?)?;
     match merge_into(alloc, Source::Journal(first), Source::Journal(second), site)? {
         Ending::Whole(site) => Ok(Judgement::Whole(site.into_taker().verdict())),
-        Ending::Stuck => Ok(Judgement::Stuck),
+        Ending::Early(..) | Ending::Stuck => Ok(Judgement::Stuck),
         Ending::GivenUp => unreachable!(),
     }
 }

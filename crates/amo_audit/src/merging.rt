@@ -7,12 +7,12 @@ ghost use Rattle.amo_world.specs.History.{IsHonest};
 ghost use Rattle.amo_audit.specs.Coming.{AreOnStreams, size_of};
 ghost use Rattle.amo_audit.specs.Judgement.{AreApart};
 ghost use Rattle.amo_audit.specs.Merge.{IsPreferred, IsStuck, SharesSide};
-ghost use Rattle.amo_audit.specs.Merging.{Ends, OfSources, Steps};
+ghost use Rattle.amo_audit.specs.Merging.{Ends, OfSources, Steps, stopped_at};
 
-use crate::MergeFault;
 use crate::coming::{Coming, Source};
 use crate::marking::shares_side;
 use crate::site::{Hosted, Offered, Site};
+use crate::{MergeFault, Reach};
 use amo_world::Event;
 use std::alloc::{AllocError, Global};
 
@@ -33,7 +33,7 @@ pub fn merge(alloc: Global, first: &[Event], second: &[Event]) -> Result<Vec<Eve
     let site = Hosted::new(alloc, Vec::new(alloc))?;
     match merge_into(alloc, Source::Events(first), Source::Events(second), site)? {
         Ending::Whole(site) => Ok(site.into_taker()),
-        Ending::Stuck => Err(MergeFault::Stuck),
+        Ending::Early(..) | Ending::Stuck => Err(MergeFault::Stuck),
         Ending::GivenUp => unreachable!(),
     }
 }
@@ -43,7 +43,9 @@ pub fn merge(alloc: Global, first: &[Event], second: &[Event]) -> Result<Vec<Eve
 pub(crate) enum Ending<S> {
     /// All events were taken.
     Whole(S),
-    /// No interleaving is honest.
+    /// As many as this were taken. One source has no more, and the next of the other delivers a packet that was not emitted so far.
+    Early(S, Reach),
+    /// The next of each delivers a packet that was not emitted so far: no interleaving is honest, whatever follows.
     Stuck,
     /// The site was given up.
     GivenUp,
@@ -65,24 +67,44 @@ pub(crate) fn merge_into<S: Site + Drop>(
 {
     let mut site = site;
     let mut taken = 0;
+    let mut of_first = 0;
     let mut left = Coming::read(alloc, first)?;
     let mut right = Coming::read(alloc, second)?;
     while left.next.is_some() || right.next.is_some() {
         match offer(alloc, &mut site, taken, left)? {
-            Step::Taken(now) => left = now,
+            Step::Taken(now) => {
+                left = now;
+                of_first += 1;
+            }
             Step::GivenUp => return Ok(Ending::GivenUp),
             Step::Waits(same) => {
                 left = same;
                 match offer(alloc, &mut site, taken, right)? {
                     Step::Taken(now) => right = now,
                     Step::GivenUp => return Ok(Ending::GivenUp),
-                    Step::Waits(_) => return Ok(Ending::Stuck),
+                    Step::Waits(same) => {
+                        let has_next = (left.next.is_some(), same.next.is_some());
+                        return Ok(stopped(site, has_next, of_first, taken - of_first));
+                    }
                 }
             }
         }
         taken += 1;
     }
     Ok(Ending::Whole(site))
+}
+
+/// How a merge ends where neither next event may go, if each source has one, behind so many of each.
+fn stopped<S: Drop>(site: S, has_next: (bool, bool), first: usize, second: usize) -> Ending<S>
+    requires first { first + 1 < 2 ^ 64 }
+    requires second { second + 1 < 2 ^ 64 }
+    ensures { result ≡ stopped_at site has_next.0 has_next.1 first second }
+{
+    match has_next {
+        (true, true) => Ending::Stuck,
+        (true, false) => Ending::Early(site, Reach::First(first + 1)),
+        (false, _) => Ending::Early(site, Reach::Second(second + 1)),
+    }
 }
 
 /// What became of the next of the events that are to come.

@@ -4,3 +4,4 @@ pub mod Lives
 pub mod Kept
 pub mod Fault
 pub mod Tag
+pub mod Doubt

@@ -10,16 +10,19 @@
 //! - [`Lives::check_journal`] tells whether they can be those of a journal.
 //! - [`Lives::draw_tag`] draws a tag that no life has.
 //! - [`Lives::begin`] writes the line of one life more, and hands out its words. None of them is one of an earlier life.
+//! - [`Lives::doubts`] tells of which lines a loss of power may have taken last ones, though their packets left.
 //! - [`Life`] is a life, and [`BootId`] the id of the machine's start.
 //! - [`laws`]: bytes tell of one list of lives at most, what is wrong with them is a matter of them alone, and one life more is one line more.
 //!
 //! Whoever reads the key knows all words: the file is for its owner alone. Where it is lost a new key is drawn, and words may meet earlier ones as
 //! random ones do.
 //!
-//! The grammar stands in `specs/Life.antt`, what lives are and what a file tells in `specs/Lives.antt`, faults in `specs/Fault.antt`.
+//! The grammar stands in `specs/Life.antt`, what lives are and what a file tells in `specs/Lives.antt`, faults in `specs/Fault.antt`, doubts in
+//! `specs/Doubt.antt`.
 #![tactic(auto)]
 
 mod boot;
+mod doubt;
 mod fault;
 pub mod laws;
 mod life;
@@ -30,6 +33,7 @@ mod tag;
 mod writing;
 
 pub use boot::BootId;
+pub use doubt::Span;
 pub use fault::{BeginFault, BeyondJournal, LivesFault, TagFault};
 pub use life::Life;
 pub use lives::Lives;

@@ -1,4 +1,4 @@
 pub mod Counted
-pub mod Telling
+pub mod PutLines
 pub mod SoFar
 pub mod Journals

@@ -4,3 +4,4 @@ pub mod Told
 pub mod Got
 pub mod Gets
 pub mod Alone
+pub mod Whole

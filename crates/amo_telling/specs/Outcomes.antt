@@ -1,5 +1,6 @@
 -- What is told of puts, by two journals.
-use Rattle.std.specs.Prelude.{◌≡◌, ℕ, ◌+◌, ◌==◌, Bool, true, false, not, ◌&&◌, if◌then◌else◌, List, [], ◌∷◌, ◌++◌, length, reverse}
+use Rattle.std.specs.Prelude.{◌≡◌, ◌≢◌, ℕ, ◌+◌, ◌==◌, Bool, true, false, nat_lt, not, ◌&&◌, if◌then◌else◌, List, [], ◌∷◌, ◌++◌, length, reverse}
+use Rattle.std.specs.List.{list_any}
 use Rattle.amo_core.specs.declared.act.Act.{Act}
 use Rattle.amo_core.specs.declared.act.Act.TheVariants as act
 use Rattle.amo_core.specs.declared.reply.Reply.{Reply}
@@ -12,14 +13,16 @@ use Rattle.amo_outcomes.specs.SenderOutcome.{HasSenderOutcome}
 use Rattle.amo_journal.specs.declared.lines.Lines.{Lines}
 use Rattle.amo_journal.specs.Lines.{Tell}
 use Rattle.amo_audit.specs.Audit.{AreOf, IsSound}
-use Rattle.amo_audit.specs.declared.judgement.Judgement.{Judgement}
-use Rattle.amo_audit.specs.declared.judgement.Judgement.TheVariants.{Whole}
-use Rattle.amo_audit.specs.declared.verdict.Verdict.TheVariants as verdict
-use Rattle.amo_audit.specs.Judgement.{AreApart}
-use Rattle.amo_audit.specs.Merge.{IsPreferred}
+use Rattle.amo_audit.specs.declared.reach.Reach.{Reach}
+use Rattle.amo_audit.specs.Judgement.{AreApart, judgement_status}
+use Rattle.amo_audit.specs.Outcomes.{FindsBoth, GoesOnSoundly}
+use Rattle.amo_audit.specs.Reach.{AreBeginnings, Reaches, counted}
+use Rattle.amo_lives.specs.declared.doubt.Span.{Span}
 use Rattle.amo_telling.specs.declared.choice.Choice.{Choice}
 use Rattle.amo_telling.specs.declared.put_outcome.PutOutcome.{PutOutcome}
-use Rattle.amo_telling.specs.declared.put_outcome.PutOutcome.TheVariants.{ByBoth, BySender}
+use Rattle.amo_telling.specs.declared.put_outcome.PutOutcome.TheVariants.{ByBoth, BySender, InDoubt}
+use Rattle.amo_telling.specs.declared.telling.Telling.{Telling}
+use Rattle.amo_telling.specs.declared.telling.Telling.TheVariants.{Told, Nothing}
 use Rattle.amo_telling.specs.Shown.{outcome_line}
 
 -- whether an outcome is told
@@ -47,22 +50,49 @@ abbrev pub puts_in : ℕ → List Event → ℕ
 puts_in number [] = 0
 puts_in number (e ∷ events) = puts_in number events + one_if ((number == e.stream) && is_put e.act e.reply)
 
--- the line of a put, of which this is told, if it is chosen
-abbrev pub line_if : Choice → ℕ → ℕ → List ℕ → PutOutcome → List ℕ
-line_if choice number stream m outcome = if is_chosen choice outcome then outcome_line choice.json number stream outcome m else []
+-- which outcomes are told, and which lines are doubtful
+pub record Manner : Type 0 where
+  pub choice : Choice
+  pub doubts : List Span
+
+abbrev pub by : Choice → List Span → Manner
+by choice doubts = record { choice = choice; doubts = doubts }
+
+-- whether the line of this number is one of these
+abbrev pub holds : ℕ → Span → Bool
+holds number span = not (nat_lt number span.first) && nat_lt number span.end
+
+-- what a loss of power may have changed is not known: that a put was lost, or waits
+abbrev pub doubted : PutOutcome → PutOutcome
+doubted (ByBoth Gone) = InDoubt
+doubted (BySender told.Gone) = BySender (told.Unknown false)
+doubted (BySender told.Open) = BySender (told.Unknown false)
+doubted outcome = outcome
+
+-- what is told of a put on the line of this number
+abbrev pub as_told : List Span → ℕ → PutOutcome → PutOutcome
+as_told doubts number outcome = if list_any (holds number) doubts then doubted outcome else outcome
+
+-- its line, if that is chosen
+abbrev pub line_by : Choice → ℕ → ℕ → List ℕ → PutOutcome → List ℕ
+line_by choice number stream m outcome = if is_chosen choice outcome then outcome_line choice.json number stream outcome m else []
+
+-- the line of a put, which became of it so
+abbrev pub line_if : Manner → ℕ → ℕ → List ℕ → PutOutcome → List ℕ
+line_if manner number stream m outcome = line_by manner.choice number stream m (as_told manner.doubts number outcome)
 
 -- what became of a put of a stream, in a history of both sides
 abbrev pub IsKnown : List Event → ℕ → ℕ → PutOutcome → Type 0
 IsKnown history stream put (ByBoth outcome) = HasOutcome stream history put outcome
-IsKnown history stream put (BySender outcome) = ⊥
+IsKnown history stream put _ = ⊥
 
 -- what a sender's own events tell of it
 abbrev pub IsKnownAlone : List Event → ℕ → ℕ → PutOutcome → Type 0
-IsKnownAlone history stream put (ByBoth outcome) = ⊥
 IsKnownAlone history stream put (BySender outcome) = HasSenderOutcome stream history put outcome
+IsKnownAlone history stream put _ = ⊥
 
 -- given what is told of the puts of each stream, which are counted from 0
-module _ (Has : ℕ → ℕ → PutOutcome → Type 0) (choice : Choice) where
+module _ (Has : ℕ → ℕ → PutOutcome → Type 0) (choice : Manner) where
   -- what is written of an event of a journal, on its line of this number, behind so many puts of its stream
   abbrev pub TellsReply : ℕ → ℕ → ℕ → Act → Reply → List ℕ → Type 0
   TellsReply number put stream (act.Put m) reply.Ok text = (outcome : PutOutcome) × Has stream put outcome × (text ≡ line_if choice number stream m outcome)
@@ -74,8 +104,9 @@ module _ (Has : ℕ → ℕ → PutOutcome → Type 0) (choice : Choice) where
   Tells before (e ∷ events) text = (line : List ℕ) × (more : List ℕ) × TellsReply (length before) (puts_in e.stream before) e.stream e.act e.reply line
       × Tells (e ∷ before) events more × (text ≡ line ++ more)
 
--- the text tells what became of each put of two journals whose merged history is right, honest and fresh, first those of the first one
-pub record IsTelling (choice : Choice) (first second text : List ℕ) : Type 0 where
+-- the text tells what became of each put in the greatest beginnings of two journals that merge, whose merged history is right, honest and
+-- fresh: first those of the first one
+pub record IsTelling (reach : Reach) (choice : Choice) (first second : List ℕ) (doubts doubts' : List Span) (text : List ℕ) : Type 0 where
   pub ours : Lines
   pub theirs : Lines
   pub opens : AreOf first ours × AreOf second theirs
@@ -83,15 +114,21 @@ pub record IsTelling (choice : Choice) (first second text : List ℕ) : Type 0 w
   pub y : List Event
   pub tell : Tell x ours × Tell y theirs
   pub apart : AreApart x y
+  pub our_front : List Event
+  pub their_front : List Event
   pub merged : List Event
-  pub preferred : IsPreferred x y merged
+  pub beginnings : AreBeginnings x y our_front their_front merged
+  pub found : Reach
+  pub reaches : Reaches found x y our_front their_front
+  pub counts : reach ≡ counted ours.version theirs.version found
+  pub goes_on : GoesOnSoundly found x y
   pub sound : IsSound (reverse merged)
   pub of_first : List ℕ
   pub of_second : List ℕ
-  pub puts : Tells (IsKnown (reverse merged)) choice [] x of_first × Tells (IsKnown (reverse merged)) choice [] y of_second
+  pub puts : Tells (IsKnown (reverse merged)) (by choice doubts) [] our_front of_first × Tells (IsKnown (reverse merged)) (by choice doubts') [] their_front of_second
   pub is : text ≡ of_first ++ of_second
 
--- what is written where this is found
-abbrev pub TellsIf : Judgement → Choice → List ℕ → List ℕ → List ℕ → Type 0
-TellsIf (Whole verdict.Yes) choice first second text = IsTelling choice first second text
-TellsIf _ choice first second text = text ≡ []
+-- what is written where this is told
+abbrev pub TellsIf : Telling → Choice → List ℕ → List ℕ → List Span → List Span → List ℕ → Type 0
+TellsIf (Told reach) choice first second doubts doubts' text = IsTelling reach choice first second doubts doubts' text
+TellsIf (Nothing judgement) choice first second doubts doubts' text = (text ≡ []) × FindsBoth first second judgement × (judgement_status judgement ≢ 4)

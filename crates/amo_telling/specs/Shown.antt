@@ -7,7 +7,7 @@ use Rattle.std.specs.Fmt.{decimal}
 use Rattle.amo_outcomes.specs.declared.outcome.Outcome.TheVariants.{Got, Gone, Open}
 use Rattle.amo_outcomes.specs.declared.sender_outcome.SenderOutcome.TheVariants as told
 use Rattle.amo_telling.specs.declared.put_outcome.PutOutcome.{PutOutcome}
-use Rattle.amo_telling.specs.declared.put_outcome.PutOutcome.TheVariants.{ByBoth, BySender}
+use Rattle.amo_telling.specs.declared.put_outcome.PutOutcome.TheVariants.{ByBoth, BySender, InDoubt}
 use Rattle.amo_text.specs.Hexadecimal.{hex}
 
 -- whether a character is not shown as it is: on a line a control character, but for a tab; in an object the same of the characters of one byte, and a tab
@@ -58,6 +58,7 @@ outcome_field (BySender told.Gone) = codes "gone "
 outcome_field (BySender told.Open) = codes "open "
 outcome_field (BySender (told.Unknown true)) = codes "unknown,settled "
 outcome_field (BySender (told.Unknown false)) = codes "unknown "
+outcome_field InDoubt = codes "unknown "
 
 -- and as members of an object, which say where a sender's journal alone tells it
 abbrev pub outcome_members : PutOutcome → List ℕ
@@ -69,6 +70,7 @@ outcome_members (BySender told.Gone) = codes "\"outcome\":\"gone\",\"by\":\"send
 outcome_members (BySender told.Open) = codes "\"outcome\":\"open\",\"by\":\"sender\","
 outcome_members (BySender (told.Unknown true)) = codes "\"outcome\":\"unknown\",\"settled\":true,\"by\":\"sender\","
 outcome_members (BySender (told.Unknown false)) = codes "\"outcome\":\"unknown\",\"settled\":false,\"by\":\"sender\","
+outcome_members InDoubt = codes "\"outcome\":\"unknown\",\"settled\":false,"
 
 -- the line of a message that was put
 abbrev pub outcome_line : Bool → ℕ → ℕ → PutOutcome → List ℕ → List ℕ

@@ -1,17 +1,20 @@
 -- What is told of the puts of one journal, where outcomes are listed stream by stream, as it is made.
-use Rattle.std.specs.Prelude.{◌≡◌, ℕ, ◌+◌, ◌-◌, ◌<◌, Option, Some, None, List, [], ◌∷◌, ◌++◌, length, map, reverse, slice_get, slice_index_or}
+use Rattle.std.specs.Prelude.{◌≡◌, ℕ, ◌+◌, ◌-◌, ◌<◌, Option, Some, None, List, [], ◌∷◌, ◌++◌, length, map, reverse, take, slice_get, slice_index_or}
 use Rattle.std.specs.Option.{option_map}
 use Rattle.amo_core.specs.declared.act.Act.{Act}
 use Rattle.amo_core.specs.declared.act.Act.TheVariants as act
 use Rattle.amo_core.specs.declared.reply.Reply.{Reply}
 use Rattle.amo_core.specs.declared.reply.Reply.TheVariants as reply
 use Rattle.amo_world.specs.declared.event.Event.{Event}
-use Rattle.amo_telling.specs.declared.choice.Choice.{Choice}
+use Rattle.amo_journal.specs.declared.version.Version.{Version}
+use Rattle.amo_journal.specs.Version.{lines_before}
+use Rattle.amo_audit.specs.declared.reach.Reach.{Reach}
+use Rattle.amo_audit.specs.declared.reach.Reach.TheVariants.{First, Second}
 use Rattle.amo_telling.specs.declared.listing.Listing.{Listing}
 use Rattle.amo_telling.specs.declared.listing.Listing.TheVariants.{OfBoth, OfSender}
 use Rattle.amo_telling.specs.declared.put_outcome.PutOutcome.{PutOutcome}
 use Rattle.amo_telling.specs.declared.put_outcome.PutOutcome.TheVariants.{ByBoth, BySender}
-use Rattle.amo_telling.specs.Outcomes.{line_if, puts_in}
+use Rattle.amo_telling.specs.Outcomes.{Manner, line_if, puts_in}
 
 -- what is listed of a put of a stream, if it is
 abbrev pub in_list : {A : Type 0} → Option (List A) → ℕ → Option A
@@ -24,20 +27,20 @@ at_place (OfBoth all) place put = option_map ByBoth (in_list (slice_get (map (λ
 at_place (OfSender all) place put = option_map BySender (in_list (slice_get (map (λ told. told.items) all.now) place) put)
 
 -- the line of a put, if something is told of it
-abbrev pub listed_line : Choice → ℕ → ℕ → List ℕ → Option PutOutcome → List ℕ
+abbrev pub listed_line : Manner → ℕ → ℕ → List ℕ → Option PutOutcome → List ℕ
 listed_line choice number stream m None = []
 listed_line choice number stream m (Some outcome) = line_if choice number stream m outcome
 
-abbrev pub reply_line : Choice → Listing → ℕ → ℕ → ℕ → Act → Reply → List ℕ
+abbrev pub reply_line : Manner → Listing → ℕ → ℕ → ℕ → Act → Reply → List ℕ
 reply_line choice listing number put stream (act.Put m) reply.Ok = listed_line choice number stream m (at_place listing (stream - 1) put)
 reply_line choice listing number put stream _ _ = []
 
 -- what is written of an event behind others of its journal, the newest of which is the first
-abbrev pub event_line : Choice → Listing → List Event → Event → List ℕ
+abbrev pub event_line : Manner → Listing → List Event → Event → List ℕ
 event_line choice listing before e = reply_line choice listing (length before) (puts_in e.stream before) e.stream e.act e.reply
 
 -- and of events in the order of time
-abbrev pub told_text : Choice → Listing → List Event → List Event → List ℕ
+abbrev pub told_text : Manner → Listing → List Event → List Event → List ℕ
 told_text choice listing before [] = []
 told_text choice listing before (e ∷ events) = event_line choice listing before e ++ told_text choice listing (e ∷ before) events
 
@@ -47,6 +50,20 @@ pub record Counts (counts : List ℕ) (before : List Event) : Type 0 where
   pub puts : (place : ℕ) → place < 256 → slice_index_or counts place 0 ≡ puts_in (place + 1) before
 
 -- what was told of events in the order of time
-pub record HasTold (choice : Choice) (listing : Listing) (counts text : List ℕ) (events : List Event) : Type 0 where
+pub record HasTold (choice : Manner) (listing : Listing) (counts text : List ℕ) (events : List Event) : Type 0 where
   pub counted : Counts counts (reverse events)
   pub written : text ≡ told_text choice listing [] events
+
+-- the events of a journal, or those of the lines in front of one that is counted from the file's first
+abbrev pub front_of : Option ℕ → Version → List Event → List Event
+front_of None version events = events
+front_of (Some line) version events = take (line - (1 + lines_before version)) events
+
+-- the line at which what was judged of the first, or of the second, ends, if it does
+abbrev pub first_ends : Reach → Option ℕ
+first_ends (First line) = Some line
+first_ends _ = None
+
+abbrev pub second_ends : Reach → Option ℕ
+second_ends (Second line) = Some line
+second_ends _ = None

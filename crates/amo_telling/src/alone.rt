@@ -7,13 +7,14 @@ ghost use Rattle.amo_world.specs.History.{IsRight};
 ghost use Rattle.amo_world.specs.Stream.{IsStream};
 ghost use Rattle.amo_audit.specs.Sender.{Finds};
 ghost use Rattle.amo_telling.specs.Alone.{IsTellingAlone, TellsFound};
-ghost use Rattle.amo_telling.specs.Outcomes.{IsKnownAlone, Tells};
+ghost use Rattle.amo_telling.specs.Outcomes.{IsKnownAlone, Tells, by};
 
-use crate::Choice;
 use crate::listing::Listing;
 use crate::puts::told_of_events;
+use crate::{Asked, Choice};
 use amo_audit::{SenderFound, Verdict, sender_events};
 use amo_journal::JournalFault;
+use amo_lives::Span;
 use amo_outcomes::outcomes_of_sender;
 use amo_text::{Sink, write_all};
 use amo_world::{Event, NoMemory};
@@ -27,20 +28,20 @@ use std::alloc::Global;
 /// The text is made whole and then written. Where the sink fails, a beginning of it was appended; where memory is refused, nothing was.
 pub fn tell_outcomes_of_sender<W: Sink>(
     alloc: Global,
-    bytes: &[u8],
+    journal: Asked<'_>,
     choice: Choice,
     sink: &mut W,
 ) -> Result<SenderFound, JournalFault>
-    ensures found { IfOk result (λ found. Finds bytes.now found × (found ≢ SenderFound.Wrong Verdict.NoMemory)) }
-    ensures told { IfOk result (λ found. (text : List ℕ) × TellsFound found choice bytes.now text
+    ensures found { IfOk result (λ found. Finds journal.entry.bytes.now found × (found ≢ SenderFound.Wrong Verdict.NoMemory)) }
+    ensures told { IfOk result (λ found. (text : List ℕ) × TellsFound found choice journal.entry.bytes.now journal.entry.doubts.now text
         × Appends (W.written sink.old) (W.written sink.new) text) }
     ensures begun { OnErr result (Keeps (W.written sink.old) (W.written sink.new)
-        ⊎ ((text : List ℕ) × IsTellingAlone choice bytes.now text × AppendsFront (W.written sink.old) (W.written sink.new) text)) }
+        ⊎ ((text : List ℕ) × IsTellingAlone choice journal.entry.bytes.now journal.entry.doubts.now text × AppendsFront (W.written sink.old) (W.written sink.new) text)) }
     ensures refused { IsErrOf result JournalFault.NoMemory → Keeps (W.written sink.old) (W.written sink.new) }
     ensures faults { IfErr result (λ fault. (fault ≡ JournalFault.NoMemory) ⊎ (fault ≡ JournalFault.Device)) }
     ensures device { IsErrOf result JournalFault.Device ↔ (W.failures sink.old < W.failures sink.new) }
 {
-    match text_of(alloc, bytes, choice) {
+    match text_of(alloc, journal, choice) {
         Ok(text) => {
             write_all(sink, text.as_slice())?;
             Ok(SenderFound::Good)
@@ -51,25 +52,36 @@ pub fn tell_outcomes_of_sender<W: Sink>(
 }
 
 /// The text that tells what a sender's journal alone tells, or what is found of the file.
-fn text_of(alloc: Global, bytes: &[u8], choice: Choice) -> Result<Vec<u8>, SenderFound>
-    ensures good { IfOk result (λ _. Finds bytes.now SenderFound.Good) }
-    ensures told { IfOk result (λ text. IsTellingAlone choice bytes.now text.items) }
-    ensures found { IfErr result (λ found. Finds bytes.now found × (found ≢ SenderFound.Good)) }
+fn text_of(alloc: Global, journal: Asked<'_>, choice: Choice) -> Result<Vec<u8>, SenderFound>
+    ensures good { IfOk result (λ _. Finds journal.entry.bytes.now SenderFound.Good) }
+    ensures told { IfOk result (λ text. IsTellingAlone choice journal.entry.bytes.now journal.entry.doubts.now text.items) }
+    ensures found { IfErr result (λ found. Finds journal.entry.bytes.now found × (found ≢ SenderFound.Good)) }
 {
-    let events = sender_events(alloc, bytes)?;
-    match told_alone(alloc, events.as_slice(), choice) {
+    let events = sender_events(alloc, journal.bytes)?;
+    match told_alone(alloc, events.as_slice(), choice, journal.doubts) {
         Ok(text) => Ok(text),
         Err(NoMemory) => Err(SenderFound::Wrong(Verdict::NoMemory)),
     }
 }
 
 /// The lines of the puts of a sender's events, of which these alone tell.
-fn told_alone(alloc: Global, events: &[Event], choice: Choice) -> Result<Vec<u8>, NoMemory>
+fn told_alone(
+    alloc: Global,
+    events: &[Event],
+    choice: Choice,
+    doubts: &[Span],
+) -> Result<Vec<u8>, NoMemory>
     requires streams { All (λ e. IsStream e.stream) events.now }
     requires right { IsRight (reverse events.now) }
-    ensures { IfOk result (λ text. Tells (IsKnownAlone (reverse events.now)) choice [] events.now text.items) }
+    ensures { IfOk result (λ text. Tells (IsKnownAlone (reverse events.now)) (by choice doubts.now) [] events.now text.items) }
 {
     let all = outcomes_of_sender(alloc, events)?;
-    let text = told_of_events(alloc, events, choice, Listing::OfSender(all.as_slice()))?;
+    let text = told_of_events(
+        alloc,
+        events,
+        choice,
+        doubts,
+        Listing::OfSender(all.as_slice()),
+    )?;
     Ok(text)
 }

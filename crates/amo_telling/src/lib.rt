@@ -1,12 +1,15 @@
 //! What journals tell of messages: what became of each that was put, and which were got.
 //! It opens no file. What a journal is stands in `amo_journal`, and `amo_audit` judges whether it can have happened.
 //!
-//! - [`tell_outcomes`] writes, of two journals whose audit is a yes, a line for each put that was taken: its number, its stream, whether it
-//!   was got, is gone or is open, and its message. [`Choice`] tells which of them are written. Of others it answers what the audit finds.
+//! - [`tell_outcomes`] writes, of the greatest beginnings of two journals that merge, a line for each put that was taken: its number, its
+//!   stream, whether it was got, is gone or is open, and its message. [`Choice`] tells which of them are written; [`Telling`] is how far the
+//!   beginnings reach, or what is found of journals of which nothing is told.
 //! - [`tell_outcomes_of_sender`] writes the same of a sender's journal alone, as far as that tells it: what was sent and not acknowledged is
 //!   unknown, and settled where it is final all the same.
 //! - [`tell_got`] writes, of a receiver's journal, a line for each message that a get answered, as far as it reads; [`Reading`] is how far
 //!   that was.
+//!
+//! What a loss of power may have changed is told of no put: of journals of which [`Asked`] names doubtful lines, what would be gone there is unknown.
 //!
 //! The number is that of the line in its journal, as it stands there in front. So it stays the same while a journal goes on, and an
 //! application may keep it beside its own work. A message is spelt as `amo receive` shows it, or as a member of a JSON object.
@@ -17,6 +20,7 @@
 #![tactic(auto)]
 
 mod alone;
+mod asked;
 mod choice;
 mod got;
 mod listing;
@@ -25,9 +29,14 @@ mod put_outcome;
 mod puts;
 mod reading;
 mod shown;
+mod telling;
+mod whole;
 
 pub use alone::tell_outcomes_of_sender;
+pub use asked::Asked;
 pub use choice::Choice;
 pub use got::tell_got;
 pub use outcomes::tell_outcomes;
 pub use reading::Reading;
+pub use telling::Telling;
+pub use whole::whole_lines;

@@ -65,7 +65,9 @@ fn field_of(outcome: PutOutcome) -> &'static str
         PutOutcome::ByBoth(Outcome::Gone) | PutOutcome::BySender(SenderOutcome::Gone) => "gone ",
         PutOutcome::ByBoth(Outcome::Open) | PutOutcome::BySender(SenderOutcome::Open) => "open ",
         PutOutcome::BySender(SenderOutcome::Unknown { settled: true }) => "unknown,settled ",
-        PutOutcome::BySender(SenderOutcome::Unknown { settled: false }) => "unknown ",
+        PutOutcome::BySender(SenderOutcome::Unknown { settled: false }) | PutOutcome::InDoubt => {
+            "unknown "
+        }
     }
 }
 
@@ -86,6 +88,7 @@ fn members_of(outcome: PutOutcome) -> &'static str
         PutOutcome::BySender(SenderOutcome::Unknown { settled: false }) => {
             "\"outcome\":\"unknown\",\"settled\":false,\"by\":\"sender\","
         }
+        PutOutcome::InDoubt => "\"outcome\":\"unknown\",\"settled\":false,",
     }
 }
 

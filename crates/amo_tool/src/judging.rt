@@ -42,11 +42,7 @@ pub(crate) fn audit_files<R: AllocGlobal + Eprint + Files + Print>(
 }
 
 /// Tells where the line stands that was named of a journal in pieces. Where two journals were merged it is a line of neither.
-pub(crate) fn tell_place<R: AllocGlobal + Eprint>(
-    rt: &R,
-    first: &Journal,
-    second: Option<&Journal>,
-) {
+fn tell_place<R: AllocGlobal + Eprint>(rt: &R, first: &Journal, second: Option<&Journal>) {
     let Some(second) = second else {
         if first.is_in_pieces() {
             first.tell_place(rt, line_of(audit(rt.alloc(), first.text())));

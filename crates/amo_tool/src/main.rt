@@ -10,6 +10,7 @@
 ghost use Rattle.std.specs.Prelude.{IfOk};
 ghost use Rattle.amo_settings.specs.Limits.{IsWithin};
 
+mod doubts;
 mod failure;
 mod judging;
 mod live;

@@ -15,6 +15,8 @@ const NAMES: usize = 4096;
 #[derive(Drop)]
 pub(crate) struct Journal {
     pieces: Pieces,
+    /// Its name, or that of the last piece that it lists.
+    name: String,
     /// The names of the files of its pieces.
     names: Vec<String>,
     /// The name of the first piece that is missing between the others.
@@ -25,13 +27,16 @@ impl Journal {
     /// Reads the journal of this name: where commas stand in it, and neither a file nor a numbered piece has it, the pieces that it lists; else
     /// the file of this name and the numbered pieces before it.
     pub(crate) fn read<R: AllocGlobal + Files>(rt: &R, name: &str) -> Result<Journal, Failure> {
+        let numbers = numbers_of(rt, name)?;
+        let is_list = name.contains(',') && numbers.is_empty() && !is_there(rt, name);
+        let last = if is_list { last_of(name) } else { name };
         let mut journal = Journal {
             pieces: Pieces::new(rt.alloc()),
+            name: String::from_str(rt.alloc(), last)?,
             names: Vec::new(rt.alloc()),
             missing: None,
         };
-        let numbers = numbers_of(rt, name)?;
-        if name.contains(',') && numbers.is_empty() && !is_there(rt, name) {
+        if is_list {
             journal.add_listed(rt, name)?;
         } else {
             journal.add_numbered(rt, name, numbers.as_slice())?;
@@ -46,8 +51,7 @@ impl Journal {
 
     /// Adds the files of a list, with commas between their names. A comma at its end ends the last name.
     fn add_listed<R: AllocGlobal + Files>(&mut self, rt: &R, list: &str) -> Result<(), Failure> {
-        let list = list.strip_suffix(',').unwrap_or(list);
-        for name in list.split(',') {
+        for name in without_end(list).split(',') {
             self.add(rt, String::from_str(rt.alloc(), name)?)?;
         }
         Ok(())
@@ -89,6 +93,11 @@ impl Journal {
         self.pieces.add(&mut file)
     }
 
+    /// The name beside which its file of lives stands: of a list that of the last piece, else its own.
+    pub(crate) fn name_of_lives(&self) -> &str {
+        self.name.as_str()
+    }
+
     /// Whether it is in more files than one.
     pub(crate) fn is_in_pieces(&self) -> bool {
         self.names.len() > 1
@@ -109,6 +118,20 @@ impl Journal {
         if let Some(name) = self.missing.as_ref() {
             let _ = rt.eprintln(Told::Missing(name.as_str()));
         }
+    }
+}
+
+/// A list of names without the comma at its end.
+fn without_end(list: &str) -> &str {
+    list.strip_suffix(',').unwrap_or(list)
+}
+
+/// The last name of a list.
+fn last_of(list: &str) -> &str {
+    let list = without_end(list);
+    match list.rsplit_once(',') {
+        Some((_, last)) => last,
+        None => list,
     }
 }
 

@@ -13,3 +13,6 @@ returns-clause-apart c =
     let (x, p, marks) = c.in-Ok.ensures.marks in
     let (y, q, marks') = c.in-Ok-sides_of.ensures.marks in
     (x, y, p, q, λ shares. untrue _ c.if-meets.false ((c.meets.ensures x y marks marks' (told_streams c.args.first x p) (told_streams c.args.second y q)).1 shares))
+
+pub returns-then-meets-clause-not_merged : goal.returns-then-meets-clause-not_merged
+returns-then-meets-clause-not_merged c = (returns-then-meets-clause-judged c).0

@@ -1,11 +1,9 @@
 use Rattle.amo_audit.proofs.Judged.{merged_soundly}
+use Rattle.amo_audit.proofs.Beginnings.{InWorld, not_all_merge}
 use Rattle.amo_audit.proofs.judging.judge_merged.Goals as goal
-use Rattle.amo_audit.proofs.judging.judge_merged.Goals.{in-Whole, in-Stuck, in-GivenUp}
 
-pub returns : goal.returns
-returns c =
-    elim c.match-branch-3.branch [
-      | in-Whole w ↦ rw w.result-is (merged_soundly c.args.first c.args.second w.in-Whole.field-0 (rw w.in-Whole.is at c.in_ok-merge_into.ensures))
-      | in-Stuck w ↦ rw w.result-is (rw w.in-Stuck.is at c.in_ok-merge_into.ensures)
-      | in-GivenUp w ↦ rw w.result-is w.judge_at_fault.ensures
-    ]
+pub returns-in-Whole : goal.returns-in-Whole
+returns-in-Whole c = merged_soundly c.args.first c.args.second c.in-Whole.field-0 (rw c.in-Whole.is at c.in_ok-merge_into.ensures)
+
+pub returns-in-Early : goal.returns-in-Early
+returns-in-Early c = not_all_merge InWorld (Unit {0}) c.args.first c.args.second _ c.in_ok-merge_into.ensures c.in-Early.is

@@ -1,23 +1,20 @@
 use Rattle.std.proofs.Common.{refl}
 use Rattle.amo_audit.specs.declared.judgement.Judgement.TheVariants.{Whole}
 use Rattle.amo_audit.specs.declared.verdict.Verdict.TheVariants.{NoMemory}
-use Rattle.amo_telling.proofs.Journals.{are_good, first_tells, second_tells, is_telling}
+use Rattle.amo_telling.proofs.Journals.{first_tells, second_tells, is_telling}
 use Rattle.amo_telling.proofs.outcomes.text_of.Goals as goal
 
 pub told_of_both-requires-clause-first : goal.told_of_both-requires-clause-first
-told_of_both-requires-clause-first c = first_tells c.args.choice c.args.first.now c.args.second.now c.as_slice.result c.open.result c.open-2.result c.open.ensures c.open-2.ensures
-    (rw c.as_slice.ensures.value c.in_ok-all.ensures.told)
+told_of_both-requires-clause-first c = first_tells c.args.choice c.args.first.bytes.now c.args.second.bytes.now c.args.first.doubts.now c.args.second.doubts.now c.as_slice.result c.in_ok-told.told.reach c.open.result c.open-2.result c.open.ensures c.open-2.ensures
+    (rw c.as_slice.ensures.value c.in_ok-told.ensures.told)
 
 pub told_of_both-requires-clause-second : goal.told_of_both-requires-clause-second
-told_of_both-requires-clause-second c = second_tells c.args.choice c.args.first.now c.args.second.now c.as_slice.result c.open.result c.open-2.result c.open.ensures c.open-2.ensures
-    (rw c.as_slice.ensures.value c.in_ok-all.ensures.told)
-
-pub returns-in-Ok-clause-good : goal.returns-in-Ok-clause-good
-returns-in-Ok-clause-good c = are_good c.args.first.now c.args.second.now _ c.in_ok-all.ensures.told
+told_of_both-requires-clause-second c = second_tells c.args.choice c.args.first.bytes.now c.args.second.bytes.now c.args.first.doubts.now c.args.second.doubts.now c.as_slice.result c.in_ok-told.told.reach c.open.result c.open-2.result c.open.ensures c.open-2.ensures
+    (rw c.as_slice.ensures.value c.in_ok-told.ensures.told)
 
 pub returns-in-Ok-clause-told : goal.returns-in-Ok-clause-told
-returns-in-Ok-clause-told c = is_telling c.args.choice c.args.first.now c.args.second.now c.as_slice.result c.open.result c.open-2.result c.open.ensures c.open-2.ensures
-    (rw c.as_slice.ensures.value c.in_ok-all.ensures.told) c.in-Ok.text.items c.in-Ok.ensures
+returns-in-Ok-clause-told c = is_telling c.args.choice c.args.first.bytes.now c.args.second.bytes.now c.args.first.doubts.now c.args.second.doubts.now c.as_slice.result c.in_ok-told.told.reach c.open.result c.open-2.result c.open.ensures c.open-2.ensures
+    (rw c.as_slice.ensures.value c.in_ok-told.ensures.told) c.in-Ok.text.items c.in-Ok.ensures
 
-pub returns-clause-judged : goal.returns-clause-judged
-returns-clause-judged c = (record { ours = c.open.result; theirs = c.open-2.result; opens = (c.open.ensures, c.open-2.ensures); found = Whole NoMemory; judged = tt; is = refl }, λ e. cc)
+pub returns-clause-found : goal.returns-clause-found
+returns-clause-found c = record { ours = c.open.result; theirs = c.open-2.result; opens = (c.open.ensures, c.open-2.ensures); inner = Whole NoMemory; finds = tt; is = refl }

@@ -12,15 +12,14 @@ use Rattle.amo_core.specs.declared.reply.Reply.{Reply}
 use Rattle.amo_core.specs.declared.reply.Reply.TheVariants as reply
 use Rattle.amo_world.specs.declared.event.Event.{Event}
 use Rattle.amo_world.specs.Stream.{IsStream}
-use Rattle.amo_telling.specs.declared.choice.Choice.{Choice}
 use Rattle.amo_telling.specs.declared.listing.Listing.{Listing}
 use Rattle.amo_telling.specs.declared.put_outcome.PutOutcome.{PutOutcome}
-use Rattle.amo_telling.specs.Outcomes.{Tells, TellsReply, is_put, one_if, puts_in}
+use Rattle.amo_telling.specs.Outcomes.{Manner, Tells, TellsReply, is_put, one_if, puts_in}
 use Rattle.amo_telling.specs.Told.{Counts, HasTold, at_place, event_line, listed_line, reply_line, told_text}
 use Rattle.amo_telling.proofs.Counted.{few_puts, turned_more}
 
 -- one event more
-told_more : (choice : Choice) (listing : Listing) (before events : List Event) (e : Event)
+told_more : (choice : Manner) (listing : Listing) (before events : List Event) (e : Event)
     → told_text choice listing before (events ++ e ∷ []) ≡ told_text choice listing before events ++ event_line choice listing (reverse events ++ before) e
 told_more choice listing before [] e = append-nil (event_line choice listing before e)
 told_more choice listing before (first ∷ events) e =
@@ -34,7 +33,7 @@ told_more choice listing before (first ∷ events) e =
     turned_first events = reverse-append (first ∷ []) events
 
 -- an event that puts nothing is not told, and no stream took a put by it
-no_line : (choice : Choice) (listing : Listing) (number put stream : ℕ) (a : Act) (r : Reply) → is_put a r ≡ false → reply_line choice listing number put stream a r ≡ []
+no_line : (choice : Manner) (listing : Listing) (number put stream : ℕ) (a : Act) (r : Reply) → is_put a r ≡ false → reply_line choice listing number put stream a r ≡ []
 no_line choice listing number put stream (act.Put m) reply.Ok not = absurd (untrue not)
   where
     untrue : true ≡ false → ⊥
@@ -57,7 +56,7 @@ no_line choice listing number put stream act.Crash r not = refl
 no_line choice listing number put stream act.Recover r not = refl
 
 -- given what is told of each put that was taken, of so many in each stream
-module _ (choice : Choice) (listing : Listing) (Has : ℕ → ℕ → PutOutcome → Type 0) (many : ℕ → ℕ)
+module _ (choice : Manner) (listing : Listing) (Has : ℕ → ℕ → PutOutcome → Type 0) (many : ℕ → ℕ)
     (told : (stream put : ℕ) → IsStream stream → put < many stream → (outcome : PutOutcome) × Has stream put outcome × (at_place listing (stream - 1) put ≡ Some outcome)) where
   reply_tells : (number put stream : ℕ) (a : Act) (r : Reply) → IsStream stream → (is_put a r ≡ true → put < many stream)
       → TellsReply Has choice number put stream a r (reply_line choice listing number put stream a r)
@@ -107,7 +106,7 @@ module _ (choice : Choice) (listing : Listing) (Has : ℕ → ℕ → PutOutcome
           omega (arith, all, one)
 
 -- nothing was told yet
-pub nothing_told : (choice : Choice) (listing : Listing) (text : List ℕ) (events : List Event) → text ≡ [] → HasTold choice listing (replicate 256 0) text (take 0 events)
+pub nothing_told : (choice : Manner) (listing : Listing) (text : List ℕ) (events : List Event) → text ≡ [] → HasTold choice listing (replicate 256 0) text (take 0 events)
 nothing_told choice listing text [] empty = record {
   counted = record { each = length-replicate {A = ℕ} 256 0; puts = λ place small. get_or-replicate {A = ℕ} 256 place 0 0 small };
   written = empty;
@@ -118,7 +117,7 @@ nothing_told choice listing text (e ∷ events) empty = record {
 }
 
 -- what was told, one event more
-module _ (choice : Choice) (listing : Listing) (counts text : List ℕ) (events : List Event) (so_far : HasTold choice listing counts text events) (e : Event) where
+module _ (choice : Manner) (listing : Listing) (counts text : List ℕ) (events : List Event) (so_far : HasTold choice listing counts text events) (e : Event) where
   with_line : told_text choice listing [] (events ++ e ∷ []) ≡ text ++ event_line choice listing (reverse events) e
   with_line =
       told_more choice listing [] events e
