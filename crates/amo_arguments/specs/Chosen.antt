@@ -15,8 +15,11 @@ use Rattle.amo_settings.specs.declared.settings.HostSettings.{HostSettings}
 use Rattle.amo_settings.specs.declared.settings.OutcomesSettings.{OutcomesSettings}
 use Rattle.amo_settings.specs.declared.settings.ReceiveSettings.{ReceiveSettings}
 use Rattle.amo_settings.specs.declared.settings.SendSettings.{SendSettings}
+use Rattle.amo_settings.specs.declared.settings.ServeSettings.{ServeSettings}
+use Rattle.amo_settings.specs.declared.settings.ServedSide.{ServedSide}
+use Rattle.amo_settings.specs.declared.settings.ServedSide.TheVariants as side
 use Rattle.amo_settings.specs.declared.settings.Settings.{Settings}
-use Rattle.amo_settings.specs.declared.settings.Settings.TheVariants.{Replay, Run, Send, Receive, Stop, Audit, Explain, Outcomes, Got, Manual, Completions}
+use Rattle.amo_settings.specs.declared.settings.Settings.TheVariants.{Replay, Run, Send, Receive, Stop, Serve, Audit, Explain, Outcomes, Got, Manual, Completions}
 use Rattle.amo_settings.specs.declared.settings.Shell.{Shell}
 use Rattle.amo_settings.specs.declared.settings.Shell.TheVariants.{Bash, Zsh, Fish}
 
@@ -126,6 +129,30 @@ pub record HasReceive (rows : List Row) (receive : ReceiveSettings) : Type 0 whe
   pub count : HasNumberOrNone rows (codes "count") receive.count
   pub some : IfSome receive.count (λ count. 1 ≤ count)
 
+-- the matches of `serve` have these values, each within its limits. Nothing is shown, in whatever spelling, and there is no end at which to wait.
+pub record HasServedHost (rows : List Row) (host : HostSettings) : Type 0 where
+  pub listen : HasAddress rows (codes "listen") 0 (string_bytes host.listen)
+  pub peer : HasAddress rows (codes "peer") 1 (string_bytes host.peer)
+  pub apart : string_bytes host.listen ≢ string_bytes host.peer
+  pub streams : HasNumber rows (codes "streams") host.streams
+  pub journal : HasJournal rows (string_bytes host.journal)
+  pub tick : HasNumber rows (codes "tick") host.tick
+  pub sync : HasFlag rows (codes "sync") host.sync
+  pub piece : HasNumberOrNone rows (codes "piece") host.piece
+  pub plain : (host.json ≡ false) × (host.wait ≡ None)
+  pub within : IsHostWithin host
+
+-- the matches of `serve` have this side: a sender takes messages one by one, and may start batches; a receiver takes all that come, batches too
+abbrev pub HasSide : List Row → ServedSide → Type 0
+HasSide rows (side.Send send) = HasText rows (codes "side") (codes "send") × HasServedHost rows send.host × HasFlag rows (codes "batch") send.batch × (send.each ≡ false) × (send.hex ≡ false)
+HasSide rows (side.Receive receive) = HasText rows (codes "side") (codes "receive") × HasServedHost rows receive.host × HasFlag rows (codes "batch") false × (receive.count ≡ None)
+
+-- the matches of `serve` have these values
+pub record HasServe (rows : List Row) (serve : ServeSettings) : Type 0 where
+  pub side_is : HasSide rows serve.side
+  pub door : HasAddress rows (codes "door") 0 (string_bytes serve.door)
+  pub token : HasTextOrNone rows (codes "token-file") (option_map string_bytes serve.token_file)
+
 -- the matches of `outcomes` have these values
 pub record HasOutcomes (rows : List Row) (settings : OutcomesSettings) : Type 0 where
   pub first : HasText rows (codes "FILE") (string_bytes settings.first)
@@ -147,6 +174,7 @@ ChoosesBy met (Run settings file) = (rows : List Row) × (met ≡ Some (codes "r
 ChoosesBy met (Send send) = (rows : List Row) × (met ≡ Some (codes "send", rows)) × HasSend rows send
 ChoosesBy met (Receive receive) = (rows : List Row) × (met ≡ Some (codes "receive", rows)) × HasReceive rows receive
 ChoosesBy met (Stop file) = (rows : List Row) × (met ≡ Some (codes "stop", rows)) × HasText rows (codes "FILE") (string_bytes file)
+ChoosesBy met (Serve serve) = (rows : List Row) × (met ≡ Some (codes "serve", rows)) × HasServe rows serve
 ChoosesBy met (Audit file second) = (rows : List Row) × (met ≡ Some (codes "audit", rows))
     × HasText rows (codes "FILE") (string_bytes file) × HasTextOrNone rows (codes "SECOND") (option_map string_bytes second)
 ChoosesBy met (Explain file second) = (rows : List Row) × (met ≡ Some (codes "explain", rows))

@@ -27,6 +27,10 @@ number name low high = record (text name) { parser = Some (parser.Unsigned low h
 abbrev pub pumps : Rule
 pumps = record (new_rule (codes "pumps")) { long = Some (codes "pumps"); value_names = 1; defaults = codes "1" ∷ []; action = Some Set; parser = Some (parser.Unsigned 1 4) }
 
+-- an option that may be absent, with one value
+abbrev pub optional_text : Text → Rule
+optional_text name = record (new_rule name) { long = Some name; value_names = 1; action = Some Set }
+
 -- a flag: it is there, or it is not
 abbrev pub flag : Text → Rule
 flag name = record (new_rule name) { long = Some name; action = Some SetTrue }
@@ -94,6 +98,13 @@ receive = with_rule (host (codes "receive")) (optional_number (codes "count") 0 
 abbrev pub stop : App
 stop = with_rule (new_app (codes "stop")) file
 
+-- the door of a host of one of the sides, and what that host is told
+abbrev pub served : App
+served = with_rule (with_rule (with_rule (placed (codes "serve")) (text (codes "side"))) (text (codes "door"))) (optional_text (codes "token-file"))
+
+abbrev pub serve : App
+serve = with_rule (with_rule (with_rule (with_rule served tick) (flag (codes "batch"))) (flag (codes "sync"))) (optional_number (codes "piece") 1024 1000000000000)
+
 abbrev pub audit : App
 audit = with_rule (with_rule (new_app (codes "audit")) file) second_file
 
@@ -117,7 +128,7 @@ abbrev pub bare : App
 bare = let app = new_app (codes "amo") in record app { top = record app.top { has_version = true; subcommand_required = true; arg_required_else_help = true } }
 
 abbrev pub acting : Names → App
-acting links = with_subcommand (with_subcommand (with_subcommand (with_subcommand (with_subcommand bare replay.top) (run links).top) send.top) receive.top) stop.top
+acting links = with_subcommand (with_subcommand (with_subcommand (with_subcommand (with_subcommand (with_subcommand bare replay.top) (run links).top) send.top) receive.top) stop.top) serve.top
 
 abbrev pub before_manual : Names → App
 before_manual links = with_subcommand (with_subcommand (with_subcommand (with_subcommand (acting links) audit.top) explain.top) outcomes.top) got.top

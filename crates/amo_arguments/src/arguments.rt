@@ -4,7 +4,7 @@ ghost use Rattle.clap.specs.Words.{first_of, found_of, rows_of, subcommand_rows_
 ghost use Rattle.amo_text.specs.Hexadecimal.{hex};
 ghost use Rattle.amo_settings.specs.Limits.{IsWithin};
 ghost use Rattle.amo_arguments.specs.Arguments.{AreTaken, IsRefusalOf, IsToldOf};
-ghost use Rattle.amo_arguments.specs.Chosen.{Chooses, ChoosesBy, ChoosesRun, HasAddress, HasFlag, HasGot, HasHost, HasJournal, HasNoSeed, HasNumber, HasNumberOrNone, HasOutcomes, HasReceive, HasSend, HasText, HasTextOrNone, LacksSeed, Matches, MeetsSeedless, link_name, shell_name};
+ghost use Rattle.amo_arguments.specs.Chosen.{Chooses, ChoosesBy, ChoosesRun, HasAddress, HasFlag, HasGot, HasHost, HasJournal, HasNoSeed, HasNumber, HasNumberOrNone, HasOutcomes, HasReceive, HasSend, HasServe, HasServedHost, HasSide, HasText, HasTextOrNone, LacksSeed, Matches, MeetsSeedless, link_name, shell_name};
 
 use crate::ArgumentsFault;
 use crate::commands::{
@@ -14,7 +14,7 @@ use crate::refusal::{Refusal, Unfit, told};
 use crate::values::{check_address, check_apart, check_ceiling, number_in};
 use amo_settings::{
     GotSettings, HostSettings, LinkKind, OutcomesSettings, ReceiveSettings, RunSettings,
-    SendSettings, Settings, Shell,
+    SendSettings, ServeSettings, ServedSide, Settings, Shell,
 };
 use amo_text::laws::hex_is_injective;
 use amo_text::read_hex;
@@ -72,6 +72,9 @@ fn parse(alloc: Global, matches: &ArgMatches<'_>) -> Result<Option<Settings>, Un
     }
     if let Some(stop) = matches.subcommand_matches("stop") {
         return Ok(Some(Settings::Stop(text_of(alloc, stop, "FILE")?)));
+    }
+    if let Some(serve) = matches.subcommand_matches("serve") {
+        return Ok(Some(Settings::Serve(parse_serve(alloc, serve)?)));
     }
     if let Some(audit) = matches.subcommand_matches("audit") {
         let file = text_of(alloc, audit, "FILE")?;
@@ -166,6 +169,70 @@ fn parse_receive(alloc: Global, matches: &ArgMatches<'_>) -> Result<ReceiveSetti
     let host = parse_host(alloc, matches)?;
     let count = number_or_none_of(alloc, matches, "count", 1, u64::MAX)?;
     Ok(ReceiveSettings { host, count })
+}
+
+/// The settings that the arguments of `serve` choose.
+fn parse_serve(alloc: Global, matches: &ArgMatches<'_>) -> Result<ServeSettings, Unfit>
+    ensures { IfOk result (HasServe (rows_of (found_of matches.now))) }
+{
+    let side = parse_side(alloc, matches)?;
+    let door = address_of(alloc, matches, "door", "127.0.0.1", 0)?;
+    let token_file = text_or_none_of(alloc, matches, "token-file")?;
+    Ok(ServeSettings {
+        side,
+        door,
+        token_file,
+    })
+}
+
+/// The side that the arguments of `serve` choose, with what its host is told.
+fn parse_side(alloc: Global, matches: &ArgMatches<'_>) -> Result<ServedSide, Unfit>
+    ensures { IfOk result (HasSide (rows_of (found_of matches.now))) }
+{
+    let host = parse_served_host(alloc, matches)?;
+    let batch = flag_of(alloc, matches, "batch")?;
+    match matches.get_str("side") {
+        Some("send") => Ok(ServedSide::Send(SendSettings {
+            host,
+            each: false,
+            batch,
+            hex: false,
+        })),
+        Some("receive") if !batch => Ok(ServedSide::Receive(ReceiveSettings { host, count: None })),
+        Some("receive") => Err(Unfit::Value(String::from_str(
+            alloc,
+            "--batch is of a host that sends: one that receives takes batches as they come",
+        )?)),
+        Some(side) => Err(Unfit::Value(format!(in alloc; "--side {side}: give send or receive")?)),
+        None => Err(Unfit::Absent),
+    }
+}
+
+/// The settings that the arguments of `serve` choose for its host.
+fn parse_served_host(alloc: Global, matches: &ArgMatches<'_>) -> Result<HostSettings, Unfit>
+    ensures { IfOk result (HasServedHost (rows_of (found_of matches.now))) }
+{
+    let listen = address_of(alloc, matches, "listen", "0.0.0.0", 0)?;
+    let peer = address_of(alloc, matches, "peer", "127.0.0.1", 1)?;
+    check_apart(alloc, listen.as_str(), peer.as_str())?;
+    let streams = number_of(alloc, matches, "streams", 1, STREAMS)?;
+    let journal = journal_of(alloc, matches)?;
+    let tick = number_of(alloc, matches, "tick", 1, TICK)?;
+    let sync = flag_of(alloc, matches, "sync")?;
+    let piece = number_or_none_of(alloc, matches, "piece", LEAST_PIECE, PIECE)?;
+    Ok(HostSettings {
+        listen,
+        peer,
+        streams,
+        journal,
+        tick,
+        tick_most: None,
+        json: false,
+        sync,
+        piece,
+        wait: None,
+        stats: None,
+    })
 }
 
 /// The settings that the arguments of `outcomes` choose.
@@ -267,6 +334,20 @@ fn second_file_of(alloc: Global, matches: &ArgMatches<'_>) -> Result<Option<Stri
 {
     match matches.get_str("SECOND") {
         Some(file) => Ok(Some(String::from_str(alloc, file)?)),
+        None => Ok(None),
+    }
+}
+
+/// The text of an option that may be absent.
+fn text_or_none_of(
+    alloc: Global,
+    matches: &ArgMatches<'_>,
+    name: &str,
+) -> Result<Option<String>, Unfit>
+    ensures { IfOk result (λ text. HasTextOrNone (rows_of (found_of matches.now)) name.now (option_map string_bytes text)) }
+{
+    match matches.get_str(name) {
+        Some(text) => Ok(Some(String::from_str(alloc, text)?)),
         None => Ok(None),
     }
 }

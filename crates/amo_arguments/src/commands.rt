@@ -70,11 +70,13 @@ fn acting<'a>(alloc: Global) -> Result<Command<'a>, AllocError>
     let send = send(alloc)?;
     let receive = receive(alloc)?;
     let stop = stop(alloc)?;
+    let serve = serve(alloc)?;
     bare.subcommand(replay)?
         .subcommand(run)?
         .subcommand(send)?
         .subcommand(receive)?
-        .subcommand(stop)
+        .subcommand(stop)?
+        .subcommand(serve)
 }
 
 /// The program without its commands.
@@ -191,6 +193,69 @@ fn receive<'a>(alloc: Global) -> Result<Command<'a>, AllocError>
     ))
 }
 
+fn serve<'a>(alloc: Global) -> Result<Command<'a>, AllocError>
+    ensures { IfOk result (described.IsCommand described.serve) }
+{
+    with_texts(alloc, "serve", texts::SERVE_ABOUT, texts::SERVE_AFTER_HELP)
+        .arg(text(
+            alloc,
+            "listen",
+            "ADDR",
+            "Where it listens for the other host, as 127.0.0.1:7001",
+        ))?
+        .arg(text(alloc, "peer", "ADDR", "Where the other host listens"))?
+        .arg(number(
+            alloc,
+            "streams",
+            1,
+            STREAMS,
+            "The number of streams, 1 to 256",
+        ))?
+        .arg(text(
+            alloc,
+            "journal",
+            "FILE",
+            "Its journal, which is begun, or gone on with",
+        ))?
+        .arg(text(
+            alloc,
+            "side",
+            "SIDE",
+            "Whether it sends or receives: `send` or `receive`",
+        ))?
+        .arg(text(
+            alloc,
+            "door",
+            "ADDR",
+            "Where programs ask it over HTTP, as 127.0.0.1:7003",
+        ))?
+        .arg(optional_text(
+            alloc,
+            "token-file",
+            "FILE",
+            "The token that each request has to bring stands there",
+        ))?
+        .arg(tick(alloc))?
+        .arg(flag(
+            alloc,
+            "batch",
+            "Sends the messages that wait on a stream together, up to four",
+        ))?
+        .arg(flag(
+            alloc,
+            "sync",
+            "Puts the journal on its disk before answers and packets leave",
+        ))?
+        .arg(optional_number(
+            alloc,
+            "piece",
+            "BYTES",
+            LEAST_PIECE,
+            PIECE,
+            "How long its journal is when it begins a new piece, 1024 to 1000000000000",
+        ))
+}
+
 /// The command of this name with the options that a host has on either side, and what help says of it.
 fn host<'a>(
     alloc: Global,
@@ -265,8 +330,10 @@ fn host<'a>(
 fn stop<'a>(alloc: Global) -> Result<Command<'a>, AllocError>
     ensures { IfOk result (described.IsCommand described.stop) }
 {
-    with_texts(alloc, "stop", texts::STOP_ABOUT, texts::STOP_AFTER_HELP)
-        .arg(file(alloc, "The journal of the host"))
+    with_texts(alloc, "stop", texts::STOP_ABOUT, texts::STOP_AFTER_HELP).arg(file(
+        alloc,
+        "The journal of the host",
+    ))
 }
 
 fn audit<'a>(alloc: Global) -> Result<Command<'a>, AllocError>
@@ -477,6 +544,23 @@ fn optional_number<'a>(
         .help(help)
         .action(ArgAction::Set)
         .value_parser(ValueParser::unsigned(low, high))
+}
+
+/// The option of this name that may be absent, whose value is any text.
+fn optional_text<'a>(
+    alloc: Global,
+    name: &'static str,
+    value: &'static str,
+    help: &'static str,
+) -> Arg<'a>
+    ensures rule { rule_of result ≡ described.optional_text name.entry.now }
+    ensures local { result.global ≡ false }
+{
+    Arg::new(alloc, name)
+        .long(name)
+        .value_name(value)
+        .help(help)
+        .action(ArgAction::Set)
 }
 
 /// The flag of this name.

@@ -17,3 +17,4 @@ pub use arguments::settings;
 pub use commands::{NAME, command};
 pub use fault::ArgumentsFault;
 pub use refusal::not_text;
+pub use version::VERSION;

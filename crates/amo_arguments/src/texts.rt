@@ -231,6 +231,45 @@ Status, which is the host's own:
 Example:
   amo stop send.journal";
 
+pub(crate) const SERVE_ABOUT: &str =
+    "Is a host that programs ask over HTTP: it puts or takes their messages, each at most once";
+
+pub(crate) const SERVE_AFTER_HELP: &str =
+    "The host sends or receives as `amo send` and `amo receive` do. Its clients are programs that ask at
+its door, over HTTP/1.1:
+  GET /v1                                         what the host is, and its life
+  GET /v1/streams/3?wait=30                       how stream 3 is
+  PUT /v1/streams/3/messages/18?life=L&by=B       puts the body as message 18, at a sender
+  POST /v1/streams/3/messages                     puts the body without a number
+  GET /v1/streams/3/messages/18?life=L            what became of message 18
+  POST /v1/streams/3/take?life=L&by=B&number=13&wait=30   takes message 13, at a receiver
+  GET /v1/events, GET /metrics, GET /healthz, GET /       what happens, counts, health, a page
+Who asks names the life of the host, a word of its own and the number that is next: so a call whose
+answer was lost can be made again, and nothing is put or taken twice. A message that has come stays
+where it is until it is taken. docs/DOOR.md tells of each call, and what to do when an answer is lost.
+
+The door's address is told on standard error. It has to be one of this machine alone, as 127.0.0.1:7003,
+unless --token-file says where a token stands: then each request has to bring it, as
+`Authorization: Bearer TOKEN`. Nothing is encrypted. Port 0 has the system choose, and it is told which.
+Give the address by the name or number by which it is asked: a request for another host is refused.
+
+ADDR is HOST:PORT. What comes from elsewhere than from --peer is dropped, but nothing is authenticated:
+use a network that keeps forgers out. An answer leaves once the journal has the lines of all that it
+tells of; with --sync, once they are on the disk. Journals, pieces and kills are as of `amo send`.
+
+It goes on until it is ended. SIGTERM and SIGINT end it at once, which is a crash like any other.
+
+Status:
+  2  arguments that do not parse
+  4  as of `amo send`, and
+     `amo: cannot listen on ADDR: CAUSE`: also of the door
+     `amo: the door at ADDR is open to other machines: give --token-file`
+     `amo: FILE: it has no token: ..`: a token is one line of 16 to 256 letters, digits and -._~+/=
+
+Example:
+  amo serve --side send --listen 127.0.0.1:7001 --peer 127.0.0.1:7002 --streams 8 \\
+    --journal send.journal --door 127.0.0.1:7003";
+
 pub(crate) const AUDIT_ABOUT: &str =
     "Audits a journal, or those of two processes, and prints a line with the verdict";
 

@@ -46,6 +46,25 @@ enum Stage {
     Over,
 }
 
+/// What a connection is at, for those who bound how long that may last.
+#[derive(Clone, Copy, Debug, PartialEq, Eq)]
+pub enum Phase {
+    /// No request has begun.
+    Idle,
+    /// A head has begun, and has not come whole.
+    Head,
+    /// A body has not come whole.
+    Body,
+    /// A request waits for its answer.
+    Asked,
+    /// The client is told what happens.
+    Following,
+    /// What is pending is sent, and no more is read.
+    Closing,
+    /// There is no more to do.
+    Over,
+}
+
 /// A request whose body has not come whole.
 #[derive(Drop)]
 struct Begun {
@@ -80,6 +99,7 @@ pub struct Connection {
     is_head: bool,
     has_ended: bool,
     thrown: usize,
+    answered: u64,
     stage: Stage,
 }
 
@@ -114,6 +134,7 @@ impl Connection {
             is_head: false,
             has_ended: false,
             thrown: 0,
+            answered: 0,
             stage: Stage::Reading,
         }
     }
@@ -148,6 +169,34 @@ impl Connection {
     /// Whether there is no more to do.
     pub fn is_over(&self) -> bool {
         self.stage == Stage::Over
+    }
+
+    /// What it is at.
+    pub fn phase(&self) -> Phase {
+        match self.stage {
+            Stage::Reading if self.begun.is_some() => Phase::Body,
+            Stage::Reading if self.input.is_empty() => Phase::Idle,
+            Stage::Reading => Phase::Head,
+            Stage::Asked => Phase::Asked,
+            Stage::Following => Phase::Following,
+            Stage::Closing => Phase::Closing,
+            Stage::Over => Phase::Over,
+        }
+    }
+
+    /// How many requests were answered, refusals among them.
+    pub fn answered(&self) -> u64 {
+        self.answered
+    }
+
+    /// How many bytes [`Connection::take`] takes now at once.
+    pub fn room(&self) -> usize
+        ensures { result ≤ MOST_INPUT }
+    {
+        match self.stage {
+            Stage::Closing => MOST_INPUT,
+            _ => MOST_INPUT - self.input.len(),
+        }
     }
 
     /// Takes as many of these bytes as there is room for, and tells how many these are. Behind a refusal they are thrown away.
@@ -486,6 +535,7 @@ impl Connection {
             closes,
         );
         self.is_head = false;
+        self.answered = self.answered.saturating_add(1);
         self.settle(written)
     }
 }

@@ -3,6 +3,7 @@ ghost use Rattle.std.specs.Prelude.{◌≡◌, ◌≤◌, All, length};
 ghost use Rattle.httparse.specs.Spans.{IsHeaderWithin, IsRequestWithin};
 
 use crate::{Call, Credentials, Guard, Method, Refusal, Routes, Served};
+use amo_text::read_decimal;
 use http1::ReadError;
 use httparse::spans::{HeaderSpan, RequestSpans};
 
@@ -34,7 +35,18 @@ pub(crate) fn read_head(
     };
     reader.guard.check(&credentials)?;
     let method = Method::read(head.method.of(input));
-    Call::read(reader.routes, reader.served, method, head.path.of(input))
+    match Call::read(reader.routes, reader.served, method, head.path.of(input)) {
+        // A browser that follows again tells what it was told last (the HTML standard, section 9.2).
+        Ok(Call::Events { after: None }) => Ok(Call::Events {
+            after: last_event(field(input, fields, b"last-event-id")),
+        }),
+        read => read,
+    }
+}
+
+/// The line of the last event that a client was told of, if it says so.
+fn last_event(field: Option<&[u8]>) -> Option<u64> {
+    read_decimal(field?)
 }
 
 /// What the first field of this name has.

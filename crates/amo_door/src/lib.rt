@@ -62,7 +62,7 @@ pub use answer::{
 };
 pub use call::{Call, LONGEST_WAIT, Served};
 pub use claim::{Claim, Decision, EventPlace, Made};
-pub use connection::{Connection, LONGEST_HEAD, MOST_INPUT, MOST_OUTPUT, Step};
+pub use connection::{Connection, LONGEST_HEAD, MOST_INPUT, MOST_OUTPUT, Phase, Step};
 pub use event::{Happening, push_event};
 pub use guard::{Credentials, Guard};
 pub use head::Reader;

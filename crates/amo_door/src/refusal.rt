@@ -58,6 +58,9 @@ pub enum Refusal {
     /// It means another life of the host.
     #[error("the host lives another life now")]
     OtherLife,
+    /// It asks what became of a message of another life, which the host does not know: its journal tells it.
+    #[error("this host tells of its present life alone: `amo outcomes` tells of others, of its journal")]
+    OtherOutcome,
     /// Its body is longer than a message may be, or than the place takes.
     #[error("the body is too long: a message has 1024 bytes at most")]
     TooLong,
@@ -103,7 +106,7 @@ impl Refusal {
             Refusal::Method(_) => 405,
             Refusal::Slow => 408,
             Refusal::Conflict => 409,
-            Refusal::OtherLife => 410,
+            Refusal::OtherLife | Refusal::OtherOutcome => 410,
             Refusal::TooLong => 413,
             Refusal::LongTarget => 414,
             Refusal::Host => 421,
@@ -134,6 +137,7 @@ impl Refusal {
             Refusal::Slow => "slow",
             Refusal::Conflict => "conflict",
             Refusal::OtherLife => "other_life",
+            Refusal::OtherOutcome => "other_outcome",
             Refusal::TooLong => "too_long",
             Refusal::LongTarget => "long_target",
             Refusal::Host => "host",

@@ -15,3 +15,4 @@ pub mod Returning
 pub mod Putting
 pub mod Delivering
 pub mod Fresh
+pub mod Getting

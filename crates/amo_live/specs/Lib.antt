@@ -1,5 +1,6 @@
 pub use Rattle.amo_settings.specs.Limits
 pub mod Backlog
+pub mod Callers
 pub mod Client
 pub mod Emitted
 pub mod Fault

@@ -68,7 +68,7 @@ fn is_long(since: Option<u64>, now: u64) -> bool
 
 /// What was told.
 #[derive(Clone, Copy, Debug)]
-pub(crate) struct Notices {
+pub struct Notices {
     silence: Silence,
     batch: bool,
     streams: bool,
@@ -76,7 +76,7 @@ pub(crate) struct Notices {
 
 impl Notices {
     /// Nothing was told yet.
-    pub(crate) fn new() -> Notices {
+    pub fn new() -> Notices {
         Notices {
             silence: Silence::new(),
             batch: false,
@@ -85,7 +85,7 @@ impl Notices {
     }
 
     /// Tells what is new since the last turn.
-    pub(crate) fn tell<C: Eprint, L: Link, S: Sink, W: Lineage>(
+    pub fn tell<C: Eprint, L: Link, S: Sink, W: Lineage>(
         &mut self,
         rt: &C,
         service: &Service<L, S, W>,

@@ -10,6 +10,7 @@ ghost use Rattle.amo_live.specs.Service.{IsAtRest, PutsNone, got_by, new_version
 ghost use Rattle.amo_live.specs.Shown.{ShowsMore};
 ghost use Rattle.amo_live.specs.Words.{BearsNew, IsNew, StaysDrawn};
 
+mod door;
 mod getting;
 mod notes;
 
@@ -22,6 +23,7 @@ use amo_object::End;
 use amo_packet::{Body, MAX_BATCH, Message, Packet, read};
 use amo_text::Sink;
 use amo_window::Pace;
+pub use door::{EventAt, SenderLane, Settled};
 use std::alloc::{AllocError, Global};
 
 /// How many datagrams a turn takes at most.
@@ -44,6 +46,10 @@ pub(crate) struct Lane {
     held: usize,
     /// One was put, and its client does not know yet what became of it.
     owed: bool,
+    /// How many travel in the handshake that is open.
+    travelling: u64,
+    /// Whether the last one was got, once that is known of one.
+    last: Option<bool>,
 }
 
 impl Lane {
@@ -54,6 +60,8 @@ impl Lane {
             began: 0,
             held: 0,
             owed: false,
+            travelling: 0,
+            last: None,
         }
     }
 }
@@ -67,6 +75,8 @@ pub struct Service<L, S, W> {
     lanes: Vec<Lane>,
     words: W,
     shown: Vec<u8>,
+    /// Which streams' clients got their answers since what is shown was cleared.
+    settled: Vec<Settled>,
     /// How many bytes may be shown in this turn.
     room: usize,
     /// The number in the journal of the first message that was got and not shown.
@@ -150,6 +160,7 @@ impl<L: Link + Drop, S: Sink + Drop, W: Lineage + Drop> Service<L, S, W> {
             lanes,
             words,
             shown: Vec::new(alloc),
+            settled: Vec::new(alloc),
             room: 0,
             unshown: None,
             unread: false,
@@ -199,6 +210,7 @@ impl<L: Link, S: Sink, W: Lineage> Service<L, S, W> {
         ensures spelling { spelling_of self.new ≡ spelling_of self.old }
     {
         self.shown.clear();
+        self.settled.clear();
         self.unshown = None;
     }
 
@@ -624,9 +636,11 @@ impl<L: Link, S: Sink, W: Lineage> Service<L, S, W> {
         if lane.waiting > 0 {
             return self.begin(stream, now);
         }
+        let line = self.host.next_line();
         let Ok((was_got, _)) = self.host.get_ack(stream)? else {
             return Ok(());
         };
+        self.note_settled(stream, was_got, line)?;
         let word = if was_got { Word::Yes } else { Word::No };
         push_word(&mut self.shown, stream, word, self.setup.spelling)?;
         self.note_answer(stream, lane, was_got);

@@ -7,5 +7,6 @@ mod settings;
 
 pub use run::{LinkKind, RunSettings};
 pub use settings::{
-    GotSettings, HostSettings, OutcomesSettings, ReceiveSettings, SendSettings, Settings, Shell,
+    GotSettings, HostSettings, OutcomesSettings, ReceiveSettings, SendSettings, ServeSettings,
+    ServedSide, Settings, Shell,
 };

@@ -14,6 +14,8 @@ pub enum Settings {
     Receive(ReceiveSettings),
     /// Have the host that holds the journal in this file come to its end.
     Stop(String),
+    /// Be a host of one of the sides, with a door for programs.
+    Serve(ServeSettings),
     /// Audit the journal in this file, or the journals of two processes, in this file and the next.
     Audit(String, Option<String>),
     /// Explain the journal in this file, or the journals of two processes, in this file and the next.
@@ -73,6 +75,25 @@ pub struct ReceiveSettings {
     pub host: HostSettings,
     /// It ends once it got as many messages, 1 at least.
     pub count: Option<u64>,
+}
+
+/// The side of a host with a door, with what it is told. Nothing is shown, and it has no end to wait at.
+#[derive(Debug, Drop)]
+pub enum ServedSide {
+    /// It sends.
+    Send(SendSettings),
+    /// It receives.
+    Receive(ReceiveSettings),
+}
+
+/// What a host with a door is told.
+#[derive(Debug, Drop)]
+pub struct ServeSettings {
+    pub side: ServedSide,
+    /// The address of its door.
+    pub door: String,
+    /// The file of the token that requests have to bring, if they have to bring one.
+    pub token_file: Option<String>,
 }
 
 /// Which outcomes are told, and how. Where neither `open` nor `gone` is chosen, all are.

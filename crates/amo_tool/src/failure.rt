@@ -8,6 +8,7 @@ use amo_journal::JournalFault;
 use amo_live::{LiveFault, LivesOpenFault, ProcessFault, ServeFault, SocketFault};
 use amo_replay::ToolFault;
 use amo_run::RunFault;
+use amo_serve::DoorFault;
 use std::alloc::{AllocError, Global};
 use std::io;
 use std::io::ErrorKind;
@@ -70,6 +71,18 @@ pub(crate) enum Failure {
     /// A host that was asked to come to its end did so by a failure.
     #[error("amo: the host failed, or was killed, before it came to its end")]
     Ended,
+    /// A host with a door cannot go on.
+    #[error("amo: {0}")]
+    Door(DoorFault),
+    /// A door at this address would be open to other machines, and no token is wanted.
+    #[error("amo: the door at {0} is open to other machines: give --token-file")]
+    OpenDoor(String),
+    /// What stands in this file is no token.
+    #[error("amo: {0}: it has no token: one line of 16 to 256 letters, digits and -._~+/=")]
+    Token(String),
+    /// The system gives no random bytes.
+    #[error("amo: the system gives no random bytes: {0}")]
+    Random(Cause),
 }
 
 impl Failure {
@@ -244,6 +257,50 @@ impl Failure {
                 Some(cause),
             ) => Failure::of_disk(alloc, path, cause),
             _ => Failure::Host(fault),
+        }
+    }
+}
+
+impl Failure {
+    /// A door was not opened at this address.
+    pub(crate) fn of_listener(alloc: Global, door: &str, error: io::Error) -> Failure {
+        match (String::from_str(alloc, door), error.kind()) {
+            (Ok(door), kind) if kind != ErrorKind::OutOfMemory => {
+                Failure::Listen(door, Cause::from(error))
+            }
+            _ => Failure::NoMemory,
+        }
+    }
+
+    /// A door at this address would be open to other machines.
+    pub(crate) fn of_open_door(alloc: Global, door: &str) -> Failure {
+        match String::from_str(alloc, door) {
+            Ok(door) => Failure::OpenDoor(door),
+            Err(_) => Failure::NoMemory,
+        }
+    }
+
+    /// What stands in this file is no token.
+    pub(crate) fn of_token(alloc: Global, file: &str) -> Failure {
+        match String::from_str(alloc, file) {
+            Ok(file) => Failure::Token(file),
+            Err(_) => Failure::NoMemory,
+        }
+    }
+
+    /// A host with a door, and a journal in this file, cannot go on. If a call on the file failed, this is why.
+    pub(crate) fn of_door(
+        alloc: Global,
+        path: &str,
+        fault: DoorFault,
+        cause: Option<Cause>,
+    ) -> Failure {
+        match (fault, cause) {
+            (DoorFault::Open(fault), _) => Failure::of_journal(alloc, path, fault),
+            (DoorFault::Host(LiveFault::Journal | LiveFault::Lives), Some(cause)) => {
+                Failure::of_disk(alloc, path, cause)
+            }
+            _ => Failure::Door(fault),
         }
     }
 }

@@ -96,7 +96,7 @@ fn run_host<
 }
 
 /// Refuses a text that is no address, and a name that nobody knows or that cannot be looked up.
-fn check_address<R: AllocGlobal + Net>(rt: &R, address: &str) -> Result<(), Failure> {
+pub(crate) fn check_address<R: AllocGlobal + Net>(rt: &R, address: &str) -> Result<(), Failure> {
     match address.to_socket_addrs(rt) {
         Ok(_) => Ok(()),
         Err(error) => Err(Failure::of_address(rt.alloc(), address, error)),
@@ -106,7 +106,7 @@ fn check_address<R: AllocGlobal + Net>(rt: &R, address: &str) -> Result<(), Fail
 /// Opens two files, to be held open. What is opened behind them has the number of no standard stream: where one is closed, a socket or a
 /// journal could have its number, and would get what is meant for a client. Refused where standard output is closed, or standard input at a
 /// host that reads it.
-fn hold_numbers<R: AllocGlobal + Files<File = File>>(
+pub(crate) fn hold_numbers<R: AllocGlobal + Files<File = File>>(
     rt: &R,
     side: End,
 ) -> Result<(File, File), Failure> {
@@ -186,14 +186,18 @@ fn run_opened<
 }
 
 /// The path of the file of lives beside the journal at this path.
-fn path_of_lives(alloc: Global, journal: &str) -> Result<String, Failure> {
+pub(crate) fn path_of_lives(alloc: Global, journal: &str) -> Result<String, Failure> {
     let mut path = String::from_str(alloc, journal)?;
     path.push_str(LIVES)?;
     Ok(path)
 }
 
 /// Opens the file of lives at this path, beside a journal of so many lines.
-fn open_lives<'a, R: AllocGlobal + Eprint + Files<File = File> + RandomSource, N: Ledger>(
+pub(crate) fn open_lives<
+    'a,
+    R: AllocGlobal + Eprint + Files<File = File> + RandomSource,
+    N: Ledger,
+>(
     rt: &R,
     path: &str,
     plan: &Plan,
@@ -223,7 +227,7 @@ fn tell_of_new_lives<R: Eprint>(rt: &R, path: &str) {
 }
 
 /// Opens the socket. Answers its port, too.
-fn open_socket<R: AllocGlobal + Net, L: Ledger>(
+pub(crate) fn open_socket<R: AllocGlobal + Net, L: Ledger>(
     rt: &R,
     host: &HostSettings,
     blank: Blank,
@@ -245,7 +249,7 @@ fn open_socket<R: AllocGlobal + Net, L: Ledger>(
 }
 
 /// Tells that so many zeros were cut off at the end of a journal, if there were any.
-fn tell_of_zeros<R: Eprint>(rt: &R, path: &str, zeros: u64) {
+pub(crate) fn tell_of_zeros<R: Eprint>(rt: &R, path: &str, zeros: u64) {
     if zeros > 0 {
         let _ = eprintln!(rt;
             "amo: {path}: {zeros} zeros at its end were cut off, as a loss of power leaves them"
@@ -255,13 +259,13 @@ fn tell_of_zeros<R: Eprint>(rt: &R, path: &str, zeros: u64) {
 
 /// Tells where a host listens, with the port that it has got, and how many lines of events came back of its journal. Of a socket that has a
 /// peer the system tells the one address that leads there, also where it listens on each that this machine has.
-fn tell_of_start<R: Eprint>(rt: &R, listen: &str, port: u16, journal: &str, lines: u64) {
+pub(crate) fn tell_of_start<R: Eprint>(rt: &R, listen: &str, port: u16, journal: &str, lines: u64) {
     let host = host_of(listen);
     let _ = eprintln!(rt; "amo: listens on {host}:{port}, behind {lines} lines of {journal}");
 }
 
 /// What stands in front of the port of an address.
-fn host_of(address: &str) -> &str {
+pub(crate) fn host_of(address: &str) -> &str {
     match address.rsplit_once(':') {
         Some((host, _port)) => host,
         None => address,

@@ -1,9 +1,9 @@
 //! The program `amo`: replays schedules on a book with both sides of 256 streams, and prints what they reply and emit; runs the
-//! service between two hosts, and keeps a journal; is one host of a pair, for clients at its standard input and output; and audits and
+//! service between two hosts, and keeps a journal; is one host of a pair, for clients at its standard input and output or at a door; and audits and
 //! explains journals, and tells by them what became of messages.
 //!
 //! `amo_arguments` reads the program's arguments, and answers as `amo_settings` what they choose. `replaying`, `running`, `live`,
-//! `judging` and `telling` do it, `pieces` reads the journals that are judged, `progress` shows how far a run is, `failure` is why they cannot, and
+//! `serving`, `judging` and `telling` do it, `pieces` reads the journals that are judged, `progress` shows how far a run is, `failure` is why they cannot, and
 //! `watched` keeps why a write failed.
 #![tactic(auto)]
 
@@ -18,6 +18,7 @@ mod pieces;
 mod progress;
 mod replaying;
 mod running;
+mod serving;
 mod stopping;
 mod telling;
 mod watched;
@@ -25,9 +26,10 @@ mod watched;
 use crate::failure::Failure;
 use crate::judging::{audit_files, explain_files};
 use crate::live::{receive_lines, send_lines};
-use crate::stopping::stop_host;
 use crate::replaying::replay_file;
 use crate::running::run_to_file;
+use crate::serving::serve_programs;
+use crate::stopping::stop_host;
 use crate::telling::{tell_got_of, tell_outcomes_of};
 use amo_arguments::{ArgumentsFault, not_text, settings};
 use amo_manual::{page, script};
@@ -36,7 +38,7 @@ use std::alloc::AllocError;
 use std::env;
 use std::fs::File;
 use std::io::{ErrorKind, IsTerminal, Read, Write};
-use std::net::Net;
+use std::net::{Net, TcpListener, TcpStream};
 use std::os::fd::AsRawFd;
 use std::process::ExitCode;
 use std::random::RandomSource;
@@ -65,7 +67,7 @@ fn obey<
         + RandomSource
         + Threads
         + Wait
-        + Net
+        + Net<Listener = TcpListener, Stream = TcpStream>
         + Sync,
     I: Read + AsRawFd + Drop,
     O: Write + AsRawFd + Drop,
@@ -87,6 +89,7 @@ fn obey<
         Ok(Settings::Send(settings)) => send_lines(rt, &settings, input, output),
         Ok(Settings::Receive(settings)) => receive_lines(rt, &settings, input, output),
         Ok(Settings::Stop(file)) => stop_host(rt, file.as_str()),
+        Ok(Settings::Serve(settings)) => serve_programs(rt, &settings),
         Ok(Settings::Manual) => show_page(rt, page(rt.alloc())),
         Ok(Settings::Completions(shell)) => show_page(rt, script(rt.alloc(), shell)),
         Err(ArgumentsFault::Text(text, status)) => show(rt, text.as_str(), status),

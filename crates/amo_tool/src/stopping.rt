@@ -22,7 +22,10 @@ pub(crate) fn hang_bell<R: AllocGlobal + Eprint + Files + Net>(
     match Bell::hang(rt, alloc, path.as_str()) {
         Ok(bell) => Ok(bell),
         Err(cause) => {
-            let _ = eprintln!(rt; "amo: {}: {cause}: `amo stop` cannot reach this host", path.as_str());
+            let _ = eprintln!(rt;
+                "amo: {}: {cause}: `amo stop` cannot reach this host",
+                path.as_str()
+            );
             Ok(Bell::none(alloc))
         }
     }

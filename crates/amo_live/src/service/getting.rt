@@ -131,6 +131,6 @@ impl<L: Link, S: Sink, W: Lineage> Service<L, S, W> {
 }
 
 /// Whether this is the mode of a receiver that holds messages.
-fn is_rcvd(mode: Option<Mode>) -> bool {
+pub(crate) fn is_rcvd(mode: Option<Mode>) -> bool {
     matches!(mode, Some(Mode::Rcvd))
 }

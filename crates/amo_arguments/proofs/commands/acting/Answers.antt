@@ -9,4 +9,6 @@ returns c =
     let run = with_command c.in_ok-subcommand-2.ensures links.2 replay in
     let send = with_command c.in_ok-subcommand-3.ensures c.in_ok-send.ensures run in
     let receive = with_command c.in_ok-subcommand-4.ensures c.in_ok-receive.ensures send in
-    IfOk-weaker c.subcommand-5.result _ _ (λ m h. (links.0, links.1, with_command h c.in_ok-stop.ensures receive)) c.subcommand-5.ensures
+    let receive = with_command c.in_ok-subcommand-4.ensures c.in_ok-receive.ensures send in
+    let stop = with_command c.in_ok-subcommand-5.ensures c.in_ok-stop.ensures receive in
+    IfOk-weaker c.subcommand-6.result _ _ (λ m h. (links.0, links.1, with_command h c.in_ok-serve.ensures stop)) c.subcommand-6.ensures

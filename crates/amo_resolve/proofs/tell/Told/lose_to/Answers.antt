@@ -81,8 +81,8 @@ returns-else-is_told_no-clause-settled c = λ yes.
     let s = settles_all got wanted old r end c.loop-self.left _ i.losing i.first none (omega (arith, c.if-left-max.false, c.max.ensures, i.first, i.known, i.losing.from)) c.part_end-end.ensures.whole in
     let here : QueueState = state_of got (record r { known = end }) in
     elim c.else-is_told_no.branch [
-      else-is_told_no-via-then-is_told_no+else-ne w ↦
-        subst (λ (told : Bool). Settles (state_of got old) here wanted told) (sym w.if-is_told_no.true) (denied_already (state_of got old) here wanted s (is_no r.status w.ne.result w.ne.ensures w.if-ne.false))
-    | else-is_told_no-via-else-is_told_no w ↦
-        subst (λ (told : Bool). Settles (state_of got old) here wanted told) (sym w.if-is_told_no.false) s
+      | else-is_told_no-via-then-is_told_no+else-ne w ↦
+          subst (λ (told : Bool). Settles (state_of got old) here wanted told) (sym w.if-is_told_no.true) (denied_already (state_of got old) here wanted s (is_no r.status w.ne.result w.ne.ensures w.if-ne.false))
+      | else-is_told_no-via-else-is_told_no w ↦
+          subst (λ (told : Bool). Settles (state_of got old) here wanted told) (sym w.if-is_told_no.false) s
     ]

@@ -1,0 +1,35 @@
+use Rattle.std.proofs.Common.{◌≡◌, refl, rules}
+use Rattle.amo_object.specs.declared.step.End.TheVariants.{Receiver}
+use Rattle.amo_core.specs.declared.act.Act.TheVariants as act
+use Rattle.amo_live.specs.Service.{words_of}
+use Rattle.amo_live.specs.Words.{BearsNew}
+use Rattle.amo_live.proofs.Fresh.{bears_as, bears_none, bears_on, call_bears, resend_bears}
+use Rattle.amo_live.proofs.service.Service.get_for_caller.Goals as goal
+use Rattle.amo_live.proofs.service.Service.get_for_caller.Goals.{then-held-eq0+in_ok-resend, else-held-eq0}
+
+pub returns-in_default-2-clause-words : goal.returns-in_default-2-clause-words
+returns-in_default-2-clause-words g c =
+    let (answer, grown, got) = c.in_ok-message.ensures.got in let old = words_of c.args.self.now in
+    bears_none old old c.args.self.now.host.pass c.get.new.self.pass refl (call_bears c.args.self.now.host.pass c.get.new.self.pass Receiver c.args.stream act.Get answer refl grown)
+
+pub returns-clause-words : goal.returns-clause-words
+returns-clause-words g c =
+    let (answer, grown, got) = c.in_ok-message.ensures.got in
+    let old = words_of c.args.self.now in let new = words_of c.if-held-eq0.self in
+    let first = c.args.self.now.host.pass in
+    let kept = c.set_lane.new.self.host.pass in
+    let same : kept ≡ c.get.new.self.pass = search rules in
+    let none : BearsNew g.W.Lineage.is_drawn old old first kept = bears_as old old old old first c.get.new.self.pass first kept refl refl refl same
+    (bears_none old old first c.get.new.self.pass refl (call_bears first c.get.new.self.pass Receiver c.args.stream act.Get answer refl grown)) in
+    elim c.if-held-eq0.branch [
+      | then-held-eq0+in_ok-resend w ↦
+          let words : new ≡ old = search rules in
+          let sent : c.if-held-eq0.self.host.pass ≡ w.resend.new.self.pass = search rules in
+          bears_as old old old new first w.resend.new.self.pass first c.if-held-eq0.self.host.pass refl words refl sent
+          (bears_on old old old first kept w.resend.new.self.pass none
+          (bears_none old old kept w.resend.new.self.pass refl (resend_bears c.set_lane.new.self.host w.resend.new.self c.args.stream w.in_ok-resend.field-0 w.in_ok-resend.ensures.did)))
+      | else-held-eq0 w ↦
+          let words : new ≡ old = search rules in
+          let sent : c.if-held-eq0.self.host.pass ≡ kept = search rules in
+          bears_as old old old new first kept first c.if-held-eq0.self.host.pass refl words refl sent none
+    ]

@@ -1,0 +1,30 @@
+-- What callers are told, who ask a service one by one.
+use Rattle.std.specs.Prelude.{◌≡◌, ℕ, Option, Some, None, List, [], ◌∷◌, ◌++◌}
+use Rattle.amo_core.specs.declared.act.Act.{Act}
+use Rattle.amo_core.specs.declared.act.Act.TheVariants as act
+use Rattle.amo_core.specs.declared.reply.Reply.{Reply}
+use Rattle.amo_core.specs.declared.reply.Reply.TheVariants as reply
+use Rattle.amo_world.specs.declared.event.Event.{Event}
+use Rattle.amo_book.specs.Pass.{PassState, mine}
+use Rattle.amo_live.specs.Host.{puts_in}
+use Rattle.amo_live.specs.declared.service.door.EventAt.{EventAt}
+
+-- the message that an event got, with its stream, if it did
+abbrev pub got_by : ℕ → Act → Reply → List (ℕ × List ℕ)
+got_by stream act.Get (reply.Got m) = (stream, m) ∷ []
+got_by _ _ _ = []
+
+-- the messages that were got, each with its stream; newest first
+abbrev pub gets_in : List Event → List (ℕ × List ℕ)
+gets_in [] = []
+gets_in (e ∷ past) = got_by e.stream e.act e.reply ++ gets_in past
+
+-- a message was got of a stream, once; or none was
+abbrev pub Gets : PassState → PassState → ℕ → Option (List ℕ × ℕ) → Type 0
+Gets v w stream None = gets_in (mine w) ≡ gets_in (mine v)
+Gets v w stream (Some (m, line)) = gets_in (mine w) ≡ (stream, m) ∷ gets_in (mine v)
+
+-- a message was put on a stream, once; or none was
+abbrev pub PutsAt : PassState → PassState → ℕ → List ℕ → Option EventAt → Type 0
+PutsAt v w stream message None = puts_in (mine w) ≡ puts_in (mine v)
+PutsAt v w stream message (Some at) = puts_in (mine w) ≡ (stream, message) ∷ puts_in (mine v)

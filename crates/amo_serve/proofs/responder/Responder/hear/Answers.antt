@@ -1,0 +1,21 @@
+use Rattle.std.proofs.Common.{◌≡◌, ap, ◌∙◌, rules}
+use Rattle.amo_book.specs.Pass.{PassState, mine}
+use Rattle.amo_live.specs.Host.{puts_in}
+use Rattle.amo_serve.proofs.Served.{serves_none}
+use Rattle.amo_live.specs.Service.{words_of}
+use Rattle.amo_live.proofs.Fresh.{bears_on}
+use Rattle.amo_serve.proofs.responder.Responder.hear.Goals as goal
+
+pub returns-clause-words : goal.returns-clause-words
+returns-clause-words g c =
+    let same : c.tell_settled.new.self.service ≡ c.resend.new.self = search rules in
+    let first = c.args.self.now.service in
+    rw same (bears_on (words_of first) (words_of c.hear.new.self) (words_of c.resend.new.self) first.host.pass c.hear.new.self.host.pass c.resend.new.self.host.pass c.in_ok-hear.ensures.words c.in_ok-resend.ensures.words)
+
+pub returns-clause-serves : goal.returns-clause-serves
+returns-clause-serves g c =
+    let first = c.args.self.now in let heard = c.tell_settled.new.self in
+    let numbers : heard.numbers ≡ first.numbers = search rules in
+    let pass : heard.service.host.pass ≡ c.resend.new.self.host.pass = search rules in
+    let none : puts_in (mine heard.service.host.pass) ≡ puts_in (mine first.service.host.pass) = ap (λ (p : PassState). puts_in (mine p)) pass ∙ (c.in_ok-resend.ensures.none_put ∙ c.in_ok-hear.ensures.none_put) in
+    serves_none first.numbers heard.numbers first.service.host.pass heard.service.host.pass numbers none

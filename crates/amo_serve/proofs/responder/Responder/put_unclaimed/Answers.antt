@@ -1,0 +1,30 @@
+use Rattle.std.proofs.Common.{◌≡◌, ℕ, List, ◌∷◌, Some, ap, refl, sym, ◌∙◌, rules}
+use Rattle.std.proofs.lemmas.Result.{IfOk-weaker}
+use Rattle.amo_book.specs.Pass.{PassState, mine}
+use Rattle.amo_live.specs.Host.{puts_in}
+use Rattle.amo_door.specs.declared.answer.When.TheVariants.{Now}
+use Rattle.amo_door.specs.declared.claim.Made.{Made}
+use Rattle.amo_door.specs.Answer.{put_body, status_of_put}
+use Rattle.amo_door.specs.Numbers.{last_of, made_for_none}
+use Rattle.amo_serve.specs.Serving.{IsPut}
+use Rattle.amo_serve.proofs.Served.{said_of}
+use Rattle.amo_serve.proofs.responder.Responder.put_unclaimed.Goals as goal
+
+pub returns-clause-answered : goal.returns-clause-answered
+returns-clause-answered g c =
+    let s = c.args.self.now.numbers in
+    let v = c.args.self.now.service.host.pass in
+    let w = c.tell_put.new.self.service.host.pass in
+    let made = made_for_none (last_of c.tell_news.new.self.numbers c.args.stream) c.args.message c.place_of.result in
+    let same : c.tell_put.new.self.numbers ≡ c.note_unclaimed.new.self = search rules in
+    let pass : w ≡ c.put_for_caller.new.self.host.pass = search rules in
+    let copied : c.in_ok-copy.copy ≡ c.args.message = search rules in
+    let one = rw c.in-Some.is at c.in_ok-at.ensures.put in
+    let put : puts_in (mine w) ≡ (c.args.stream, c.args.message) ∷ puts_in (mine v) = ap (λ (p : PassState). puts_in (mine p)) pass ∙ (one ∙ ap (λ (m : List ℕ). (c.args.stream, m) ∷ puts_in (mine v)) copied) in
+    let start : c.tell_news.new.self.numbers ≡ s = search rules in
+    let last : last_of c.note_unclaimed.new.self c.args.stream ≡ Some made = search rules in
+    let life : c.note_unclaimed.new.self.life ≡ s.life = search rules in
+    IfOk-weaker c.tell_put.result _ _
+    (λ answer told.
+    let said = said_of (λ (m : Made). (answer.status ≡ status_of_put Now) × (answer.body.items ≡ put_body c.note_unclaimed.new.self.life c.args.stream m)) (last_of c.note_unclaimed.new.self c.args.stream) made last told in
+    IsPut made (record { keeps = λ past keeps. rw same (c.note_unclaimed.ensures.turns past (rw start keeps)); puts = put }) refl said.0 (rw (sym life) said.1)) c.tell_put.ensures.told

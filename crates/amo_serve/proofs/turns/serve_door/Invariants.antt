@@ -1,0 +1,13 @@
+use Rattle.amo_live.specs.Host.{IsNoted}
+use Rattle.amo_live.specs.Service.{words_of}
+use Rattle.amo_live.specs.Words.{BearsNew}
+use Rattle.amo_serve.specs.Serving.{Serves}
+use Rattle.amo_serve.proofs.turns.serve_door.Given as goal
+
+-- the journal has all lines so far, and what was put so far was put by turns of callers
+abbrev pub invariant-turns : goal.invariant-turns
+invariant-turns g l = record {
+  noted : IsNoted g.S.Sink.written l.responder.service.host;
+  serves : Serves l.fn.responder.numbers l.responder.numbers l.fn.responder.service.host.pass l.responder.service.host.pass;
+  words : BearsNew g.W.Lineage.is_drawn (words_of l.fn.responder.service) (words_of l.responder.service) l.fn.responder.service.host.pass l.responder.service.host.pass;
+}

@@ -1,0 +1,170 @@
+//! What callers are answered, by the host and by what was made for them in its life.
+ghost use Rattle.std.specs.Prelude.{◌≡◌, ◌↔◌, IfOk, IsTrue, OnOk};
+ghost use Rattle.amo_live.specs.Host.{IsNoted};
+ghost use Rattle.amo_live.specs.Service.{words_of};
+ghost use Rattle.amo_live.specs.Words.{BearsNew};
+ghost use Rattle.amo_door.specs.Numbers.{HasStream};
+ghost use Rattle.amo_serve.specs.Serving.{Serves};
+
+mod putting;
+mod states;
+mod taking;
+
+use crate::counts::Counts;
+use crate::news::News;
+use crate::page::PAGE;
+use amo_door::{About, Answer, Call, Claim, Happening, Kind, Numbers, Refusal, Word};
+use amo_live::{Lineage, LiveFault, Service};
+use amo_net::Link;
+use amo_object::End;
+use amo_packet::Message;
+use amo_text::Sink;
+use std::alloc::{AllocError, Global};
+pub use taking::Taken;
+
+/// What is told of the host beside its life and streams.
+#[derive(Drop)]
+pub struct Identity {
+    /// The version of the program.
+    pub version: String,
+    /// The side of the host.
+    pub side: End,
+    /// The address of the host on the other side.
+    pub peer: String,
+    /// Since when it lives, in seconds from 1970 on.
+    pub since: u64,
+}
+
+/// A host at work, and what was made for callers in its life.
+#[derive(Drop)]
+pub struct Responder<L, S, W> {
+    /// The host.
+    pub service: Service<L, S, W>,
+    /// What was made for callers.
+    pub numbers: Numbers,
+    pub(crate) alloc: Global,
+    pub(crate) identity: Identity,
+    /// How many streams it has.
+    pub(crate) streams: u32,
+    /// How many lines its journal had at the start of its life.
+    pub(crate) first_line: u64,
+    /// What happened of late.
+    pub(crate) news: News,
+    /// When the other host was heard last, in microseconds.
+    pub(crate) heard_at: Option<u64>,
+    pub(crate) counts: Counts,
+}
+
+/// What comes of a request now.
+#[derive(Drop)]
+pub enum Reply {
+    /// It is answered.
+    Answer(Answer),
+    /// It waits for so many seconds at most, until the last message of this stream has settled, or its next one is ready.
+    State { stream: u32, wait: u64 },
+    /// It waits for so many seconds at most, until the message that it claims is there.
+    Take { claim: Claim, wait: u64 },
+    /// Its client is told what happens from now on, or from behind this line on.
+    Follow { after: Option<u64> },
+}
+
+impl<L: Link + Drop, S: Sink + Drop, W: Lineage + Drop> Responder<L, S, W> {
+    /// What answers callers of this host, which has made nothing for any, in this life. Its journal has so many lines.
+    pub fn new(
+        alloc: Global,
+        service: Service<L, S, W>,
+        identity: Identity,
+        life: Word,
+        streams: u32,
+        first_line: u64,
+    ) -> Result<Responder<L, S, W>, AllocError>
+        ensures service { IfOk result (λ responder. responder.service ≡ service) }
+    {
+        let mut news = News::new(alloc);
+        if first_line > 0 {
+            news.add(Some(first_line), &Happening::Crash)?;
+        }
+        Ok(Responder {
+            service,
+            numbers: Numbers::new(alloc, life, streams)?,
+            alloc,
+            identity,
+            streams,
+            first_line,
+            news,
+            heard_at: None,
+            counts: Counts::new(),
+        })
+    }
+}
+
+impl<L: Link, S: Sink, W: Lineage> Responder<L, S, W> {
+    /// What comes of this call of a client, with the message that its request brought.
+    pub fn respond(&mut self, call: Call, message: Message, now: u64) -> Result<Reply, LiveFault>
+        requires { IsNoted S.written self.old.service.host }
+        ensures noted { OnOk result (IsNoted S.written self.new.service.host) }
+        ensures serves { OnOk result (Serves self.old.numbers self.new.numbers self.old.service.host.pass self.new.service.host.pass) }
+        ensures words { OnOk result (BearsNew W.is_drawn (words_of self.old.service) (words_of self.new.service) self.old.service.host.pass self.new.service.host.pass) }
+    {
+        self.counts.requests = self.counts.requests.saturating_add(1);
+        match call {
+            Call::Put(claim) => self.respond_to_put(claim, message, now),
+            Call::PutNext { stream } => self.respond_to_next(stream, message, now),
+            Call::Take { claim, wait } => self.respond_to_take(claim, wait, now),
+            Call::Events { after } => Ok(Reply::Follow { after }),
+            Call::State { stream, wait } => self.respond_to_state(stream, wait),
+            Call::Outcome {
+                stream,
+                number,
+                life,
+            } => self.respond_to_outcome(stream, number, &life),
+            Call::Host => self.respond_of_host(),
+            Call::Metrics => self.respond_of_counts(),
+            Call::Health => self.respond_of_health(),
+            Call::Page => self.respond_with_page(),
+            Call::Got { .. } => self.refuse(Refusal::NotNow),
+        }
+    }
+
+    /// Whether there is such a stream.
+    pub(crate) fn has_stream(&self, stream: u32) -> bool
+        ensures { IsTrue result ↔ HasStream self.now.numbers stream }
+    {
+        self.numbers.has_stream(stream)
+    }
+
+    /// A refusal, for this reason.
+    fn refuse(&self, refusal: Refusal) -> Result<Reply, LiveFault> {
+        Ok(Reply::Answer(Answer::refusal(self.alloc, refusal)?))
+    }
+
+    /// What the host is.
+    fn respond_of_host(&self) -> Result<Reply, LiveFault> {
+        let about = About {
+            version: self.identity.version.as_str(),
+            side: self.identity.side,
+            streams: self.streams,
+            peer: self.identity.peer.as_str(),
+            since: self.identity.since,
+        };
+        Ok(Reply::Answer(Answer::host(self.alloc, self.numbers.life(), &about)?))
+    }
+
+    /// That the host can work: it ends where it cannot.
+    fn respond_of_health(&self) -> Result<Reply, LiveFault> {
+        let body = Vec::from_slice(self.alloc, b"ok\n")?;
+        Ok(Reply::Answer(Answer::new(200, Kind::Text, body)))
+    }
+
+    /// The page.
+    fn respond_with_page(&self) -> Result<Reply, LiveFault> {
+        let body = Vec::from_slice(self.alloc, PAGE.as_bytes())?;
+        Ok(Reply::Answer(Answer::new(200, Kind::Page, body)))
+    }
+
+    /// What the host counted.
+    fn respond_of_counts(&self) -> Result<Reply, LiveFault> {
+        let body = self.counts_text()?;
+        Ok(Reply::Answer(Answer::new(200, Kind::Metrics, body)))
+    }
+}

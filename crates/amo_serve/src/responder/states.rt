@@ -1,0 +1,129 @@
+//! How streams are, and what became of messages.
+ghost use Rattle.std.specs.Prelude.{◌≡◌, OnOk};
+ghost use Rattle.amo_door.specs.Numbers.{HasStream};
+
+use crate::responder::{Reply, Responder};
+use amo_door::{Answer, Fate, Last, ReceiverState, Refusal, SenderState, Word};
+use amo_live::{Lineage, LiveFault, SenderLane};
+use amo_net::Link;
+use amo_object::End;
+use amo_text::Sink;
+
+impl<L: Link, S: Sink, W: Lineage> Responder<L, S, W> {
+    /// What comes of a question how a stream is, whose client waits for so many seconds at most.
+    pub(crate) fn respond_to_state(&self, stream: u32, wait: u64) -> Result<Reply, LiveFault> {
+        if !self.has_stream(stream) {
+            return self.refuse(Refusal::NoStream);
+        }
+        if wait > 0 && !self.is_reached(stream) {
+            return Ok(Reply::State { stream, wait });
+        }
+        Ok(Reply::Answer(self.state(stream)?))
+    }
+
+    /// Whether what is waited for at a stream is so: its last message has settled, or its next one is ready.
+    pub(crate) fn is_reached(&self, stream: u32) -> bool {
+        match self.identity.side {
+            End::Sender => !self.service.sender_lane(stream).owed,
+            End::Receiver => self.service.holds(stream),
+        }
+    }
+
+    /// How a stream is.
+    pub(crate) fn state(&self, stream: u32) -> Result<Answer, LiveFault>
+        requires { HasStream self.now.numbers stream }
+    {
+        let life = self.numbers.life();
+        match self.identity.side {
+            End::Sender => {
+                let state = self.sender_state(stream);
+                Ok(Answer::sender(self.alloc, life, stream, state)?)
+            }
+            End::Receiver => {
+                let state = self.receiver_state(stream);
+                Ok(Answer::receiver(self.alloc, life, stream, state)?)
+            }
+        }
+    }
+
+    /// How a stream of the sender is.
+    pub(crate) fn sender_state(&self, stream: u32) -> SenderState
+        requires { HasStream self.now.numbers stream }
+    {
+        let lane = self.service.sender_lane(stream);
+        let put = self.numbers.last_number(stream);
+        SenderState {
+            put,
+            waiting: lane.waiting,
+            last: last_of(&lane, put),
+        }
+    }
+
+    /// How a stream of the receiver is.
+    pub(crate) fn receiver_state(&self, stream: u32) -> ReceiverState
+        requires { HasStream self.now.numbers stream }
+    {
+        ReceiverState {
+            taken: self.numbers.last_number(stream),
+            ready: self.service.holds(stream),
+        }
+    }
+
+    /// What comes of a question what became of the message of a number in a life.
+    pub(crate) fn respond_to_outcome(
+        &self,
+        stream: u32,
+        number: u64,
+        life: &Word,
+    ) -> Result<Reply, LiveFault> {
+        if !self.has_stream(stream) {
+            return self.refuse(Refusal::NoStream);
+        }
+        if self.numbers.life() != life {
+            return self.refuse(Refusal::OtherOutcome);
+        }
+        let lane = self.service.sender_lane(stream);
+        let answer = match fate_of(&lane, self.numbers.last_number(stream), number) {
+            Some(fate) => Answer::outcome(self.alloc, life, stream, number, fate)?,
+            None => Answer::conflict_at_sender(
+                self.alloc,
+                life,
+                stream,
+                self.sender_state(stream),
+            )?,
+        };
+        Ok(Reply::Answer(answer))
+    }
+}
+
+/// What is known of the last message of a stream on which so many were put.
+fn last_of(lane: &SenderLane, put: u64) -> Last {
+    if put == 0 {
+        return Last::None;
+    }
+    match lane.last {
+        _ if lane.owed => Last::Open,
+        Some(true) => Last::Yes,
+        Some(false) => Last::No,
+        None => Last::Open,
+    }
+}
+
+/// What became of the message of this number on a stream on which so many were put, in this life; none where it was not put yet.
+fn fate_of(lane: &SenderLane, put: u64, number: u64) -> Option<Fate> {
+    if number == 0 || put < number {
+        return None;
+    }
+    let open = lane.waiting.saturating_add(lane.travelling);
+    if put - number < open {
+        return Some(Fate::Open);
+    }
+    if number < put {
+        return Some(Fate::Settled);
+    }
+    match last_of(lane, put) {
+        Last::Yes => Some(Fate::Got),
+        Last::No => Some(Fate::Unknown),
+        Last::Open | Last::None => Some(Fate::Open),
+    }
+}

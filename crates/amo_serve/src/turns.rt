@@ -1,0 +1,207 @@
+//! The turns of a host with a door.
+ghost use Rattle.std.specs.Prelude.{◌≡◌, OnOk, true};
+ghost use Rattle.amo_live.specs.Host.{IsNoted};
+ghost use Rattle.amo_live.specs.Service.{words_of};
+ghost use Rattle.amo_live.specs.Words.{BearsNew};
+ghost use Rattle.amo_serve.specs.Serving.{Serves};
+
+use crate::DoorFault;
+use crate::client::Client;
+use crate::door::Door;
+use crate::news::News;
+use crate::responder::{Reply, Responder};
+use amo_door::Happening;
+use amo_live::{Durable, Lineage, LiveFault, Notices};
+use amo_net::Link;
+use std::rt::Clock;
+use std::time::Instant;
+
+/// How many bytes of messages are shown of the host's own accord: none, so that a message stays where it came until it is taken.
+const NO_ROOM: usize = 0;
+
+/// After how many microseconds in which it was not heard those who follow are told that the other host is heard.
+const SILENCE: u64 = 10_000_000;
+
+/// Makes one turn after another, until the host cannot go on. The system waits for its socket by this number.
+pub fn serve_door<C: Clock + Eprint, L: Link, S: Durable, W: Lineage>(
+    rt: &C,
+    responder: &mut Responder<L, S, W>,
+    door: &mut Door,
+    socket: i32,
+    sync: bool,
+) -> Result<(), DoorFault>
+    requires { IsNoted S.written responder.old.service.host }
+    ensures noted { OnOk result (IsNoted S.written responder.new.service.host) }
+    // Each message that was put was put by a turn of a caller, once and with its bytes; and each turn is right behind those before it.
+    ensures serves { OnOk result (Serves responder.old.numbers responder.new.numbers responder.old.service.host.pass responder.new.service.host.pass) }
+    // Each word that an event bears was drawn meanwhile, and none is borne twice.
+    ensures words { OnOk result (BearsNew W.is_drawn (words_of responder.old.service) (words_of responder.new.service) responder.old.service.host.pass responder.new.service.host.pass) }
+{
+    let start = started(rt)?;
+    let mut notices = Notices::new();
+    'turns: for _turn in 0..u64::MAX {
+        let now = microseconds(rt, &start)?;
+        notices.tell(rt, &responder.service, now);
+        door.wait(rt, socket, responder.service.next_due(), now)?;
+        let now = microseconds(rt, &start)?;
+        turn(responder, door, sync, now)?;
+    }
+    Ok(())
+}
+
+/// One turn, behind a wait.
+fn turn<L: Link, S: Durable, W: Lineage>(
+    responder: &mut Responder<L, S, W>,
+    door: &mut Door,
+    sync: bool,
+    now: u64,
+) -> Result<(), DoorFault>
+    requires { IsNoted S.written responder.old.service.host }
+    ensures noted { OnOk result (IsNoted S.written responder.new.service.host) }
+    ensures serves { OnOk result (Serves responder.old.numbers responder.new.numbers responder.old.service.host.pass responder.new.service.host.pass) }
+    ensures words { OnOk result (BearsNew W.is_drawn (words_of responder.old.service) (words_of responder.new.service) responder.old.service.host.pass responder.new.service.host.pass) }
+{
+    responder.hear(now)?;
+    door.hear(now)?;
+    responder.serve_waiters(door, now)?;
+    responder.ask_clients(door, now)?;
+    responder.put_on_disk(sync)?;
+    hand_out(responder, door, sync, now);
+    responder.leave();
+    door.flush(now);
+    Ok(())
+}
+
+/// Hands each client what its request is answered, and tells those who follow what happened. Of all that the host did by then the journal has the
+/// lines, and has them on its disk where that is asked for: so each answer tells of events whose lines are there.
+fn hand_out<L: Link, S: Durable, W: Lineage>(
+    responder: &Responder<L, S, W>,
+    door: &mut Door,
+    sync: bool,
+    now: u64,
+)
+    requires noted { IsNoted S.written responder.now.service.host }
+    requires on_disk { sync ≡ true → S.on_disk responder.now.service.host.journal.sink ≡ S.written responder.now.service.host.journal.sink }
+{
+    let _ = sync;
+    let next = responder.news.next();
+    for client in door.clients.iter_mut() {
+        match client.reply.take() {
+            Some(Reply::Answer(answer)) => client.answer(&answer, now),
+            Some(Reply::Follow { after: Some(line) }) => client.follow(
+                responder.news.behind(line),
+                now,
+            ),
+            Some(Reply::Follow { after: None }) => client.follow(next, now),
+            Some(Reply::State { .. } | Reply::Take { .. }) | None => {}
+        }
+        tell_news(&responder.news, client, next);
+    }
+}
+
+/// Tells a client that follows what happened since it was told last, up to what happens next.
+fn tell_news(news: &News, client: &mut Client, next: u64) {
+    if !client.is_following() || client.told >= next {
+        return;
+    }
+    for number in news.from(client.told)..next {
+        if let Some(text) = news.text(number) {
+            client.tell(text);
+        }
+    }
+    client.told = next;
+}
+
+impl<L: Link, S: Durable, W: Lineage> Responder<L, S, W> {
+    /// Hears the other host, and sends it again what is due.
+    fn hear(&mut self, now: u64) -> Result<(), LiveFault>
+        requires { IsNoted S.written self.old.service.host }
+        ensures noted { OnOk result (IsNoted S.written self.new.service.host) }
+        ensures serves { OnOk result (Serves self.old.numbers self.new.numbers self.old.service.host.pass self.new.service.host.pass) }
+        ensures words { OnOk result (BearsNew W.is_drawn (words_of self.old.service) (words_of self.new.service) self.old.service.host.pass self.new.service.host.pass) }
+    {
+        self.service.hear(now, NO_ROOM, false)?;
+        self.service.resend(now)?;
+        self.tell_peer(now)?;
+        self.tell_settled()?;
+        Ok(())
+    }
+
+    /// Tells those who follow that the other host is heard, where it was not for ten seconds before.
+    fn tell_peer(&mut self, now: u64) -> Result<(), LiveFault>
+        ensures service { self.new.service ≡ self.old.service }
+        ensures numbers { self.new.numbers ≡ self.old.numbers }
+    {
+        if !self.service.has_heard() {
+            return Ok(());
+        }
+        let was_silent = match self.heard_at {
+            Some(at) => SILENCE <= now.saturating_sub(at),
+            None => true,
+        };
+        self.heard_at = Some(now);
+        if was_silent {
+            self.news.add(None, &Happening::Peer)?;
+        }
+        Ok(())
+    }
+
+    /// Tells those who follow which streams' last messages have settled.
+    fn tell_settled(&mut self) -> Result<(), LiveFault>
+        ensures service { self.new.service ≡ self.old.service }
+        ensures numbers { self.new.numbers ≡ self.old.numbers }
+    {
+        for settled in self.service.settled() {
+            let happening = if settled.was_got {
+                Happening::Yes(settled.stream)
+            } else {
+                Happening::No(settled.stream)
+            };
+            self.news.add(Some(settled.line), &happening)?;
+        }
+        Ok(())
+    }
+
+    /// Puts the journal on its disk, where that is asked for.
+    fn put_on_disk(&mut self, sync: bool) -> Result<(), LiveFault>
+        requires { IsNoted S.written self.old.service.host }
+        ensures noted { OnOk result (IsNoted S.written self.new.service.host) }
+        ensures on_disk { OnOk result (sync ≡ true → S.on_disk self.new.service.host.journal.sink ≡ S.written self.new.service.host.journal.sink) }
+        ensures pass { OnOk result (self.new.service.host.pass ≡ self.old.service.host.pass) }
+        ensures numbers { self.new.numbers ≡ self.old.numbers }
+        ensures words { words_of self.new.service ≡ words_of self.old.service }
+    {
+        if sync {
+            self.service.host.sync()?;
+        }
+        Ok(())
+    }
+
+    /// What is to leave leaves: packets to the link. What was to be shown is not: callers are answered.
+    fn leave(&mut self)
+        requires { IsNoted S.written self.old.service.host }
+        ensures noted { IsNoted S.written self.new.service.host }
+        ensures pass { self.new.service.host.pass ≡ self.old.service.host.pass }
+        ensures numbers { self.new.numbers ≡ self.old.numbers }
+        ensures words { words_of self.new.service ≡ words_of self.old.service }
+    {
+        self.service.clear_shown();
+        self.service.host.send();
+    }
+}
+
+/// When the turns began.
+fn started<C: Clock>(rt: &C) -> Result<Instant, DoorFault> {
+    match Instant::now(rt) {
+        Ok(start) => Ok(start),
+        Err(_) => Err(DoorFault::Clock),
+    }
+}
+
+/// How many microseconds have passed.
+fn microseconds<C: Clock>(rt: &C, start: &Instant) -> Result<u64, DoorFault> {
+    match start.elapsed(rt) {
+        Ok(passed) => Ok(u64::try_from(passed.as_micros()).unwrap_or(u64::MAX)),
+        Err(_) => Err(DoorFault::Clock),
+    }
+}

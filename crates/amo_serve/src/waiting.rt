@@ -1,0 +1,291 @@
+//! Clients' requests, and those who wait for what they asked.
+ghost use Rattle.std.specs.Prelude.{◌≡◌, OnOk};
+ghost use Rattle.amo_live.specs.Host.{IsNoted};
+ghost use Rattle.amo_live.specs.Service.{words_of};
+ghost use Rattle.amo_live.specs.Words.{BearsNew};
+ghost use Rattle.amo_serve.specs.Serving.{Serves};
+
+use crate::client::Client;
+use crate::door::Door;
+use crate::responder::{Reply, Responder, Taken};
+use amo_door::{Answer, Claim, Reader, Step};
+use amo_live::{Durable, Lineage, LiveFault};
+use amo_net::Link;
+use std::alloc::{AllocError, AllocFailed};
+use std::collections::VecDeque;
+
+/// How many microseconds a second has.
+const SECOND: u64 = 1_000_000;
+
+/// What a client waits for.
+#[derive(Drop)]
+pub(crate) enum Awaited {
+    /// That the last message of this stream has settled, or that its next one is ready.
+    State(u32),
+    /// That the message that it claims is there.
+    Take(Claim),
+}
+
+impl Awaited {
+    /// The stream.
+    fn stream(&self) -> u32 {
+        match self {
+            Awaited::State(stream) => *stream,
+            Awaited::Take(claim) => claim.stream,
+        }
+    }
+}
+
+/// A client that waits.
+#[derive(Drop)]
+pub(crate) struct Waiter {
+    /// The number of the client.
+    client: u64,
+    awaited: Awaited,
+    /// Until when, in microseconds.
+    pub(crate) until: u64,
+}
+
+/// Where a client is that waits.
+#[derive(Clone, Copy, Debug, PartialEq, Eq)]
+enum Presence {
+    /// It waits still.
+    There,
+    /// It has hung up, or sends no more: what it would get now might be lost.
+    Ended,
+    /// There is no such client any more.
+    Gone,
+}
+
+/// What comes of a wait.
+#[derive(Drop)]
+enum Waited {
+    /// It is over.
+    Answer(Answer),
+    /// It goes on.
+    Still(Awaited),
+}
+
+impl Door {
+    /// Whether a client that waits has hung up.
+    fn has_hung_up(&self) -> bool {
+        self.clients
+            .iter()
+            .any(|client| client.waits && client.has_ended())
+    }
+
+    /// Where the client of this number is.
+    fn presence(&self, number: u64) -> Presence {
+        for client in &self.clients {
+            if client.number == number {
+                return if client.has_ended() {
+                    Presence::Ended
+                } else {
+                    Presence::There
+                };
+            }
+        }
+        Presence::Gone
+    }
+
+    /// The client of this number is to be answered so.
+    fn reply_to(&mut self, number: u64, answer: Answer) {
+        for client in self.clients.iter_mut() {
+            if client.number == number {
+                client.waits = false;
+                client.reply = Some(Reply::Answer(answer));
+                return;
+            }
+        }
+    }
+}
+
+/// A client waits, behind those who wait already.
+fn push_waiter(waiters: &mut VecDeque<Waiter>, waiter: Waiter) -> Result<(), AllocError> {
+    match waiters.push_back(waiter) {
+        Ok(()) => Ok(()),
+        Err(AllocFailed { .. }) => Err(AllocError),
+    }
+}
+
+impl<L: Link, S: Durable, W: Lineage> Responder<L, S, W> {
+    /// Answers the clients whose wait is over, in the order in which they came.
+    pub(crate) fn serve_waiters(&mut self, door: &mut Door, now: u64) -> Result<(), LiveFault>
+        requires { IsNoted S.written self.old.service.host }
+        ensures noted { OnOk result (IsNoted S.written self.new.service.host) }
+        ensures serves { OnOk result (Serves self.old.numbers self.new.numbers self.old.service.host.pass self.new.service.host.pass) }
+        ensures words { OnOk result (BearsNew W.is_drawn (words_of self.old.service) (words_of self.new.service) self.old.service.host.pass self.new.service.host.pass) }
+    {
+        let count = door.waiters.len();
+        if count == 0 {
+            return Ok(());
+        }
+        let has_hung_up = door.has_hung_up();
+        // Who waits on stands behind all others again: at the end they stand in their order.
+        'waiters: for _waiter in 0..count {
+            let Some(waiter) = door.waiters.pop_front() else {
+                break;
+            };
+            self.serve_waiter(door, waiter, has_hung_up, now)?;
+        }
+        Ok(())
+    }
+
+    /// Answers a client whose wait is over: what it waits for is so, its time is over, or it has hung up. Else it waits on.
+    fn serve_waiter(
+        &mut self,
+        door: &mut Door,
+        waiter: Waiter,
+        has_hung_up: bool,
+        now: u64,
+    ) -> Result<(), LiveFault>
+        requires { IsNoted S.written self.old.service.host }
+        ensures noted { OnOk result (IsNoted S.written self.new.service.host) }
+        ensures serves { OnOk result (Serves self.old.numbers self.new.numbers self.old.service.host.pass self.new.service.host.pass) }
+        ensures words { OnOk result (BearsNew W.is_drawn (words_of self.old.service) (words_of self.new.service) self.old.service.host.pass self.new.service.host.pass) }
+    {
+        let Waiter {
+            client,
+            awaited,
+            until,
+        } = waiter;
+        let is_late = until <= now;
+        let waited = if is_late || has_hung_up || self.is_reached(awaited.stream()) {
+            self.look_at_wait(door.presence(client), awaited, is_late, now)?
+        } else {
+            Waited::Still(awaited)
+        };
+        match waited {
+            Waited::Answer(answer) => door.reply_to(client, answer),
+            Waited::Still(awaited) => push_waiter(
+                &mut door.waiters,
+                Waiter {
+                    client,
+                    awaited,
+                    until,
+                },
+            )?,
+        }
+        Ok(())
+    }
+
+    /// What comes of a wait now, whose client is there or not, and whose time is over or not. Who has hung up takes nothing.
+    fn look_at_wait(
+        &mut self,
+        presence: Presence,
+        awaited: Awaited,
+        is_late: bool,
+        now: u64,
+    ) -> Result<Waited, LiveFault>
+        requires { IsNoted S.written self.old.service.host }
+        ensures noted { OnOk result (IsNoted S.written self.new.service.host) }
+        ensures serves { OnOk result (Serves self.old.numbers self.new.numbers self.old.service.host.pass self.new.service.host.pass) }
+        ensures words { OnOk result (BearsNew W.is_drawn (words_of self.old.service) (words_of self.new.service) self.old.service.host.pass self.new.service.host.pass) }
+    {
+        if presence != Presence::There {
+            return Ok(Waited::Answer(Answer::nothing(self.alloc)));
+        }
+        match awaited {
+            Awaited::State(stream) => self.look_at_state(stream, is_late),
+            Awaited::Take(claim) => self.look_at_take(claim, is_late, now),
+        }
+    }
+
+    /// What comes now of a wait for a stream's state.
+    fn look_at_state(&self, stream: u32, is_late: bool) -> Result<Waited, LiveFault> {
+        if !self.has_stream(stream) {
+            return Ok(Waited::Answer(Answer::nothing(self.alloc)));
+        }
+        if !is_late && !self.is_reached(stream) {
+            return Ok(Waited::Still(Awaited::State(stream)));
+        }
+        Ok(Waited::Answer(self.state(stream)?))
+    }
+
+    /// What comes now of a wait for a message.
+    #[tactic(auto, using(crate::proofs::Served::take_serves))]
+    fn look_at_take(&mut self, claim: Claim, is_late: bool, now: u64) -> Result<Waited, LiveFault>
+        requires { IsNoted S.written self.old.service.host }
+        ensures noted { OnOk result (IsNoted S.written self.new.service.host) }
+        ensures serves { OnOk result (Serves self.old.numbers self.new.numbers self.old.service.host.pass self.new.service.host.pass) }
+        ensures words { OnOk result (BearsNew W.is_drawn (words_of self.old.service) (words_of self.new.service) self.old.service.host.pass self.new.service.host.pass) }
+    {
+        if !self.has_stream(claim.stream) {
+            return Ok(Waited::Answer(Answer::nothing(self.alloc)));
+        }
+        match self.take(claim, now)? {
+            Taken::Answer(answer) => Ok(Waited::Answer(answer)),
+            Taken::NotYet(_) if is_late => Ok(Waited::Answer(Answer::nothing(self.alloc))),
+            Taken::NotYet(claim) => Ok(Waited::Still(Awaited::Take(claim))),
+        }
+    }
+
+    /// Takes each client's next request, if it has come whole, and does what it asks. Its answer is kept back.
+    pub(crate) fn ask_clients(&mut self, door: &mut Door, now: u64) -> Result<(), LiveFault>
+        requires { IsNoted S.written self.old.service.host }
+        ensures noted { OnOk result (IsNoted S.written self.new.service.host) }
+        ensures serves { OnOk result (Serves self.old.numbers self.new.numbers self.old.service.host.pass self.new.service.host.pass) }
+        ensures words { OnOk result (BearsNew W.is_drawn (words_of self.old.service) (words_of self.new.service) self.old.service.host.pass self.new.service.host.pass) }
+    {
+        self.counts.accepted = door.accepted;
+        self.counts.crowded = door.crowded;
+        self.counts.open = door.clients.len() as u64;
+        let reader = Reader {
+            routes: &door.routes,
+            guard: &door.guard,
+            served: door.served,
+        };
+        let waiters = &mut door.waiters;
+        'clients: for client in door.clients.iter_mut() {
+            self.ask(client, &reader, waiters, now)?;
+        }
+        Ok(())
+    }
+
+    /// Takes a client's next request, if it has come whole, and does what it asks.
+    fn ask(
+        &mut self,
+        client: &mut Client,
+        reader: &Reader<'_>,
+        waiters: &mut VecDeque<Waiter>,
+        now: u64,
+    ) -> Result<(), LiveFault>
+        requires { IsNoted S.written self.old.service.host }
+        ensures noted { OnOk result (IsNoted S.written self.new.service.host) }
+        ensures serves { OnOk result (Serves self.old.numbers self.new.numbers self.old.service.host.pass self.new.service.host.pass) }
+        ensures words { OnOk result (BearsNew W.is_drawn (words_of self.old.service) (words_of self.new.service) self.old.service.host.pass self.new.service.host.pass) }
+    {
+        let Step::Call { call, message } = client.next(reader, now) else {
+            return Ok(());
+        };
+        let reply = self.respond(call, message, now)?;
+        keep_reply(client, waiters, reply, now)?;
+        Ok(())
+    }
+}
+
+/// Keeps what a client is answered, or that it waits.
+fn keep_reply(
+    client: &mut Client,
+    waiters: &mut VecDeque<Waiter>,
+    reply: Reply,
+    now: u64,
+) -> Result<(), AllocError> {
+    let (awaited, wait) = match reply {
+        Reply::State { stream, wait } => (Awaited::State(stream), wait),
+        Reply::Take { claim, wait } => (Awaited::Take(claim), wait),
+        Reply::Answer(_) | Reply::Follow { .. } => {
+            client.reply = Some(reply);
+            return Ok(());
+        }
+    };
+    client.waits = true;
+    push_waiter(
+        waiters,
+        Waiter {
+            client: client.number,
+            awaited,
+            until: now.saturating_add(wait.saturating_mul(SECOND)),
+        },
+    )
+}

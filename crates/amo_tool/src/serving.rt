@@ -1,0 +1,245 @@
+//! One host of the service in this process, which programs ask at a door.
+ghost use Rattle.std.specs.Prelude.{◌≡◌, ◌<◌, ◌≤◌};
+ghost use Rattle.amo_settings.specs.Limits.{IsSideWithin};
+
+use crate::failure::Failure;
+use crate::live::{
+    check_address, hold_numbers, host_of, open_lives, open_socket, path_of_lives, tell_of_start,
+    tell_of_zeros,
+};
+use amo_arguments::VERSION;
+use amo_disk::{Cause, Opened, open};
+use amo_door::{Guard, Served, Word};
+use amo_live::{LiveFault, Plan};
+use amo_object::End;
+use amo_serve::{Door, DoorFault, Identity, run_door};
+use amo_settings::{HostSettings, ServeSettings, ServedSide};
+use amo_text::push_hex;
+use std::alloc::{AllocError, AllocFailed, Global};
+use std::cell::Cell;
+use std::fs;
+use std::fs::File;
+use std::io::Read;
+use std::marker::Brand;
+use std::net::{Net, SocketAddr, TcpListener, TcpStream};
+use std::random::RandomSource;
+use std::rt::{Clock, Files};
+use std::sync::ledger::{Blank, Ledger};
+use std::time::{SystemTime, UNIX_EPOCH};
+
+/// How many bytes of a file of a token are read at most: a longer one has none.
+const MOST_OF_TOKEN: u64 = 512;
+
+/// How long a token is.
+const SHORTEST_TOKEN: usize = 16;
+
+const LONGEST_TOKEN: usize = 256;
+
+/// Is a host that programs ask at a door, until it is ended or cannot go on.
+pub(crate) fn serve_programs<
+    R: AllocGlobal
+        + Clock
+        + Eprint
+        + Files<File = File>
+        + Net<Listener = TcpListener, Stream = TcpStream>
+        + RandomSource,
+>(rt: &R, settings: &ServeSettings) -> Result<u8, Failure>
+    requires { IsSideWithin settings.now.side }
+{
+    let (host, plan) = match &settings.side {
+        ServedSide::Send(send) => (&send.host, Plan::to_send(send)),
+        ServedSide::Receive(receive) => (&receive.host, Plan::to_receive(receive)),
+    };
+    check_address(rt, host.listen.as_str())?;
+    check_address(rt, host.peer.as_str())?;
+    let token = match &settings.token_file {
+        Some(file) => Some(read_token(rt, file.as_str())?),
+        None => None,
+    };
+    let _held = hold_numbers(rt, End::Receiver)?;
+    let (listener, address) = open_listener(rt, settings.door.as_str(), token.is_some())?;
+    let alloc = rt.alloc();
+    let guard = guard_of(alloc, settings.door.as_str(), address, token)?;
+    let served = Served {
+        side: plan.setup.side,
+        streams: plan.setup.streams,
+    };
+    let door = match Door::open(alloc, listener, guard, served) {
+        Ok(door) => door,
+        Err(fault) => return Err(Failure::Door(fault)),
+    };
+    serve_opened::<R, Brand, Brand, Brand>(
+        rt,
+        host,
+        plan,
+        door,
+        address,
+        Blank::new(1),
+        Blank::new(1),
+        Blank::new(1),
+    )
+}
+
+/// The token that stands in this file: one line.
+fn read_token<R: AllocGlobal + Files<File = File>>(rt: &R, path: &str) -> Result<String, Failure> {
+    let alloc = rt.alloc();
+    let file = match fs::open(rt, path) {
+        Ok(file) => file,
+        Err(error) => return Err(Failure::of_disk(alloc, path, Cause::from(error))),
+    };
+    let mut text = String::new(alloc);
+    match file.take(MOST_OF_TOKEN).read_to_string(&mut text) {
+        Ok(_) => {}
+        Err(error) => return Err(Failure::of_disk(alloc, path, Cause::from(error))),
+    }
+    let token = text.as_str().trim_end();
+    if !is_token(token.as_bytes()) {
+        return Err(Failure::of_token(alloc, path));
+    }
+    Ok(String::from_str(alloc, token)?)
+}
+
+/// Whether this is a token: characters that a field of a request has (RFC 6750), enough of them, and not too many.
+fn is_token(token: &[u8]) -> bool {
+    SHORTEST_TOKEN <= token.len()
+        && token.len() <= LONGEST_TOKEN
+        && token.iter().all(|byte| is_token_character(*byte))
+}
+
+fn is_token_character(byte: u8) -> bool {
+    byte.is_ascii_alphanumeric() || matches!(byte, b'-' | b'.' | b'_' | b'~' | b'+' | b'/' | b'=')
+}
+
+/// Opens the listener of a door at this address. Answers where it is, too. One that other machines can reach is refused where no token is wanted.
+fn open_listener<R: AllocGlobal + Net<Listener = TcpListener, Stream = TcpStream>>(
+    rt: &R,
+    door: &str,
+    has_token: bool,
+) -> Result<(TcpListener, SocketAddr), Failure> {
+    let alloc = rt.alloc();
+    check_address(rt, door)?;
+    let listener = match TcpListener::bind(rt, door) {
+        Ok(listener) => listener,
+        Err(error) => return Err(Failure::of_listener(alloc, door, error)),
+    };
+    let address = match listener.local_addr() {
+        Ok(address) => address,
+        Err(error) => return Err(Failure::of_listener(alloc, door, error)),
+    };
+    if !has_token && !address.ip().is_loopback() {
+        return Err(Failure::of_open_door(alloc, door));
+    }
+    Ok((listener, address))
+}
+
+/// Who may ask at the door at this address, which was asked for by that text: who names it so, or by what this machine calls itself.
+fn guard_of(
+    alloc: Global,
+    door: &str,
+    address: SocketAddr,
+    token: Option<String>,
+) -> Result<Guard, Failure> {
+    let port = address.port();
+    let mut hosts = Vec::new(alloc);
+    for host in [host_of(door), "127.0.0.1", "localhost", "[::1]"] {
+        push(&mut hosts, format!(in alloc; "{host}:{port}")?)?;
+    }
+    Ok(Guard { hosts, token })
+}
+
+/// Opens the host's socket, then the journal and the file of lives beside it, and runs the host with them and the door. The blanks become the ledgers
+/// in which contracts count their failures.
+fn serve_opened<
+    R: AllocGlobal + Clock + Eprint + Files<File = File> + Net + RandomSource,
+    L: Ledger,
+    M: Ledger,
+    N: Ledger,
+>(
+    rt: &R,
+    host: &HostSettings,
+    plan: Plan,
+    door: Door,
+    address: SocketAddr,
+    link: Blank,
+    lines: Blank,
+    lives: Blank,
+) -> Result<u8, Failure>
+    requires link { (link.name ≡ L.name) × (link.parts ≡ L.parts) × (0 < L.parts) }
+    requires lines { (lines.name ≡ M.name) × (lines.parts ≡ M.parts) × (0 < M.parts) }
+    requires lives { (lives.name ≡ N.name) × (lives.parts ≡ N.parts) × (0 < N.parts) }
+    requires streams { (1 ≤ plan.setup.streams) × (plan.setup.streams ≤ 256) }
+    requires piece { 1024 ≤ plan.piece }
+{
+    let alloc = rt.alloc();
+    let path = host.journal.as_str();
+    let (socket, port) = open_socket::<R, L>(rt, host, link)?;
+    let cause = Cell::new(None);
+    let opened = open::<R, M>(rt, alloc, path, &plan.wanted(), &cause, lines);
+    let Opened { disk, start, zeros } = match opened {
+        Ok(opened) => opened,
+        Err(fault) => return Err(Failure::of_journal(alloc, path, fault)),
+    };
+    tell_of_zeros(rt, path, zeros);
+    let file = path_of_lives(alloc, path)?;
+    let why = Cell::new(None);
+    let words = open_lives::<R, N>(rt, file.as_str(), &plan, start.lines, &why, lives)?;
+    let life = draw_life(rt)?;
+    let identity = identity_of(rt, host, plan.setup.side)?;
+    tell_of_start(rt, host.listen.as_str(), port, path, start.lines);
+    let _ = eprintln!(rt; "amo: its door is http://{address}");
+    let number = socket.number();
+    match run_door(
+        rt, alloc, plan, door, identity, life, socket, number, disk, start, words,
+    ) {
+        Ok(()) => Ok(0),
+        Err(fault) if fault == DoorFault::Host(LiveFault::Lives) => {
+            Err(Failure::of_door(alloc, file.as_str(), fault, why.get()))
+        }
+        Err(fault) => Err(Failure::of_door(alloc, path, fault, cause.get())),
+    }
+}
+
+/// What is told of a host.
+fn identity_of<R: AllocGlobal + Clock>(
+    rt: &R,
+    host: &HostSettings,
+    side: End,
+) -> Result<Identity, Failure> {
+    let alloc = rt.alloc();
+    let since = match SystemTime::now(rt) {
+        Ok(now) => match now.duration_since(UNIX_EPOCH) {
+            Ok(since) => since.as_secs(),
+            Err(_) => 0,
+        },
+        Err(_) => 0,
+    };
+    Ok(Identity {
+        version: String::from_str(alloc, VERSION)?,
+        side,
+        peer: String::from_str(alloc, host.peer.as_str())?,
+        since,
+    })
+}
+
+/// A life's word, which the system draws: no other life has it.
+fn draw_life<R: AllocGlobal + RandomSource>(rt: &R) -> Result<Word, Failure> {
+    let mut bytes = [0; 12];
+    match rt.fill_bytes(&mut bytes) {
+        Ok(()) => {}
+        Err(error) => return Err(Failure::Random(Cause::from(error))),
+    }
+    let mut text = Vec::new(rt.alloc());
+    push_hex(&mut text, bytes.as_slice())?;
+    match Word::read(text.as_slice()) {
+        Some(word) => Ok(word),
+        None => Err(Failure::NoMemory),
+    }
+}
+
+/// Puts a value at a list's end.
+fn push<T: Drop>(list: &mut Vec<T>, value: T) -> Result<(), AllocError> {
+    match list.push(value) {
+        Ok(()) => Ok(()),
+        Err(AllocFailed { .. }) => Err(AllocError),
+    }
+}
