@@ -264,11 +264,12 @@ impl Failure {
 impl Failure {
     /// A door was not opened at this address.
     pub(crate) fn of_listener(alloc: Global, door: &str, error: io::Error) -> Failure {
-        match (String::from_str(alloc, door), error.kind()) {
-            (Ok(door), kind) if kind != ErrorKind::OutOfMemory => {
-                Failure::Listen(door, Cause::from(error))
-            }
-            _ => Failure::NoMemory,
+        if error.kind() == ErrorKind::OutOfMemory {
+            return Failure::NoMemory;
+        }
+        match String::from_str(alloc, door) {
+            Ok(door) => Failure::Listen(door, Cause::from(error)),
+            Err(_) => Failure::NoMemory,
         }
     }
 

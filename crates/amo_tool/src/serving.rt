@@ -68,6 +68,20 @@ pub(crate) fn serve_programs<
         Ok(door) => door,
         Err(fault) => return Err(Failure::Door(fault)),
     };
+    serve_at(rt, host, plan, door, address)
+}
+
+/// Serves at this door, with ledgers in which contracts count failures.
+fn serve_at<R: AllocGlobal + Clock + Eprint + Files<File = File> + Net + RandomSource>(
+    rt: &R,
+    host: &HostSettings,
+    plan: Plan,
+    door: Door,
+    address: SocketAddr,
+) -> Result<u8, Failure>
+    requires streams { (1 ≤ plan.setup.streams) × (plan.setup.streams ≤ 256) }
+    requires piece { 1024 ≤ plan.piece }
+{
     serve_opened::<R, Brand, Brand, Brand>(
         rt,
         host,
