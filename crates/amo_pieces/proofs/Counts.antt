@@ -1,8 +1,8 @@
 -- How many lines end in a text, and how it grows by a piece.
-use Rattle.std.proofs.Common.{◌≡◌, ◌≢◌, inl, inr, ℕ, ◌+◌, ◌≤◌, List, [], ◌∷◌, ◌++◌, length, take, drop, nat_eq, refl, sym, ◌∙◌, ap, arith, length-append, cond}
-use Rattle.std.proofs.lemmas.List.{append-nil}
-use Rattle.std.proofs.lemmas.List.Sums.{sum_by-append, count_by-le-length}
-use Rattle.std.proofs.Math.Seq.{drop-append_seam}
+use Rattle.std.proofs.Common.{◌≡◌, ◌≢◌, inl, inr, ℕ, ◌+◌, ◌-◌, ◌≤◌, List, [], ◌∷◌, ◌++◌, length, take, drop, nat_eq, refl, sym, ◌∙◌, ap, arith, length-append, cond}
+use Rattle.std.proofs.lemmas.List.{append-nil, length-drop}
+use Rattle.std.proofs.lemmas.List.Sums.{sum_by-append, sum_by-take-drop, count_by-le-length}
+use Rattle.std.proofs.Math.Seq.{drop-append_seam, take-append_seam, take-length}
 use Rattle.amo_journal.proofs.Further.{one_before}
 use Rattle.amo_pieces.specs.Journal.{IsWhole}
 use Rattle.amo_pieces.specs.Text.{Joins, begins, adds_nothing, goes_on, of_another, torn}
@@ -31,9 +31,18 @@ grown front piece text left_out (goes_on version body behind some whole ours the
 grown front piece text left_out (of_another version another body behind some whole ours theirs apart bytes is out) = record { more = take 1 piece; is = is }
 grown front piece text left_out (torn cut is out) = record { more = []; is = is ∙ sym (append-nil front) }
 
-pub ends_grown : (front text : List ℕ) → Grown front text → ends_in text ≡ ends_in front + ends_in (drop (length front) text)
-ends_grown front text more =
-    ap ends_in more.is ∙ ends_append front more.more ∙ ap (λ (t : List ℕ). ends_in front + ends_in t) (sym (drop-append_seam front more.more) ∙ ap (λ (t : List ℕ). drop (length front) t) (sym more.is))
+-- the text is in front of what it grew to
+pub front_grown : (front text : List ℕ) → Grown front text → take (length front) text ≡ front
+front_grown front text more = ap (λ (t : List ℕ). take (length front) t) more.is ∙ take-append_seam front more.more
+
+-- the ends of a text that were counted, and the others
+pub ends_on : (text slice : List ℕ) (counted ends others : ℕ) → slice ≡ text → counted ≤ length text → ends ≡ ends_in (take counted text) → others ≡ ends_in (take (length slice - counted) (drop counted slice)) → ends + others ≡ ends_in text
+ends_on text slice counted ends others is few were are =
+    let both = sum_by-take-drop (λ b. cond (nat_eq 10 b) 1 0) text counted in
+    let all : take (length text - counted) (drop counted text) ≡ drop counted text =
+    ap (λ (n : ℕ). take n (drop counted text)) (let count = length-drop counted text in let n : length text - counted ≡ length (drop counted text) = omega (arith, count) in n) ∙ take-length (drop counted text) in
+    let others_are : others ≡ ends_in (drop counted text) = are ∙ (ap (λ (l : List ℕ). ends_in (take (length l - counted) (drop counted l))) is ∙ ap (λ (l : List ℕ). ends_in l) all) in
+    omega (arith, were, others_are, both)
 
 pub long_grown : (front text : List ℕ) → Grown front text → length front ≤ length text
 long_grown front text more = let long = ap length more.is ∙ length-append front more.more in omega (arith, long)

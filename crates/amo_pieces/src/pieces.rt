@@ -1,5 +1,5 @@
 //! The text of a journal in pieces.
-ghost use Rattle.std.specs.Prelude.{◌≡◌, ◌∷◌, ◌⊎◌, [], List, ℕ, IfSome, IfNone, OnOk, OnErr};
+ghost use Rattle.std.specs.Prelude.{◌≡◌, ◌≤◌, ◌∷◌, ◌⊎◌, [], List, ℕ, length, take, IfSome, IfNone, OnOk, OnErr};
 ghost use Rattle.amo_pieces.specs.Text.{IsTextOf};
 ghost use Rattle.amo_pieces.specs.Places.{IsAt, ends_in};
 
@@ -15,9 +15,12 @@ use std::io::Read;
 #[derive(Debug, Drop)]
 pub struct Pieces {
     text: Vec<u8>,
+    /// How many of the text's bytes were looked through for ends of lines: all but the last piece's, which nobody asks for before the next one comes.
+    counted: usize,
     ends: usize,
     starts: Vec<Start>,
-    ghost counted: { ends ≡ ends_in text.items },
+    ghost within: { counted ≤ length text.items },
+    ghost are_ends: { ends ≡ ends_in (take counted text.items) },
 }
 
 impl Pieces {
@@ -29,6 +32,7 @@ impl Pieces {
     {
         Pieces {
             text: Vec::new(alloc),
+            counted: 0,
             ends: 0,
             starts: Vec::new(alloc),
         }
@@ -45,9 +49,10 @@ impl Pieces {
         self.starts.reserve(1)?;
         let goes_on = is_whole(self.text.as_slice());
         let before = self.text.len();
-        let ends = self.ends;
+        let ends = self.ends + count_ends(&self.text.as_slice()[self.counted..]);
         let left_out = read_behind(&mut self.text, reader)?;
-        self.ends += count_ends(&self.text.as_slice()[before..]);
+        self.counted = before;
+        self.ends = ends;
         self.starts.push(Start {
             goes_on,
             ends,
