@@ -217,9 +217,9 @@ pub(crate) const STOP_AFTER_HELP: &str =
 on until all that was put is answered. One that receives accepts nothing more, and shows what has
 come. Either waits for what is on its way as long as its own --wait says.
 
-The host is asked by the socket FILE.stop, which is there while it is at work. Who may write to it may
-ask: its owner alone, where the host was started under the usual umask, 022. Where the name is longer
-than the system allows for sockets, 107 bytes, the host says so at its start, and cannot be asked.
+The host is asked by the socket FILE.stop, which is there while it is at work, for its owner alone.
+Where the name is longer than the system allows for sockets, 107 bytes, the host says so at its start,
+and cannot be asked.
 
 Status, which is the host's own:
   0  it ended, and all is answered

@@ -6,3 +6,4 @@ pub mod Ending
 pub mod Shelf
 pub mod Beginning
 pub mod Start
+pub mod Gathered

@@ -5,6 +5,7 @@ use crate::names::{piece_name, sync_names};
 use std::alloc::Global;
 use std::fs::File;
 use std::io::{self, ErrorKind, Write};
+use std::os::unix::fs::MetadataExt;
 use std::rt::Files;
 use std::{fs, mem};
 
@@ -20,24 +21,61 @@ pub struct Directory<'r, R: Files<File = File>> {
     // The highest number of a piece, or 0.
     highest: u64,
     newest: File,
+    written: Written,
+}
+
+/// The file that was written, and how long it is, if nobody else changed it.
+#[derive(Clone, Copy, Debug)]
+struct Written {
+    device: u64,
+    inode: u64,
+    length: u64,
+}
+
+impl Written {
+    /// This file, of so many bytes.
+    fn of(file: &File, length: u64) -> io::Result<Written> {
+        let found = file.metadata()?;
+        Ok(Written {
+            device: found.dev(),
+            inode: found.ino(),
+            length,
+        })
+    }
+
+    /// Whether what has this name is that file, and as long.
+    fn is_at<R: Files<File = File>>(self, rt: &R, path: &str) -> io::Result<bool> {
+        match fs::metadata(rt, path) {
+            Ok(found) => Ok(
+                found.dev() == self.device
+                    && found.ino() == self.inode
+                    && found.len() == self.length,
+            ),
+            Err(error) if error.kind() == ErrorKind::NotFound => Ok(false),
+            Err(error) => Err(error),
+        }
+    }
 }
 
 impl<'r, R: Files<File = File>> Directory<'r, R> {
-    /// The journal of this name, of which these are the newest piece, which is locked, and the highest number of another one.
+    /// The journal of this name, of which these are the highest number of a piece, and the newest one, which is locked and has so many bytes.
     pub(crate) fn new(
         rt: &'r R,
         alloc: Global,
         path: String,
         highest: u64,
         newest: File,
-    ) -> Directory<'r, R> {
-        Directory {
+        length: u64,
+    ) -> io::Result<Directory<'r, R>> {
+        let written = Written::of(&newest, length)?;
+        Ok(Directory {
             rt,
             alloc,
             path,
             highest,
             newest,
-        }
+            written,
+        })
     }
 }
 
@@ -46,8 +84,15 @@ impl<R: Files<File = File>> Folder for Directory<'_, R> {
 
     ghost pieces = { λ _. None };
 
+    /// Where somebody else cut the piece, added to it or moved it, as a rotation of logs does, the next host would not find there what was written: nothing
+    /// more is appended.
     fn append(&mut self, bytes: &[u8]) -> io::Result<usize> {
-        self.newest.write(bytes)
+        if !self.written.is_at(self.rt, self.path.as_str())? {
+            return Err(io::Error::from(ErrorKind::InvalidData));
+        }
+        let count = self.newest.write(bytes)?;
+        self.written.length = self.written.length.saturating_add(count as u64);
+        Ok(count)
     }
 
     fn sync(&mut self) -> io::Result<()> {
@@ -62,6 +107,7 @@ impl<R: Files<File = File>> Folder for Directory<'_, R> {
     /// The file before keeps its lock until the new one has its own: it is closed last.
     fn begin(&mut self) -> io::Result<()> {
         let newest = begin_behind(self.rt, self.path.as_str())?;
+        self.written = Written::of(&newest, 0)?;
         let _closed = mem::replace(&mut self.newest, newest);
         Ok(())
     }

@@ -12,24 +12,44 @@ pub trait Durable: Sink {
     ghost use Rattle.std.specs.Prelude.{ℕ, List, Option};
     ghost use Rattle.std.specs.Io.KnownBytes.{Keeps};
 
+    /// What of it the death of this process leaves, where the sink tells that.
+    ghost flushed: { Self → Option (List ℕ) };
+
     /// What of it a loss of power leaves, where the sink tells that.
     ghost on_disk: { Self → Option (List ℕ) };
 
-    /// Puts what was written on the disk.
+    /// Hands what was written to the system, all of it.
+    ///
+    /// A call that fails is counted once.
+    fn flush(&mut self) -> Result<(), SinkFault>
+        ensures kept { Keeps (Self.written self.old) (Self.written self.new) }
+        ensures flushed { OnOk result (flushed self.new ≡ Self.written self.new) }
+        ensures calm { OnOk result (Self.failures self.new ≡ Self.failures self.old) }
+        ensures failed { OnErr result (Self.failures self.new ≡ Self.failures self.old + 1) };
+
+    /// Puts what was written on the disk, all of it.
     ///
     /// A call that fails is counted once, and says nothing of what is there.
     fn sync(&mut self) -> Result<(), SinkFault>
         ensures kept { Keeps (Self.written self.old) (Self.written self.new) }
+        ensures flushed { OnOk result (flushed self.new ≡ Self.written self.new) }
         ensures on_disk { OnOk result (on_disk self.new ≡ Self.written self.new) }
         ensures calm { OnOk result (Self.failures self.new ≡ Self.failures self.old) }
         ensures failed { OnErr result (Self.failures self.new ≡ Self.failures self.old + 1) };
 }
 
-/// What a loss of power leaves of files nobody tells.
+/// What is left of files nobody tells.
 impl<R: Files<File = File>, L: Ledger> Durable for Disk<'_, Roll<Directory<'_, R>>, L> {
     ghost use Rattle.std.specs.Prelude.{None};
 
+    ghost flushed = { λ _. None };
+
     ghost on_disk = { λ _. None };
+
+    /// Each write was a call of the system.
+    fn flush(&mut self) -> Result<(), SinkFault> {
+        Ok(())
+    }
 
     fn sync(&mut self) -> Result<(), SinkFault> {
         match self.writer.sync() {
@@ -43,7 +63,13 @@ impl<R: Files<File = File>, L: Ledger> Durable for Disk<'_, Roll<Directory<'_, R
 impl<L: Ledger> Durable for Disk<'_, File, L> {
     ghost use Rattle.std.specs.Prelude.{None};
 
+    ghost flushed = { λ _. None };
+
     ghost on_disk = { λ _. None };
+
+    fn flush(&mut self) -> Result<(), SinkFault> {
+        Ok(())
+    }
 
     fn sync(&mut self) -> Result<(), SinkFault> {
         match self.writer.sync_data() {

@@ -7,7 +7,10 @@ use std::io::ErrorKind;
 use std::{fmt, io};
 use thiserror::Error;
 
-/// Why a call of the system failed.
+/// What is told of a file that somebody else changed: no call of the system fails so.
+const CHANGED: &str = "it is not as it was written: somebody else changed or moved it";
+
+/// Why a call of the system failed, or was not made.
 #[derive(Clone, Copy, Debug, PartialEq, Eq)]
 pub struct Cause {
     code: Option<i32>,
@@ -27,6 +30,7 @@ impl Display for Cause {
     fn fmt<W: fmt::Write>(&self, f: &mut Formatter<W>) -> fmt::Result {
         match self.code {
             Some(code) => Display::fmt(&io::Error::from_raw_os_error(code), f),
+            None if self.kind == ErrorKind::InvalidData => f.write_str(CHANGED),
             None => Display::fmt(&self.kind, f),
         }
     }

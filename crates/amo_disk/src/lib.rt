@@ -6,7 +6,7 @@
 //!
 //! - A [`Roll`] is the writer that does so. What it was written is what it was handed: nobody above sees that there are pieces.
 //! - A [`Folder`] has the pieces. [`Directory`] is one of files, and [`Shelf`] one in memory.
-//! - A [`Disk`] is a sink over a roll, or any other writer, and keeps why a call failed.
+//! - A [`Disk`] is a sink over a roll, or any other writer, and keeps why a call failed. [`Gathered`] hands on together what it was handed one by one.
 //! - [`open`] opens a journal at its end, and tells the number of the next line. It costs the same behind ten lines and behind a million.
 //! - [`laws`]: read as one, the pieces are the text that was written.
 //! - [`read_tail`] reads lines at the end of a journal, and [`Ending`] tells what that of a file says.
@@ -27,6 +27,7 @@ mod durable;
 mod ending;
 mod fault;
 mod folder;
+mod gathered;
 mod hold;
 pub mod laws;
 mod names;
@@ -44,6 +45,7 @@ pub use durable::Durable;
 pub use ending::Ending;
 pub use fault::{Cause, OpenFault};
 pub use folder::Folder;
+pub use gathered::Gathered;
 pub use opening::{Opened, Wanted, open};
 pub use roll::Roll;
 pub use shelf::Shelf;

@@ -1,11 +1,11 @@
 //! Opens a journal at its end.
-ghost use Rattle.std.specs.Prelude.{◌≡◌, ◌<◌, ◌≤◌, length, IfOk};
+ghost use Rattle.std.specs.Prelude.{◌≡◌, ◌<◌, ◌≤◌, [], length, IfOk};
 
 use crate::beginning::{agree, begins_heading, begins_journal};
 use crate::hold::{Held, hold};
 use crate::names::sync_names;
 use crate::tail::LONGEST_LINE;
-use crate::{Cause, Directory, Disk, Ending, OpenFault, Roll, Start};
+use crate::{Cause, Directory, Disk, Ending, Gathered, OpenFault, Roll, Start};
 use amo_journal::Version;
 use amo_object::End;
 use std::alloc::{AllocError, Global};
@@ -42,8 +42,8 @@ pub struct Wanted {
 /// A journal that was opened.
 #[derive(Drop)]
 pub struct Opened<'a, 'r, R: Files<File = File>, L: Ledger> {
-    /// Its pieces.
-    pub disk: Disk<'a, Roll<Directory<'r, R>>, L>,
+    /// Its pieces. What they are handed is gathered in front of them.
+    pub disk: Gathered<Disk<'a, Roll<Directory<'r, R>>, L>>,
     /// Where it goes on.
     pub start: Start,
     /// How many zeros stood at its end, as a loss of power leaves them. They were cut off.
@@ -66,7 +66,7 @@ pub fn open<'a, 'r, R: Files<File = File>, L: Ledger>(
     requires parts { blank.parts ≡ L.parts }
     requires some { 0 < L.parts }
     requires piece { 6 < wanted.now.piece }
-    ensures calm { IfOk result (λ opened. opened.disk.failures ≡ 0) }
+    ensures calm { IfOk result (λ opened. (opened.disk.sink.failures ≡ 0) × (opened.disk.waiting ≡ [])) }
 {
     let name = String::from_str(alloc, path)?;
     let held = hold(rt, alloc, path)?;
@@ -91,10 +91,10 @@ pub fn open<'a, 'r, R: Files<File = File>, L: Ledger>(
         highest,
         ..
     } = held;
-    let directory = Directory::new(rt, alloc, name, highest, newest);
+    let directory = Directory::new(rt, alloc, name, highest, newest, length)?;
     let roll = Roll::new(directory, version, wanted.piece, wanted.sync, length);
     Ok(Opened {
-        disk: Disk::new(roll, cause, blank),
+        disk: Gathered::new(alloc, Disk::new(roll, cause, blank)),
         start,
         zeros,
     })

@@ -1,16 +1,20 @@
 -- A host comes back: side after side crashes and is up again.
-use Rattle.std.proofs.Common.{◌≡◌, ℕ, zero, suc, ◌+◌, List, [], ◌∷◌, ◌++◌, ◌<◌, Some, length, slice_get, take, refl, sym, ap, subst, ◌∙◌, arith}
+use Rattle.std.proofs.Common.{◌≡◌, ℕ, zero, suc, ◌+◌, ◌-◌, List, [], ◌∷◌, ◌++◌, ◌<◌, ◌≤◌, Bool, true, false, nat_le, if◌then◌else◌, Some, length, reverse, slice_get, take, refl, sym, ap, subst, ◌∙◌, append_assoc, append-nil, arith}
+use Rattle.std.proofs.lemmas.Bool.{leb-true}
+use Rattle.std.proofs.lemmas.List.{reverse-append}
 use Rattle.std.proofs.lemmas.Option.{same_Some}
 use Rattle.amo_object.specs.declared.step.End.{End}
 use Rattle.amo_core.specs.declared.act.Act.TheVariants as act
 use Rattle.amo_world.specs.declared.event.Event.{Event}
 use Rattle.amo_world.specs.History.{events_of}
 use Rattle.amo_book.specs.Pass.{PassState, mine}
+use Rattle.amo_disk.specs.Back.{returned}
 use Rattle.amo_host.specs.Station.{BelongTogether, IsStation, Station}
 use Rattle.amo_live.specs.declared.given_word.GivenWord.{GivenWord}
 use Rattle.amo_live.specs.Emitted.{OutboxState, AreEmitted}
 use Rattle.amo_live.specs.Host.{HostState, IsHost, IsOpened, Stays, comes_back, done, first_events, sides_from}
 use Rattle.amo_live.specs.Noted.{JournalState}
+use Rattle.amo_live.specs.Standing.{BeganSo, standing_behind}
 use Rattle.amo_live.specs.Words.{words_in}
 use Rattle.amo_live.proofs.Onwards.{same_on}
 
@@ -102,6 +106,50 @@ pub first_back : {L S : Type 0} (h g : HostState L S) (side : End) (streams : �
 first_back h g side streams link journal lines opened stays some back =
     let none = none_made h side streams link journal opened in
     back ∙ (ap (λ l. comes_back h.pass.number h.book.sides l) none ∙ (ap (λ l. comes_back h.pass.number l []) opened.sides ∙ (ap (λ (n : ℕ). comes_back n (sides_from side 1 streams) []) (sym stays.number) ∙ sym (any_back g.pass.number (sides_from side 1 streams) lines some))))
+
+-- sides that come back do so behind whatever was before
+over_past : (pass : ℕ) (sides : List (End × ℕ)) (past : List Event) → comes_back pass sides past ≡ comes_back pass sides [] ++ past
+over_past pass [] past = refl
+over_past pass ((side, stream) ∷ sides) past =
+    let up = done pass side stream act.Recover in let down = done pass side stream act.Crash in
+    over_past pass sides (up ∷ down ∷ past) ∙ (sym (append_assoc (comes_back pass sides []) (up ∷ down ∷ []) past) ∙ ap (λ l. l ++ past) (sym (over_past pass sides (up ∷ down ∷ []))))
+
+-- first some sides come back, then others
+in_two : (pass : ℕ) (xs ys : List (End × ℕ)) (past : List Event) → comes_back pass (xs ++ ys) past ≡ comes_back pass ys (comes_back pass xs past)
+in_two pass [] ys past = refl
+in_two pass ((side, stream) ∷ xs) ys past = in_two pass xs ys (done pass side stream act.Recover ∷ done pass side stream act.Crash ∷ past)
+
+sides_parted : (side : End) (k n m : ℕ) → sides_from side k (n + m) ≡ sides_from side k n ++ sides_from side (k + n) m
+sides_parted side k zero m = ap (λ (i : ℕ). sides_from side k i) (let is : 0 + m ≡ m = omega arith in is) ∙ ap (λ (i : ℕ). sides_from side i m) (let is : k ≡ k + 0 = omega arith in is)
+sides_parted side k (suc n) m =
+    ap (λ (i : ℕ). sides_from side k i) (let is : suc n + m ≡ suc (n + m) = omega arith in is)
+    ∙ ap (λ l. (side, k) ∷ l) (sides_parted side (suc k) n m ∙ ap (λ (i : ℕ). sides_from side (suc k) n ++ sides_from side i m) (let is : suc k + n ≡ k + suc n = omega arith in is))
+
+-- the events by which the first of the streams came back, oldest first
+returned_reversed : (side : End) (n : ℕ) → comes_back 1 (sides_from side 1 n) [] ≡ reverse (returned side n)
+returned_reversed side zero = refl
+returned_reversed side (suc n) =
+    let up = done 1 side (suc n) act.Recover in let down = done 1 side (suc n) act.Crash in
+    let one_more : sides_from side 1 (suc n) ≡ sides_from side 1 n ++ (side, suc n) ∷ [] = ap (λ (i : ℕ). sides_from side 1 i) (let is : suc n ≡ n + 1 = omega arith in is) ∙ (sides_parted side 1 n 1 ∙ ap (λ (i : ℕ). sides_from side 1 n ++ (side, i) ∷ []) (let is : 1 + n ≡ suc n = omega arith in is)) in
+    ap (λ l. comes_back 1 l []) one_more ∙ (last_back 1 (sides_from side 1 n) side (suc n) [] ∙ (ap (λ l. up ∷ down ∷ l) (returned_reversed side n) ∙ sym (reverse-append (returned side n) (down ∷ up ∷ []))))
+
+-- of the streams that come back the first did so first
+pub back_began : (side : End) (n streams : ℕ) → n ≤ streams → BeganSo (returned side n) (comes_back 1 (sides_from side 1 streams) [])
+back_began side n streams few =
+    let others = sides_from side (1 + n) (streams - n) in
+    let parted : sides_from side 1 streams ≡ sides_from side 1 n ++ others = ap (λ (i : ℕ). sides_from side 1 i) (let is : streams ≡ n + (streams - n) = omega (arith, few) in is) ∙ sides_parted side 1 n (streams - n) in
+    (comes_back 1 others [], ap (λ l. comes_back 1 l []) parted ∙ (in_two 1 (sides_from side 1 n) others [] ∙ (over_past 1 others (comes_back 1 (sides_from side 1 n) []) ∙ ap (λ l. comes_back 1 others [] ++ l) (returned_reversed side n))))
+
+few_or_none : (a b : ℕ) (test : Bool) → (test ≡ true → a ≤ b) → (if test then a else 0) ≤ b
+few_or_none a b true few = few refl
+few_or_none a b false few = omega arith
+
+-- a host that came back behind so many lines began with what stands
+pub began_standing : (pass : ℕ) (side : End) (streams lines back : ℕ) (history : List Event) → pass ≡ 1 → history ≡ first_events pass (sides_from side 1 streams) lines → BeganSo (returned side (standing_behind lines back streams)) history
+began_standing pass side streams zero back history one is = (history, sym (append-nil history))
+began_standing pass side streams (suc lines) back history one is =
+    let began = back_began side (if nat_le back streams then back else 0) streams (few_or_none back streams (nat_le back streams) (leb-true back streams)) in
+    (began.0, is ∙ (ap (λ (p : ℕ). comes_back p (sides_from side 1 streams) []) one ∙ began.1))
 
 -- events by which sides come back bear no word
 back_bears_none : (pass : ℕ) (sides : List (End × ℕ)) (past : List Event) → words_in (comes_back pass sides past) ≡ words_in past

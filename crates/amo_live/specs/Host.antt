@@ -154,6 +154,7 @@ pub record IsOpened {L S : Type 0} (side : End) (streams : ℕ) (link : L) (jour
   pub limit : h.pump.host.limit ≡ min streams 64
   pub sides : h.book.sides ≡ sides_from side 1 streams
   pub seen : h.pass.seen ≡ []
+  pub number : h.pass.number ≡ 1
   pub link_is : h.link ≡ link
   pub outbox : h.outbox.leaving ≡ []
   pub journal_is : h.journal ≡ journal

@@ -11,4 +11,5 @@ pub mod Notices
 pub mod Plans
 pub mod Service
 pub mod Shown
+pub mod Standing
 pub mod Words

@@ -1,15 +1,19 @@
 //! How a host is asked to come to its end.
 use crate::{Cause, Ended};
 use std::alloc::{AllocError, Global};
-use std::fs;
+use std::fs::{self, Permissions};
 use std::io::{self, ErrorKind, Write};
 use std::net::Net;
 use std::os::fd::AsRawFd;
+use std::os::unix::fs::PermissionsExt;
 use std::os::unix::net::{UnixListener, UnixStream};
 use std::rt::Files;
 
 /// How many who ask are answered. The others see that the host is gone.
 const MOST_ASKERS: usize = 16;
+
+/// Its owner alone may ask.
+const MODE: u32 = 0o600;
 
 /// The number of what is not waited for.
 const NOTHING: i32 = -1;
@@ -94,6 +98,7 @@ fn listening<R: Files + Net>(rt: &R, path: &str) -> io::Result<UnixListener> {
         }
         bound => bound?,
     };
+    fs::set_permissions(rt, path, Permissions::from_mode(MODE))?;
     listener.set_nonblocking(true)?;
     Ok(listener)
 }

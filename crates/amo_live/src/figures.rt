@@ -55,6 +55,8 @@ pub struct Figures {
     pub dropped: Dropped,
     /// The number of the journal's next line.
     pub line: u64,
+    /// Bytes of lines that the journal got.
+    pub bytes: u64,
 }
 
 /// How long handshakes took. Times are kept as spans, each a fourth of a power of two.

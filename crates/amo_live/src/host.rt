@@ -1,5 +1,5 @@
 //! A live host: how it opens, hears and sends.
-ghost use Rattle.std.specs.Prelude.{◌≡◌, ◌+◌, ◌<◌, ◌≤◌, [], IfOk, IfSome, IsTrue, ◌↔◌, OnOk, OnErr, length, min};
+ghost use Rattle.std.specs.Prelude.{◌≡◌, ◌+◌, ◌<◌, ◌≤◌, [], IfOk, IfSome, IsTrue, ◌↔◌, OnOk, OnErr, length, min, true};
 ghost use Rattle.amo_packet.specs.Packet.{body_of, packet_of};
 ghost use Rattle.amo_packet.specs.Grammar.{CanBeWritten, Spells};
 ghost use Rattle.amo_packet.specs.Stream.{IsStream};
@@ -8,7 +8,7 @@ ghost use Rattle.amo_book.specs.Book.{Each};
 ghost use Rattle.amo_host.specs.AtStream.{AreCalm, HasMode, IsDue, IsNextDue};
 ghost use Rattle.amo_live.specs.Emitted.{WasEmitted};
 ghost use Rattle.amo_live.specs.Host.{IsNoted, IsOpened, sides_from};
-ghost use Rattle.amo_live.specs.Noted.{Holds};
+ghost use Rattle.amo_live.specs.Noted.{Holds, IsSameJournal};
 
 use crate::outbox::Outbox;
 use crate::{Durable, GivenWord, Journal, LiveFault, Traffic};
@@ -126,20 +126,6 @@ impl<L: Link, S: Sink> Host<L, S> {
         }
     }
 
-    /// Hands all packets that are to leave to the link, in their order, and answers how often it failed. Of all that the host did by then
-    /// the journal has the lines: so each of these packets is one that an event emitted whose line is there.
-    pub fn send(&mut self) -> u64
-        requires { IsNoted S.written self.old }
-        ensures emitted { Each (WasEmitted self.old.pass) self.old.outbox.leaving }
-        ensures sent { self.new ≡ record self.old { link = self.new.link; outbox = record self.old.outbox { leaving = [] } } }
-    {
-        let leaving = self.outbox.leaving() as u64;
-        let failed = self.outbox.send(&mut self.link);
-        self.traffic.sent = self.traffic.sent.saturating_add(leaving);
-        self.traffic.faults = self.traffic.faults.saturating_add(failed);
-        failed
-    }
-
     /// What went through its link.
     pub fn traffic(&self) -> Traffic {
         self.traffic
@@ -150,6 +136,11 @@ impl<L: Link, S: Sink> Host<L, S> {
         ensures { result ≡ self.now.journal.version }
     {
         self.journal.version()
+    }
+
+    /// How many bytes of lines its journal was handed.
+    pub fn journal_bytes(&self) -> u64 {
+        self.journal.bytes()
     }
 
     /// The number of the journal's next line.
@@ -211,16 +202,37 @@ impl<L: Link, S: Sink> Host<L, S> {
 }
 
 impl<L: Link, S: Durable> Host<L, S> {
-    /// Puts the journal on its disk. It fails where the journal's sink does, and only there.
-    pub fn sync(&mut self) -> Result<(), LiveFault>
+    /// Hands the journal's lines to the system, and with `sync` puts them on the disk. It fails where the journal's sink does, and only there.
+    pub fn write_down(&mut self, sync: bool) -> Result<(), LiveFault>
         requires { IsNoted S.written self.old }
-        ensures on_disk { OnOk result (S.on_disk self.new.journal.sink ≡ S.written self.new.journal.sink) }
+        ensures flushed { OnOk result (S.flushed self.new.journal.sink ≡ S.written self.new.journal.sink) }
+        ensures on_disk { OnOk result (sync ≡ true → S.on_disk self.new.journal.sink ≡ S.written self.new.journal.sink) }
         ensures calm { OnOk result (S.failures self.new.journal.sink ≡ S.failures self.old.journal.sink) }
         ensures failed { OnErr result (S.failures self.new.journal.sink ≡ S.failures self.old.journal.sink + 1) }
         ensures noted { IsNoted S.written self.new }
+        ensures journal { IsSameJournal self.old.journal self.new.journal }
         ensures same { self.new ≡ record self.old { journal = self.new.journal } }
     {
-        self.journal.sync()
+        if sync {
+            self.journal.sync()
+        } else {
+            self.journal.flush()
+        }
+    }
+
+    /// Hands all packets that are to leave to the link, in their order, and answers how often it failed. Of all that the host did by then
+    /// the system has the lines: so each of these packets is one that an event emitted whose line is there, also where this process dies now.
+    pub fn send(&mut self) -> u64
+        requires noted { IsNoted S.written self.old }
+        requires flushed { S.flushed self.old.journal.sink ≡ S.written self.old.journal.sink }
+        ensures emitted { Each (WasEmitted self.old.pass) self.old.outbox.leaving }
+        ensures sent { self.new ≡ record self.old { link = self.new.link; outbox = record self.old.outbox { leaving = [] } } }
+    {
+        let leaving = self.outbox.leaving() as u64;
+        let failed = self.outbox.send(&mut self.link);
+        self.traffic.sent = self.traffic.sent.saturating_add(leaving);
+        self.traffic.faults = self.traffic.faults.saturating_add(failed);
+        failed
     }
 }
 

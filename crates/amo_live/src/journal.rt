@@ -12,8 +12,8 @@ use std::alloc::Global;
 use std::marker::Model;
 use std::snapshot::Snapshot;
 
-/// A journal that goes on. Contracts see its version, its sink and the number of its next line; and of when it was opened its sink, the number
-/// of the first line to come, and what was to stand in front of that.
+/// A journal that goes on. Contracts see its version, its sink, the number of its next line, and of how many of the next events the lines stand; and of
+/// when it was opened its sink, the number of the first line to come, what was to stand in front of that, and of how many events the lines stood.
 #[derive(Drop)]
 pub struct Journal<S> {
     version: Version,
@@ -21,9 +21,14 @@ pub struct Journal<S> {
     // A line is made whole here before it is written.
     room: Vec<u8>,
     next: u64,
+    /// Of how many of the next events the lines stand.
+    left: u64,
+    /// How many bytes of lines it was handed.
+    bytes: u64,
     opened: Snapshot<S>,
     first: Snapshot<u64>,
     is_new: Snapshot<bool>,
+    standing: Snapshot<u64>,
 }
 
 impl<S> Model for Journal<S> {
@@ -31,7 +36,7 @@ impl<S> Model for Journal<S> {
 
     ghost Value = { JournalState S };
 
-    ghost view = { λ j. record { version = j.version; sink = j.sink; next = j.next; opened = j.opened.value; first = j.first.value; front = front_of j.is_new.value j.version } };
+    ghost view = { λ j. record { version = j.version; sink = j.sink; next = j.next; left = j.left; opened = j.opened.value; first = j.first.value; front = front_of j.is_new.value j.version; standing = j.standing.value } };
 }
 
 impl<S: Sink + Drop> Journal<S> {
@@ -45,6 +50,7 @@ impl<S: Sink + Drop> Journal<S> {
         let opened = Snapshot::of(&sink);
         let first = Snapshot::of(&0);
         let is_new = Snapshot::of(&true);
+        let standing = Snapshot::of(&0);
         let mut sink = sink;
         let Ok(()) = write_all(&mut sink, version.heading()) else {
             return Err(LiveFault::Journal);
@@ -54,29 +60,38 @@ impl<S: Sink + Drop> Journal<S> {
             sink,
             room: Vec::new(alloc),
             next: 0,
+            left: 0,
+            bytes: 0,
             opened,
             first,
             is_new,
+            standing,
         })
     }
 }
 
 impl<S: Sink> Journal<S> {
-    /// A journal that goes on in this sink, in its version and behind so many lines.
-    pub fn go_on(alloc: Global, sink: S, version: Version, lines: u64) -> Journal<S>
-        ensures { result ≡ going_on version sink lines }
+    /// A journal that goes on in this sink, in its version and behind so many lines. The last of these are the lines of so many of its first events,
+    /// in their order: what a host does first when it comes back, and the host before it did last.
+    pub fn go_on(alloc: Global, sink: S, version: Version, lines: u64, standing: u64) -> Journal<S>
+        ensures { result ≡ going_on version sink lines standing }
     {
+        let left = standing;
         let opened = Snapshot::of(&sink);
         let first = Snapshot::of(&lines);
         let is_new = Snapshot::of(&false);
+        let standing = Snapshot::of(&standing);
         Journal {
             version,
             sink,
             room: Vec::new(alloc),
             next: lines,
+            left,
+            bytes: 0,
             opened,
             first,
             is_new,
+            standing,
         }
     }
 
@@ -94,7 +109,12 @@ impl<S: Sink> Journal<S> {
         self.next
     }
 
-    /// Writes the line of this event, whole, with the next number.
+    /// How many bytes of lines it was handed since it was opened.
+    pub fn bytes(&self) -> u64 {
+        self.bytes
+    }
+
+    /// Writes the line of this event, whole, with the next number; unless it stands already.
     ///
     /// Where that fails a beginning of the line was written, and the journal can only be opened again. It is full where no number is left, and its
     /// device failed where a call of the sink did.
@@ -108,6 +128,10 @@ impl<S: Sink> Journal<S> {
         if self.next == u64::MAX {
             return Err(LiveFault::Full);
         }
+        if self.left > 0 {
+            self.left -= 1;
+            return Ok(());
+        }
         write_line(
             &mut self.room,
             self.version,
@@ -116,14 +140,31 @@ impl<S: Sink> Journal<S> {
             &mut self.sink,
         )?;
         self.next += 1;
+        self.bytes = self.bytes.saturating_add(self.room.len() as u64);
         Ok(())
     }
 }
 
 impl<S: Durable> Journal<S> {
+    /// Hands all lines to the system. It fails where the sink does, and only there.
+    #[tactic(auto, using(crate::proofs::Onwards::holds_kept))]
+    pub fn flush(&mut self) -> Result<(), LiveFault>
+        ensures flushed { OnOk result (S.flushed self.new.sink ≡ S.written self.new.sink) }
+        ensures calm { OnOk result (S.failures self.new.sink ≡ S.failures self.old.sink) }
+        ensures failed { OnErr result (S.failures self.new.sink ≡ S.failures self.old.sink + 1) }
+        ensures same { IsSameJournal self.old self.new }
+        ensures holds { (history : List Event) → Holds S.written self.old history → Holds S.written self.new history }
+    {
+        match self.sink.flush() {
+            Ok(()) => Ok(()),
+            Err(_) => Err(LiveFault::Journal),
+        }
+    }
+
     /// Puts all lines on the disk. It fails where the sink does, and only there.
     #[tactic(auto, using(crate::proofs::Onwards::holds_kept))]
     pub fn sync(&mut self) -> Result<(), LiveFault>
+        ensures flushed { OnOk result (S.flushed self.new.sink ≡ S.written self.new.sink) }
         ensures on_disk { OnOk result (S.on_disk self.new.sink ≡ S.written self.new.sink) }
         ensures calm { OnOk result (S.failures self.new.sink ≡ S.failures self.old.sink) }
         ensures failed { OnErr result (S.failures self.new.sink ≡ S.failures self.old.sink + 1) }

@@ -1,9 +1,11 @@
 //! A whole process, from the start of its host to its end.
-ghost use Rattle.std.specs.Prelude.{◌≡◌, ◌≤◌, [], IfOk};
+ghost use Rattle.std.specs.Prelude.{◌≡◌, ◌*◌, ◌≤◌, [], IfOk};
 ghost use Rattle.amo_book.specs.Pass.{mine};
+ghost use Rattle.amo_disk.specs.Back.{returned};
 ghost use Rattle.amo_live.specs.Host.{IsNoted, first_events, sides_from};
 ghost use Rattle.amo_live.specs.Noted.{Holds, IsSameJournal, opening};
 ghost use Rattle.amo_live.specs.Service.{new_version, streams_of, words_of};
+ghost use Rattle.amo_live.specs.Standing.{BeganSo, standing_of};
 ghost use Rattle.amo_live.specs.Words.{words_in};
 
 use crate::{
@@ -51,6 +53,7 @@ pub fn run_process<
         reader_number: reader.as_raw_fd(),
         reader,
         output_number: output.as_raw_fd(),
+        takes_more: false,
         output,
         socket_number: number,
         input: Input::new(alloc)?,
@@ -110,7 +113,9 @@ pub fn start<L: Link + Drop, S: Durable + Drop, W: Lineage + Drop>(
     // The journal has all lines so far. It goes on in its version where it was read to the end, or begins with its heading. What it was handed
     // first tells of a crash of each side and its recovery, where it has a line of an event, and else of nothing.
     ensures noted { IfOk result (λ service. IsNoted S.written service.host) }
-    ensures journal { IfOk result (λ service. IsSameJournal (opening (new_version setup) place.version place.lines sink) service.host.journal) }
+    ensures journal { IfOk result (λ service. IsSameJournal (opening (new_version setup) place.version place.lines (2 * standing_of place setup.streams) sink) service.host.journal) }
+    // The first of these events have lines already, where the last lines are those by which the host before it came back.
+    ensures standing { IfOk result (λ service. BeganSo (returned setup.side (standing_of place setup.streams)) (mine service.host.pass)) }
     // It has the streams that it was set up for. No word was drawn, and no event of the host bears one.
     ensures streams { IfOk result (λ service. streams_of service ≡ setup.streams) }
     ensures words { IfOk result (λ service. words_of service ≡ words) }
@@ -118,28 +123,47 @@ pub fn start<L: Link + Drop, S: Durable + Drop, W: Lineage + Drop>(
     ensures back { IfOk result (λ service. mine service.host.pass ≡ first_events service.host.pass.number (sides_from setup.side 1 setup.streams) place.lines) }
 {
     let lines = place.lines;
-    let journal = open_journal(alloc, sink, place.version, lines, setup.new_version())?;
+    let standing = standing(&place, setup.streams);
+    let version = setup.new_version();
+    let journal = open_journal(alloc, sink, place.version, lines, standing, version)?;
     let mut host = Host::open(alloc, setup.side, setup.streams, setup.pace, link, journal)?;
     if lines > 0 {
         host.come_back()?;
     }
+    host.write_down(false)?;
     Ok(Service::new(alloc, host, words, setup)?)
 }
 
-/// The journal in a sink that was read: it goes on in the version that its lines tell, behind so many. Where none tells it, it is new, and begins
-/// in this version.
+/// How many of a host's streams came back by the last lines of its journal, in this place. Their lines stand: a host that is started again and again adds
+/// nothing to its journal.
+fn standing(place: &Start, streams: u32) -> u32
+    ensures { result ≡ standing_of place.now streams }
+{
+    if place.lines > 0 && place.back <= streams {
+        place.back
+    } else {
+        0
+    }
+}
+
+/// The journal in a sink that was read: it goes on in the version that its lines tell, behind so many, by the last of which so many streams came
+/// back. Where none tells it, it is new, and begins in this version.
 fn open_journal<S: Sink + Drop>(
     alloc: Global,
     sink: S,
     known: Option<Version>,
     lines: u64,
+    standing: u32,
     version: Version,
 ) -> Result<Journal<S>, LiveFault>
-    ensures opened { IfOk result (IsSameJournal (opening version known lines sink)) }
+    ensures opened { IfOk result (IsSameJournal (opening version known lines (2 * standing) sink)) }
     ensures headed { IfOk result (λ journal. Holds S.written journal []) }
 {
     match known {
-        Some(known) => Ok(Journal::go_on(alloc, sink, known, lines)),
+        Some(known) => {
+            let events = 2 * u64::from(standing);
+            Ok(Journal::go_on(alloc, sink, known, lines, events))
+        }
         None => Journal::begin(alloc, sink, version),
     }
 }

@@ -79,13 +79,14 @@ fn tell_figures<C: Eprint, L: Link, S: Sink, W: Lineage>(
         traffic,
         dropped,
         line,
+        bytes,
     } = service.figures();
     let times = service.times();
     let half = times.within(500).unwrap_or(0);
     let most = times.within(990).unwrap_or(0);
     let seconds = now / SECOND;
     let _ = eprintln!(rt;
-        "amo: stats: seconds={seconds} put={put} got={got} yes={yes} no={no} waiting={waiting} held={held} open={open} handshakes={ended} p50_us={half} p99_us={most} sent={} again={} received={} unread={} foreign={} idle={} faults={} line={line}",
+        "amo: stats: seconds={seconds} put={put} got={got} yes={yes} no={no} waiting={waiting} held={held} open={open} handshakes={ended} p50_us={half} p99_us={most} sent={} again={} received={} unread={} foreign={} idle={} faults={} line={line} bytes={bytes}",
         traffic.sent,
         traffic.again,
         traffic.received,

@@ -59,6 +59,8 @@ pub struct Desk<I, O> {
     pub output: O,
     /// The number by which the system tells that nobody reads them any more.
     pub output_number: i32,
+    /// The system told that the output takes more, and nothing was shown since.
+    pub takes_more: bool,
     /// The number by which the system waits for the host's socket.
     pub socket_number: i32,
     /// The lines that have come.
@@ -167,13 +169,12 @@ fn turn<C: Clock + Eprint, L: Link, S: Durable, W: Lineage, I: Read, O: Write>(
 {
     desk.wait(rt, limit, service.has_unread())?;
     let now = microseconds(rt, start)?;
-    service.hear(now, desk.room(), desk.bell.was_rung())?;
+    let room = desk.room();
+    service.hear(now, room, desk.bell.was_rung())?;
     service.resend(now)?;
     // After the datagrams: what they made room for is put before the host waits again.
     take_lines(rt, service, desk, now)?;
-    if sync {
-        service.host.sync()?;
-    }
+    service.host.write_down(sync)?;
     desk.show(service.shown())?;
     service.clear_shown();
     service.host.send();
@@ -474,13 +475,12 @@ impl<I: Read, O: Write> Desk<I, O> {
         }
     }
 
-    /// How many bytes of messages can be shown now without a wait.
-    fn room(&self) -> usize {
-        if self.puts || takes_more(self.output_number) {
-            ROOM
-        } else {
-            0
-        }
+    /// How many bytes of messages can be shown now without a wait. The system is asked only where something was shown since it was asked last.
+    fn room(&mut self) -> usize
+        ensures { self.new ≡ record self.old { takes_more = self.new.takes_more } }
+    {
+        self.takes_more = self.takes_more || self.puts || takes_more(self.output_number);
+        if self.takes_more { ROOM } else { 0 }
     }
 
     /// How a host ended that ended so, by its last line too.
@@ -508,12 +508,13 @@ impl<I: Read, O: Write> Desk<I, O> {
 
     /// Shows these lines to the clients.
     fn show(&mut self, shown: &[u8]) -> Result<(), ServeFault>
-        ensures same { self.new ≡ record self.old { output = self.new.output } }
+        ensures same { self.new ≡ record self.old { output = self.new.output; takes_more = self.new.takes_more } }
         ensures shown { OnOk result (Appends (O.contents self.old.output) (O.contents self.new.output) shown.now) }
     {
         if shown.is_empty() {
             return Ok(());
         }
+        self.takes_more = false;
         match self.output.write_all(shown) {
             Ok(()) => (),
             Err(error) => return Err(ServeFault::output(&error)),

@@ -65,15 +65,15 @@ fn turn<L: Link, S: Durable, W: Lineage>(
     door.hear(now)?;
     responder.serve_waiters(door, now)?;
     responder.ask_clients(door, now)?;
-    responder.put_on_disk(sync)?;
+    responder.write_down(sync)?;
     hand_out(responder, door, sync, now);
     responder.leave();
     door.flush(now);
     Ok(())
 }
 
-/// Hands each client what its request is answered, and tells those who follow what happened. Of all that the host did by then the journal has the
-/// lines, and has them on its disk where that is asked for: so each answer tells of events whose lines are there.
+/// Hands each client what its request is answered, and tells those who follow what happened. Of all that the host did by then the system has the
+/// journal's lines, and has them on the disk where that is asked for: so each answer tells of events whose lines are there.
 fn hand_out<L: Link, S: Durable, W: Lineage>(
     responder: &Responder<L, S, W>,
     door: &mut Door,
@@ -81,6 +81,7 @@ fn hand_out<L: Link, S: Durable, W: Lineage>(
     now: u64,
 )
     requires noted { IsNoted S.written responder.now.service.host }
+    requires flushed { S.flushed responder.now.service.host.journal.sink ≡ S.written responder.now.service.host.journal.sink }
     requires on_disk { sync ≡ true → S.on_disk responder.now.service.host.journal.sink ≡ S.written responder.now.service.host.journal.sink }
 {
     let _ = sync;
@@ -162,24 +163,23 @@ impl<L: Link, S: Durable, W: Lineage> Responder<L, S, W> {
         Ok(())
     }
 
-    /// Puts the journal on its disk, where that is asked for.
-    fn put_on_disk(&mut self, sync: bool) -> Result<(), LiveFault>
+    /// Hands the journal's lines to the system, and puts them on the disk where that is asked for.
+    fn write_down(&mut self, sync: bool) -> Result<(), LiveFault>
         requires { IsNoted S.written self.old.service.host }
         ensures noted { OnOk result (IsNoted S.written self.new.service.host) }
+        ensures flushed { OnOk result (S.flushed self.new.service.host.journal.sink ≡ S.written self.new.service.host.journal.sink) }
         ensures on_disk { OnOk result (sync ≡ true → S.on_disk self.new.service.host.journal.sink ≡ S.written self.new.service.host.journal.sink) }
         ensures pass { OnOk result (self.new.service.host.pass ≡ self.old.service.host.pass) }
         ensures numbers { self.new.numbers ≡ self.old.numbers }
         ensures words { words_of self.new.service ≡ words_of self.old.service }
     {
-        if sync {
-            self.service.host.sync()?;
-        }
-        Ok(())
+        self.service.host.write_down(sync)
     }
 
     /// What is to leave leaves: packets to the link. What was to be shown is not: callers are answered.
     fn leave(&mut self)
-        requires { IsNoted S.written self.old.service.host }
+        requires noted { IsNoted S.written self.old.service.host }
+        requires flushed { S.flushed self.old.service.host.journal.sink ≡ S.written self.old.service.host.journal.sink }
         ensures noted { IsNoted S.written self.new.service.host }
         ensures pass { self.new.service.host.pass ≡ self.old.service.host.pass }
         ensures numbers { self.new.numbers ≡ self.old.numbers }

@@ -180,6 +180,7 @@ impl<L: Link, S: Sink, W: Lineage> Service<L, S, W> {
             traffic: self.host.traffic(),
             dropped: self.dropped,
             line: self.host.next_line(),
+            bytes: self.host.journal_bytes(),
         }
     }
 }

@@ -1,32 +1,33 @@
-use Rattle.std.proofs.Common.{◌≡◌, ◌∙◌, [], refl, rules}
+use Rattle.std.proofs.Common.{◌≡◌, ◌∙◌, [], refl, rules, sym, ap, subst}
 use Rattle.std.specs.Io.KnownBytes.{Appends}
-use Rattle.amo_live.specs.Client.{moment}
+use Rattle.amo_live.specs.Client.{Waits, moment}
+use Rattle.amo_live.specs.Host.{HostState}
 use Rattle.amo_live.specs.Service.{shown_by, spelling_of, streams_of, words_of}
 use Rattle.amo_live.proofs.Fresh.{bears_as, bears_on}
 use Rattle.amo_live.proofs.Showing.{shown_whole, shows_after}
 use Rattle.amo_live.proofs.Conserving.{serves_as, turn_over}
 use Rattle.amo_live.proofs.turns.turn.Goals as goal
-use Rattle.amo_live.proofs.turns.turn.Goals.{then-sync+in_ok-sync, else-sync}
 
 pub returns-clause-serves : goal.returns-clause-serves
 returns-clause-serves g c =
     let waits = c.in_ok-wait.ensures.waits in
-    let synced : c.if-sync.service.host.pass ≡ c.take_lines.new.service.host.pass = elim c.if-sync.branch [ then-sync+in_ok-sync w ↦ search rules | else-sync w ↦ search rules ] in
-    let cleared : c.send.new.self.pass ≡ c.if-sync.service.host.pass = search rules in
-    let spelling : c.wait.new.self.spelling ≡ c.args.desk.now.spelling = search rules in
-    let puts : c.wait.new.self.puts ≡ c.args.desk.now.puts = search rules in
-    let kept : c.wait.new.self.kept ≡ c.args.desk.now.kept = search rules in
+    let synced : c.write_down.new.self.pass ≡ c.take_lines.new.service.host.pass = ap (λ (t : HostState g.row.L.Denot g.row.S.Denot). t.pass) c.in_ok-write_down.ensures.same in
+    let cleared : c.send.new.self.pass ≡ c.write_down.new.self.pass = search rules in
+    let spelling : c.room-room.new.self.spelling ≡ c.args.desk.now.spelling = search rules in
+    let puts : c.room-room.new.self.puts ≡ c.args.desk.now.puts = search rules in
+    let kept : c.room-room.new.self.kept ≡ c.args.desk.now.kept = search rules in
+    let waiting : Waits c.args.desk.now.input c.room-room.new.self.input waits.0 = search rules in
     let reader : c.show.new.self.reader ≡ c.wait.new.self.reader = search rules in
     let input : c.show.new.self.input ≡ c.take_lines.new.desk.input = search rules in
     let keeps : c.show.new.self.kept ≡ c.take_lines.new.desk.kept = search rules in
     let streams : streams_of c.resend.new.self ≡ streams_of c.args.service.now = c.in_ok-resend.ensures.streams ∙ c.in_ok-hear.ensures.streams in
-    let lines = serves_as c.args.desk.now.spelling c.args.desk.now.puts (streams_of c.args.service.now) c.wait.new.self.spelling c.wait.new.self.puts (streams_of c.resend.new.self) []
-    (moment c.wait.new.self.input c.wait.new.self.kept c.resend.new.self.host.pass) (moment c.take_lines.new.desk.input c.take_lines.new.desk.kept c.take_lines.new.service.host.pass) spelling puts streams c.in_ok-take_lines.ensures.serves in (
+    let lines = serves_as c.args.desk.now.spelling c.args.desk.now.puts (streams_of c.args.service.now) c.room-room.new.self.spelling c.room-room.new.self.puts (streams_of c.resend.new.self) []
+    (moment c.room-room.new.self.input c.room-room.new.self.kept c.resend.new.self.host.pass) (moment c.take_lines.new.desk.input c.take_lines.new.desk.kept c.take_lines.new.service.host.pass) spelling puts streams c.in_ok-take_lines.ensures.serves in (
       waits.0,
       rw reader waits.1,
-      turn_over c.args.desk.now.spelling c.args.desk.now.puts (streams_of c.args.service.now) waits.0 c.args.desk.now.input c.wait.new.self.input c.take_lines.new.desk.input c.show.new.self.input
-          c.args.desk.now.kept c.wait.new.self.kept c.take_lines.new.desk.kept c.show.new.self.kept c.args.service.now.host.pass c.resend.new.self.host.pass c.take_lines.new.service.host.pass c.send.new.self.pass
-          waits.2 kept (c.in_ok-resend.ensures.none_put ∙ c.in_ok-hear.ensures.none_put) lines input keeps (cleared ∙ synced),
+      turn_over c.args.desk.now.spelling c.args.desk.now.puts (streams_of c.args.service.now) waits.0 c.args.desk.now.input c.room-room.new.self.input c.take_lines.new.desk.input c.show.new.self.input
+          c.args.desk.now.kept c.room-room.new.self.kept c.take_lines.new.desk.kept c.show.new.self.kept c.args.service.now.host.pass c.resend.new.self.host.pass c.take_lines.new.service.host.pass c.send.new.self.pass
+          waiting kept (c.in_ok-resend.ensures.none_put ∙ c.in_ok-hear.ensures.none_put) lines input keeps (cleared ∙ synced),
     )
 
 pub returns-clause-shown : goal.returns-clause-shown
@@ -40,9 +41,8 @@ returns-clause-shown g c =
     let spells : spelling_of c.resend.new.self ≡ spelling = c.in_ok-resend.ensures.spelling ∙ c.in_ok-hear.ensures.spelling in
     let to_resend = shows_after spelling (spelling_of c.hear.new.self) v c.hear.new.self.host.pass c.resend.new.self.host.pass old heard resent c.in_ok-hear.ensures.spelling c.in_ok-hear.ensures.shown c.in_ok-resend.ensures.shown in
     let to_lines = shows_after spelling (spelling_of c.resend.new.self) v c.resend.new.self.host.pass c.take_lines.new.service.host.pass old resent taken spells to_resend c.in_ok-take_lines.ensures.shown in
-    let synced : c.if-sync.service.host.pass ≡ c.take_lines.new.service.host.pass = elim c.if-sync.branch [ then-sync+in_ok-sync w ↦ search rules | else-sync w ↦ search rules ] in
-    let shown : shown_by c.if-sync.service ≡ taken = elim c.if-sync.branch [ then-sync+in_ok-sync w ↦ search rules | else-sync w ↦ search rules ] in
-    let sent : c.send.new.self.pass ≡ c.if-sync.service.host.pass = search rules in
+    let synced : c.write_down.new.self.pass ≡ c.take_lines.new.service.host.pass = ap (λ (t : HostState g.row.L.Denot g.row.S.Denot). t.pass) c.in_ok-write_down.ensures.same in
+    let sent : c.send.new.self.pass ≡ c.write_down.new.self.pass = search rules in
     let appends : Appends (g.O.Write.contents c.args.desk.now.output) (g.O.Write.contents c.show.new.self.output) taken = search rules in
     shown_whole spelling v c.take_lines.new.service.host.pass c.send.new.self.pass old taken (shown_by c.clear_shown.new.self) (g.O.Write.contents c.args.desk.now.output) (g.O.Write.contents c.show.new.self.output)
     (sent ∙ synced) to_lines appends c.clear_shown.ensures.shown
@@ -53,10 +53,9 @@ returns-clause-words g c =
     let heard = words_of c.hear.new.self in let resent = words_of c.resend.new.self in let taken = words_of c.take_lines.new.service in
     let to_resend = bears_on first heard resent v c.hear.new.self.host.pass c.resend.new.self.host.pass c.in_ok-hear.ensures.words c.in_ok-resend.ensures.words in
     let to_lines = bears_on first resent taken v c.resend.new.self.host.pass c.take_lines.new.service.host.pass to_resend c.in_ok-take_lines.ensures.words in
-    let synced : c.if-sync.service.host.pass ≡ c.take_lines.new.service.host.pass = elim c.if-sync.branch [ then-sync+in_ok-sync w ↦ search rules | else-sync w ↦ search rules ] in
-    let kept : words_of c.if-sync.service ≡ taken = elim c.if-sync.branch [ then-sync+in_ok-sync w ↦ search rules | else-sync w ↦ search rules ] in
-    let sent : c.send.new.self.pass ≡ c.if-sync.service.host.pass = search rules in
-    bears_as first taken first (words_of c.clear_shown.new.self) v c.take_lines.new.service.host.pass v c.send.new.self.pass refl (c.clear_shown.ensures.words ∙ kept) refl (sent ∙ synced) to_lines
+    let synced : c.write_down.new.self.pass ≡ c.take_lines.new.service.host.pass = ap (λ (t : HostState g.row.L.Denot g.row.S.Denot). t.pass) c.in_ok-write_down.ensures.same in
+    let sent : c.send.new.self.pass ≡ c.write_down.new.self.pass = search rules in
+    bears_as first taken first (words_of c.clear_shown.new.self) v c.take_lines.new.service.host.pass v c.send.new.self.pass refl c.clear_shown.ensures.words refl (sent ∙ synced) to_lines
 
 pub returns-clause-unread : goal.returns-clause-unread
 returns-clause-unread g c =

@@ -51,6 +51,7 @@ returns-in-Ok-paced-clause-opened g c =
       limit = ap (λ (h : Host). h.limit) c.in-Ok-paced.ensures.begins.host ∙ c.window_of.ensures.result;
       sides = opens.sides_are ∙ is;
       seen = ap (λ (p : PassState). p.seen) last;
+      number = ap (λ (p : PassState). p.number) last;
       link_is = refl;
       outbox = c.in_ok-outbox-in-Ok.ensures.leaving;
       journal_is = refl;
