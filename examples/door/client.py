@@ -79,7 +79,7 @@ class Sender(Door):
         """What is known now: `put`, it is on its way; `got`; `gone`; `unknown`, it was got, is lost, or may still be got; `new`, it was never put."""
         state, life, number = self.base.execute("SELECT state, life, number FROM puts WHERE name = ?", (name,)).fetchone()
         if state == "put":
-            told = self.ask("GET", f"{self.stream}/messages/{number}?life={life}", (200, 410))[2]
+            told = self.ask("GET", f"{self.stream}/messages/{number}?life={life}", (200, 410, 500))[2]
             state = {"got": "got", "gone": "gone", "never": "new", "open": "put"}.get(told.get("outcome"), "unknown")
             if state != "unknown":
                 self.base.execute("UPDATE puts SET state = ? WHERE name = ?", (state, name))
@@ -106,13 +106,13 @@ class Receiver(Door):
 
     def missed(self, behind):
         """The line and the bytes of the first message that was taken behind this line, as the journal tells."""
-        more = True
-        while more:
+        told = {"next": behind, "more": True, "got": []}
+        while told["more"] and not told["got"]:
+            behind = told["next"]
             told = self.ask("GET", f"{self.stream}/got" + (f"?after={behind}" if behind >= 0 else ""))[2]
-            for it in told["got"]:
-                return it["line"], it["text"].encode() if "text" in it else bytes.fromhex(it["hex"])
-            behind, more = told["next"], told["more"]
-        return None
+            if (told["from"] or 0) > behind + 1:
+                raise RuntimeError(f"what was taken behind line {behind} is unknown: pieces of the journal were moved away")
+        return next(((it["line"], it["text"].encode() if "text" in it else bytes.fromhex(it["hex"])) for it in told["got"]), None)
 
     def done(self, line):
         """The message of this line was worked on."""
