@@ -10,6 +10,8 @@ import subprocess
 import tempfile
 import time
 
+# A name that leads to this machine, as one of somebody else's may.
+ELSEWHERE = "elsewhere.example"
 NAMES = ("chromium", "chromium-browser", "google-chrome", "google-chrome-stable", "chrome")
 
 
@@ -32,7 +34,7 @@ class Browser:
         self.hear, answers = os.pipe()
         # It reads from file 3 and writes to file 4. The shell is replaced by it.
         words = ["sh", "-c", f'exec "$0" "$@" 3<&{asks} 4>&{answers}', program, "--headless=new", "--no-sandbox", "--disable-gpu", "--disable-dev-shm-usage",
-                 "--no-first-run", "--disable-background-networking", "--disable-component-update", f"--user-data-dir={self.profile}", "--remote-debugging-pipe"]
+                 "--no-first-run", "--disable-background-networking", "--disable-component-update", f"--host-resolver-rules=MAP {ELSEWHERE} 127.0.0.1", f"--user-data-dir={self.profile}", "--remote-debugging-pipe"]
         self.process = subprocess.Popen(words, pass_fds=(asks, answers), start_new_session=True, stdin=subprocess.DEVNULL, stdout=subprocess.DEVNULL,
                                         stderr=subprocess.DEVNULL)
         os.close(asks)
