@@ -1,6 +1,7 @@
 #!/bin/sh
 # Puts a message through a host's door by curl, once, however often it is started again: put.sh URL STREAM FILE TEXT
-# FILE keeps the call that is made, before it is made. It is removed once the call is answered; where it is there, that call is made again.
+# FILE is of this message alone. It keeps the call, before it is made, and FILE.done what it was answered: where they are there, that call is made again, or
+# its answer is told. Remove both once it is noted elsewhere that the message was put; not before, as a script that is killed behind that would put it twice.
 set -eu
 
 url=$1 stream=$2 file=$3 text=$4
@@ -10,6 +11,7 @@ member() {
     sed 's/.*"'"$1"'":"\{0,1\}\([^",}]*\).*/\1/'
 }
 
+[ ! -e "$file.done" ] || exec cat "$file.done"
 if [ ! -e "$file" ]; then
     state=$(curl -sSf --retry 9 --retry-connrefused "$url/v1/streams/$stream")
     life=$(printf %s "$state" | member life)
@@ -22,13 +24,16 @@ target=$(cat "$file")
 until status=$(printf %s "$text" | curl -sS -o "$file.answer" -w '%{http_code}' -X PUT --data-binary @- "$url$target") && [ "$status" != 503 ]; do
     sleep 1
 done
-cat "$file.answer"
-echo
-rm "$file.answer"
+echo >>"$file.answer"
 case $status in
-200 | 201) rm "$file" ;;
+200 | 201)
+    mv "$file.answer" "$file.done"
+    cat "$file.done"
+    ;;
 *)
     # The host was started again, or another program puts on the stream: whether this was put, the host's journal tells.
+    cat "$file.answer"
+    rm "$file.answer"
     echo "put.sh: see whether it was put, by amo outcomes JOURNAL; then remove $file" >&2
     exit 1
     ;;
