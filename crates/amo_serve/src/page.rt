@@ -8,21 +8,25 @@ pub(crate) const PAGE: &str = r##"<!doctype html>
 <meta charset="utf-8">
 <meta name="viewport" content="width=device-width">
 <title>amo</title>
+<link rel="icon" href="data:,">
 <style>
 :root { color-scheme: light dark; --page: #fff; --ink: #1b1f24; --pale: #57606a; --line: #d0d7de; --none: #eef1f4; --open: #ffe8a3; --yes: #b7ebc3; --no: #ffc9c4; --ready: #b9dcff; }
 @media (prefers-color-scheme: dark) { :root { --page: #14181d; --ink: #e6edf3; --pale: #9aa4af; --line: #3a424b; --none: #21272e; --open: #6b5310; --yes: #1f5c33; --no: #7a2b27; --ready: #174a7c; } }
 body { background: var(--page); color: var(--ink); font: 15px/1.45 system-ui, sans-serif; margin: 1.5rem auto; max-width: 64rem; padding: 0 1rem; }
+[hidden] { display: none !important; }
 h1 { font-size: 1.3rem; margin: 0 0 .3rem; } h2 { font-size: 1.05rem; margin: 1.4rem 0 .4rem; }
 p, dl { margin: .3rem 0; } .pale { color: var(--pale); }
 #grid { display: grid; gap: 3px; grid-template-columns: repeat(auto-fill, minmax(2.7rem, 1fr)); }
 #grid button { background: var(--none); border: 1px solid var(--line); border-radius: 4px; color: var(--ink); cursor: pointer; font: inherit; line-height: 1.15; padding: .15rem 0; }
 #grid button small { color: var(--pale); display: block; font-size: .68rem; }
+.O small, .Y small, .N small, .R small { color: inherit !important; }
 #grid button[aria-pressed=true] { outline: 2px solid var(--ink); }
 .O { background: var(--open) !important; } .Y { background: var(--yes) !important; } .N { background: var(--no) !important; } .R { background: var(--ready) !important; }
 dl { display: grid; grid-template-columns: max-content 1fr; gap: .1rem 1rem; } dt { color: var(--pale); } dd { margin: 0; font-variant-numeric: tabular-nums; overflow-wrap: anywhere; }
 form { display: flex; flex-wrap: wrap; gap: .5rem; } input { background: var(--page); border: 1px solid var(--line); border-radius: 4px; color: inherit; flex: 1 1 16rem; font: inherit; padding: .25rem .4rem; }
+input::placeholder { color: var(--pale); opacity: 1; } input[readonly] { background: var(--none); }
 form button { font: inherit; padding: .25rem .8rem; }
-svg { max-width: 100%; } svg text { fill: var(--ink); font: 12px system-ui, sans-serif; } svg line { stroke: var(--ink); } svg .rail { stroke: var(--line); }
+#chart { overflow: hidden; } svg { display: block; } svg text { fill: var(--ink); font: 12px system-ui, sans-serif; } svg line { stroke: var(--ink); } svg .rail { stroke: var(--line); }
 #told { min-height: 1.4em; }
 </style>
 </head>
@@ -49,6 +53,8 @@ sessionStorage.setItem("by", by);
 const meaning = { "–": "nothing yet", O: "the last message is on its way", Y: "the last message was got", N: "the last message was got or lost", R: "a message is ready", T: "all that came was taken" };
 let host, chosen = 1, events = 0, since = Date.now();
 const states = [], news = [];
+const kept = kind => JSON.parse(sessionStorage.getItem(kind) || "null");
+const pause = time => new Promise(done => setTimeout(done, time));
 const letter = state => !state ? "–" : "put" in state ? { open: "O", yes: "Y", no: "N" }[state.last] || "–" : state.ready ? "R" : state.taken ? "T" : "–";
 const fill = (list, facts) => list.replaceChildren(...facts.flatMap(([name, value]) => { const dt = document.createElement("dt"), dd = document.createElement("dd"); dt.textContent = name; dd.textContent = value; return [dt, dd]; }));
 
@@ -57,8 +63,26 @@ async function ask(path, options) {
   if (answer.status === 204) return null;
   const is_json = (answer.headers.get("content-type") || "").startsWith("application/json");
   const body = is_json ? await answer.json() : await answer.text();
-  if (!answer.ok) throw Object.assign(new Error(body.text || "status " + answer.status), { answered: body });
+  if (!answer.ok) throw Object.assign(new Error(body.text || "status " + answer.status), { status: answer.status, word: body.error });
   return { body, answer };
+}
+
+// A call is kept until it is answered, also over a reload, so that what is asked again is the same call: that puts and takes nothing twice.
+async function once(kind, method, learn) {
+  const call = kept(kind) || await learn();
+  sessionStorage.setItem(kind, JSON.stringify(call));
+  for (let tries = 1; ; tries += 1) {
+    try {
+      const told = await ask(call.path, { method, body: call.text === undefined ? undefined : new TextEncoder().encode(call.text) });
+      sessionStorage.removeItem(kind);
+      return { call, told };
+    } catch (fault) {
+      // Of a host that is crowded or hears slowly nothing is known.
+      if (fault.status && fault.status !== 408 && (fault.status !== 503 || fault.word === "full")) sessionStorage.removeItem(kind);
+      if (fault.status || tries === 3) throw Object.assign(fault, { call });
+      await pause(500);
+    }
+  }
 }
 
 async function learn(stream) {
@@ -71,6 +95,7 @@ function show(stream) {
   button.className = what;
   button.firstChild.textContent = what;
   button.title = "stream " + stream + ": " + meaning[what];
+  button.setAttribute("aria-label", button.title);
   button.setAttribute("aria-pressed", stream === chosen);
   if (stream === chosen) detail();
 }
@@ -80,32 +105,34 @@ function detail() {
   at("name").textContent = "Stream " + chosen + ": " + meaning[letter(state)];
   if (!state) return;
   fill(at("detail"), "put" in state
-    ? [["put in this life", state.put + " messages"], ["waiting", state.waiting + " messages"], ["the last one", state.last || "none"]]
-    : [["taken in this life", state.taken + " messages"], ["the next one", state.ready ? "ready" : "not yet come"]]);
+    ? [["put in this life", state.put], ["waiting", state.waiting], ["the last one", state.last || "none"]]
+    : [["taken in this life", state.taken], ["the next one", state.ready ? "ready" : "not yet come"]]);
   chart();
 }
 
 function chart() {
-  const told = news.filter(it => it.stream === chosen).slice(-8), sends = host.side === "send", ns = "http://www.w3.org/2000/svg";
-  const svg = document.createElementNS(ns, "svg"), height = 40 + told.length * 26;
-  svg.setAttribute("viewBox", "0 0 520 " + height); svg.setAttribute("width", "520"); svg.setAttribute("role", "img");
-  svg.setAttribute("aria-label", "The last events of stream " + chosen);
+  const told = news.filter(it => it.stream === chosen).slice(-8), ns = "http://www.w3.org/2000/svg";
+  const width = Math.min(520, at("chart").clientWidth || 520), height = 40 + told.length * 26, left = 40, right = width - 40;
+  const svg = document.createElementNS(ns, "svg");
+  svg.setAttribute("width", width); svg.setAttribute("height", height); svg.setAttribute("role", "img");
+  svg.setAttribute("aria-label", "The last events of stream " + chosen + ": " + told.map(it => it.event).join(", "));
   const add = (kind, fields, text) => { const it = document.createElementNS(ns, kind); for (const name in fields) it.setAttribute(name, fields[name]); if (text !== undefined) it.textContent = text; svg.append(it); };
-  add("text", { x: 90, y: 14, "text-anchor": "middle" }, "programs here"); add("text", { x: 430, y: 14, "text-anchor": "middle" }, "the other host");
-  add("line", { x1: 90, x2: 90, y1: 22, y2: height - 4, class: "rail" }); add("line", { x1: 430, x2: 430, y1: 22, y2: height - 4, class: "rail" });
+  add("text", { x: 0, y: 14 }, "programs here"); add("text", { x: width, y: 14, "text-anchor": "end" }, "the other host");
+  for (const x of [left, right]) add("line", { x1: x, x2: x, y1: 22, y2: height - 4, class: "rail" });
   told.forEach((it, place) => {
-    const y = 46 + place * 26, out = it.event === "put", from = out ? 90 : 430, to = out ? 430 : 90, tip = out ? -8 : 8;
+    const y = 46 + place * 26, out = it.event === "put", from = out ? left : right, to = out ? right : left, tip = out ? -8 : 8;
     add("line", { x1: from, x2: to, y1: y, y2: y }); add("line", { x1: to, x2: to + tip, y1: y, y2: y - 4 }); add("line", { x1: to, x2: to + tip, y1: y, y2: y + 4 });
-    const text = it.text !== undefined ? it.text : it.hex !== undefined ? "0x" + it.hex : "";
-    add("text", { x: 260, y: y - 5, "text-anchor": "middle" }, it.event + " " + (text.length > 40 ? text.slice(0, 40) + "…" : text));
+    const text = it.text !== undefined ? it.text : it.hex !== undefined ? "0x" + it.hex : "", most = Math.floor((right - left) / 9) - 5;
+    add("text", { x: width / 2, y: y - 5, "text-anchor": "middle" }, it.event + " " + (text.length > most ? text.slice(0, most) + "…" : text));
   });
-  at("chart").replaceChildren(told.length ? svg : document.createTextNode(sends ? "Nothing was put since this page was opened." : "Nothing was taken since this page was opened."));
+  const nothing = "Nothing was " + (host.side === "send" ? "put" : "taken") + " since this page was opened.";
+  at("chart").replaceChildren(told.length ? svg : document.createTextNode(nothing));
 }
 
 function facts() {
   const seconds = (Date.now() - since) / 1000;
-  fill(at("facts"), [["life", host.life], ["version", host.version], ["the other host", host.peer], ["since", new Date(host.since * 1000).toLocaleString()], ["streams", host.streams + " streams"],
-    ["events since this page was opened", events + " events, " + (events / Math.max(seconds, 1)).toFixed(1) + " events a second"]]);
+  fill(at("facts"), [["life", host.life], ["version", host.version], ["the other host", host.peer], ["since", new Date(host.since * 1000).toLocaleString()], ["streams", host.streams],
+    ["events seen here", events + ", " + (events / Math.max(seconds, 1)).toFixed(1) + " a second"]]);
 }
 
 function tell(event) {
@@ -114,35 +141,68 @@ function tell(event) {
   if (it.stream) { news.push(it); if (news.length > 2000) news.splice(0, 1000); learn(it.stream).catch(() => {}); }
 }
 
+// What a call that has no answer may have done is told of; its text stays as it is until the call was answered.
+function show_kept() {
+  const call = kept("put");
+  at("text").readOnly = !!call;
+  if (call) { at("text").value = call.text; at("told").textContent = "No answer came: message " + call.number + " of stream " + call.stream + " may have been put. Put asks the same again."; }
+}
+
+// What became of a message of a life that is over.
+async function earlier(call) {
+  const { body } = await ask("/v1/streams/" + call.stream + "/messages/" + call.number + "?life=" + call.life).catch(() => ({ body: {} }));
+  const fates = { never: "was never put, and may be put again", gone: "is gone, and may be put again", got: "was got", open: "is on its way" };
+  const fate = fates[body.outcome] || (body.outcome ? "was put, and was got or is lost" : "may have been put, which amo outcomes JOURNAL tells");
+  return "The host was started again. Message " + call.number + " of stream " + call.stream + " in its life before " + fate + ".";
+}
+
 at("put").addEventListener("submit", async event => {
   event.preventDefault();
-  const stream = chosen, text = at("text").value;
+  const stream = chosen, text = at("text").value, life = host.life;
   try {
-    const number = (await ask("/v1/streams/" + stream)).body.put + 1;
-    const path = "/v1/streams/" + stream + "/messages/" + number + "?life=" + host.life + "&by=" + by;
-    const put = () => ask(path, { method: "PUT", body: new TextEncoder().encode(text) });
-    // An answer that was lost is asked for again: that puts nothing twice.
-    const { body } = await put().catch(fault => fault.answered ? Promise.reject(fault) : put());
-    at("told").textContent = "Message " + body.number + " of stream " + stream + " was put, by line " + body.line + " of the journal.";
-    at("text").value = "";
-  } catch (fault) { at("told").textContent = "Not put: " + fault.message + "."; }
+    const { told } = await once("put", "PUT", async () => {
+      const number = (await ask("/v1/streams/" + stream)).body.put + 1;
+      return { stream, number, life, text, path: "/v1/streams/" + stream + "/messages/" + number + "?life=" + life + "&by=" + by };
+    });
+    at("told").textContent = "Message " + told.body.number + " of stream " + told.body.stream + " was put, by line " + told.body.line + " of the journal.";
+    at("text").value = ""; at("text").readOnly = false;
+  } catch (fault) {
+    if (kept("put")) return show_kept();
+    at("text").readOnly = false;
+    at("told").textContent = fault.word === "other_life" ? await earlier(fault.call) : "Not put: " + fault.message + ".";
+  }
 });
 at("take").addEventListener("submit", async event => {
   event.preventDefault();
-  const stream = chosen;
+  const stream = chosen, life = host.life;
   try {
-    const number = (await ask("/v1/streams/" + stream)).body.taken + 1;
-    const path = "/v1/streams/" + stream + "/take?life=" + host.life + "&by=" + by + "&number=" + number;
-    const take = () => ask(path, { method: "POST" });
-    const taken = await take().catch(fault => fault.answered ? Promise.reject(fault) : take());
-    at("told").textContent = taken ? "Message " + number + " of stream " + stream + ": " + taken.body : "No message has come.";
-  } catch (fault) { at("told").textContent = "Not taken: " + fault.message + "."; }
+    const { call, told } = await once("take", "POST", async () => {
+      const number = (await ask("/v1/streams/" + stream)).body.taken + 1;
+      return { stream, number, path: "/v1/streams/" + stream + "/take?life=" + life + "&by=" + by + "&number=" + number };
+    });
+    at("told").textContent = told ? "Message " + call.number + " of stream " + call.stream + ": " + told.body : "No message has come.";
+  } catch (fault) {
+    at("told").textContent = kept("take") ? "No answer came. The button asks the same again."
+      : fault.word === "other_life" ? "The host was started again. Whether a message was taken before, amo got JOURNAL tells." : "Not taken: " + fault.message + ".";
+  }
 });
+
+const learn_all = async () => { for (let stream = 1; stream <= host.streams; stream += 1) await learn(stream); };
+
+// No event tells that a message has come: where the journal grows, all streams are looked at.
+async function watch(lines) {
+  let now = lines;
+  if (!document.hidden) now = await ask("/metrics").then(({ body }) => /^amo_journal_next_line (.*)$/m.exec(body)[1]).catch(() => lines);
+  if (now !== lines) await learn_all().catch(() => {});
+  await pause(1000);
+  watch(now);
+}
 
 (async () => {
   host = (await ask("/v1")).body;
   const sends = host.side === "send";
   at("side").textContent = sends ? "sends" : "receives";
+  document.title = "amo " + host.side + " " + location.host;
   at("about").hidden = true; at("all").hidden = false; at(sends ? "put" : "take").hidden = false;
   at("key").textContent = (sends ? ["–", "O", "Y", "N"] : ["–", "R", "T"]).map(it => it + ": " + meaning[it]).join(" · ");
   for (let stream = 1; stream <= host.streams; stream += 1) {
@@ -158,9 +218,11 @@ at("take").addEventListener("submit", async event => {
     const now = (await ask("/v1")).body;
     if (now.life !== host.life) { host = now; states.length = 0; }
     at("told").textContent = ""; facts();
-    for (let stream = 1; stream <= host.streams; stream += 1) await learn(stream);
+    show_kept();
+    await learn_all();
   };
-  facts(); setInterval(facts, 1000);
+  facts(); setInterval(facts, 1000); addEventListener("resize", chart);
+  if (!sends) watch("");
 })().catch(fault => { at("about").textContent = "The host is not heard: " + fault.message; });
 </script>
 </body>
