@@ -98,22 +98,22 @@ module _ (at : ReceiverMode) (n : ℕ) (accepted : ℕ) (is : IsAccepted at acce
   put_either : (full : Bool) (mode : SenderMode) (waiting : List (List ℕ)) (m : List ℕ) (r : Reply) (k : Kept) (p : Puts)
       → Keeps k mode at p → ((put : ℕ) → Contains p.got put → put < p.count)
       → ((q : Puts) → sender_moved mode mode q ≡ q)
-      → ((here : Bool) → at_sender (sender.kind mode) (sender.kind mode) (act.Put m) r here k ≡ places.called (act.Put m) r k)
+      → ((here : Bool) → at_sender (sender.kind mode) (sender.kind mode) (act.Put m) r here k ≡ places.if_put (places.is_put (act.Put m) r) k)
       → (let row = if full then silent (state mode waiting) reply.Full else silent (state mode (waiting ++ m ∷ [])) reply.Ok in
       row.reply ≡ Some r → SenderKeeps mode (act.Put m) r row k p)
   put_either true mode waiting m r k p keeps within same calls right =
       subst (λ (x : Kept). Keeps x mode at (sender_moved mode mode p)) (sym (calls (is_accept (receiver.kind at) && brings
       (act.Put m) accepted)))
-      (subst (λ (x : Reply). Keeps (places.called (act.Put m) x k) mode at (sender_moved mode mode p))
+      (subst (λ (x : Reply). Keeps (places.if_put (places.is_put (act.Put m) x) k) mode at (sender_moved mode mode p))
       (some_injective reply.Full r right)
       (subst (Keeps k mode at) (sym (same p)) keeps))
   put_either false mode waiting m r k p keeps within same calls right =
       let q : Puts = record p { count = p.count + 1; waiting = p.waiting ++ p.count ∷ [] } in
       subst (λ (x : Kept). Keeps x mode at (sender_moved mode mode q)) (sym (calls (is_accept (receiver.kind at) && brings
       (act.Put m) accepted)))
-      (subst (λ (x : Reply). Keeps (places.called (act.Put m) x k) mode at (sender_moved mode mode q))
+      (subst (λ (x : Reply). Keeps (places.if_put (places.is_put (act.Put m) x) k) mode at (sender_moved mode mode q))
       (some_injective reply.Ok r right)
-      (subst (Keeps (places.called (act.Put m) reply.Ok k) mode at) (sym (same q)) (puts mode k p keeps within)))
+      (subst (Keeps (places.if_put (places.is_put (act.Put m) reply.Ok) k) mode at) (sym (same q)) (puts mode k p keeps within)))
 
   put_keeps : (mode : SenderMode) (waiting : List (List ℕ)) (m : List ℕ) (r : Reply) (k : Kept) (p : Puts) → Keeps k mode at p
       → ((put : ℕ) → Contains p.got put → put < p.count) → (sender.put (state mode waiting) mode m).reply ≡ Some r
@@ -172,7 +172,7 @@ module _ (at : ReceiverMode) (n : ℕ) (accepted : ℕ) (is : IsAccepted at acce
 
   -- what was asked for is sent under an identifier: it arrives where the receiver accepts that
   sends : (jd id : ℕ) (load : Payload) (k : Kept) (p : Puts) → Keeps k (sending.NeedId jd load) at p
-      → Keeps (if is_accept (receiver.kind at) && eqb id accepted then places.arrived k else k) (sending.Send id load) at
+      → Keeps (places.if_arrived (is_accept (receiver.kind at) && eqb id accepted) k) (sending.Send id load) at
       (record p { sent = record { id = id; puts = p.carried } ∷ p.sent })
   sends jd id load k p keeps = by at is keeps.arrives
     where
@@ -185,7 +185,7 @@ module _ (at : ReceiverMode) (n : ℕ) (accepted : ℕ) (is : IsAccepted at acce
       stays there same arrives = record { waiting = keeps.waiting; asked = tt; arrives = arrives ∙ sym same; got = keeps.got }
 
       either : (here : Bool) (jd' given : ℕ) → eqb id given ≡ here → k.arriving ≡ sent_under p.sent given
-          → Keeps (if here then places.arrived k else k) (sending.Send id load) (receiving.Accept jd' given) q
+          → Keeps (places.if_arrived here k) (sending.Send id load) (receiving.Accept jd' given) q
       either true jd' given same arrives = record {
         waiting = keeps.waiting;
         asked = tt;
@@ -200,11 +200,11 @@ module _ (at : ReceiverMode) (n : ℕ) (accepted : ℕ) (is : IsAccepted at acce
       }
 
       by : (there : ReceiverMode) → IsAccepted there accepted → k.arriving ≡ arriving there p.sent p.held
-          → Keeps (if is_accept (receiver.kind there) && eqb id accepted then places.arrived k else k)
+          → Keeps (places.if_arrived (is_accept (receiver.kind there) && eqb id accepted) k)
           (sending.Send id load) there q
       by receiving.Idle is arrives = stays receiving.Idle refl arrives
       by (receiving.Accept jd' given) is arrives =
-          subst (λ (x : ℕ). Keeps (if eqb id x then places.arrived k else k) (sending.Send id load)
+          subst (λ (x : ℕ). Keeps (places.if_arrived (eqb id x) k) (sending.Send id load)
           (receiving.Accept jd' given) q) (sym is)
           (either (eqb id given) jd' given refl arrives)
       by (receiving.Rcvd under b) is arrives = stays (receiving.Rcvd under b) refl arrives
@@ -246,7 +246,7 @@ module _ (at : ReceiverMode) (n : ℕ) (accepted : ℕ) (is : IsAccepted at acce
   ack_keeps sending.Down waiting id got word j r k p keeps = forgets sending.Down k p keeps
 
   -- nothing happens
-  stays : (mode : SenderMode) (a : Act) (r : Reply) (k : Kept) (p : Puts) → Keeps k mode at p → places.called a r k ≡ k
+  stays : (mode : SenderMode) (a : Act) (r : Reply) (k : Kept) (p : Puts) → Keeps k mode at p → places.if_put (places.is_put a r) k ≡ k
       → Keeps (at_sender (sender.kind mode) (sender.kind mode) a r (is_accept
       (receiver.kind at) && brings a accepted) k) mode at (sender_moved mode mode p)
   stays (sending.Quiet got) a r k p keeps same = subst (λ (x : Kept). Keeps x (sending.Quiet got) at p) (sym same) keeps

@@ -17,22 +17,26 @@ pub record Kept : Type 0 where
 abbrev pub empty : Kept
 empty = record { waiting = []; asked = []; arriving = []; got = [] }
 
+-- a put that was taken
+abbrev pub is_put : Act → Reply → Bool
+is_put (act.Put m) reply.Ok = true
+is_put _ _ = false
+
 -- a put that is taken waits, and was not got
-abbrev pub called : Act → Reply → Kept → Kept
-called (act.Put m) reply.Ok k = record k { waiting = k.waiting ++ length k.got ∷ []; got = k.got ++ false ∷ [] }
-called _ _ k = k
+abbrev pub if_put : Bool → Kept → Kept
+if_put puts k = if puts then record k { waiting = k.waiting ++ length k.got ∷ []; got = k.got ++ false ∷ [] } else k
 
 -- how many puts a start carries at most
 abbrev pub most_of : Act → ℕ
 most_of (act.Batch word) = 4
 most_of _ = 1
 
--- an identifier is asked for the first ones
-abbrev pub begun : Act → Kept → Kept
-begun a k = record k { waiting = drop (most_of a) k.waiting; asked = take (most_of a) k.waiting }
+-- an identifier is asked for the first ones, so many at most
+abbrev pub begun : ℕ → Kept → Kept
+begun most k = record k { waiting = drop most k.waiting; asked = take most k.waiting }
 
-abbrev pub arrived : Kept → Kept
-arrived k = record k { arriving = k.asked; asked = k.arriving }
+abbrev pub if_arrived : Bool → Kept → Kept
+if_arrived arrives k = if arrives then record k { arriving = k.asked; asked = k.arriving } else k
 
 abbrev pub forgotten : Kept → Kept
 forgotten k = record k { waiting = [] }
@@ -71,10 +75,10 @@ open_of asking k = k.arriving ++ (asked_if asking k ++ k.waiting)
 
 -- an act at the sender, which was in one mode and is in another: a handshake begins, a handshake sends, here or in vain, or all is forgotten
 abbrev pub at_sender : Mode → Mode → Act → Reply → Bool → Kept → Kept
-at_sender mode.Quiet mode.NeedId a r here k = begun a k
-at_sender mode.NeedId mode.Send a r here k = if here then arrived k else k
+at_sender mode.Quiet mode.NeedId a r here k = begun (most_of a) k
+at_sender mode.NeedId mode.Send a r here k = if_arrived here k
 at_sender _ mode.Down a r here k = forgotten k
-at_sender _ _ a r here k = called a r k
+at_sender _ _ a r here k = if_put (is_put a r) k
 
 abbrev pub is_get : Act → Bool
 is_get act.Get = true

@@ -2,17 +2,15 @@
 ghost use Rattle.std.specs.Prelude.{◌≡◌, ◌∷◌, ◌&&◌, ◌<◌, ℕ, length, List, [], IfOk, if◌then◌else◌};
 ghost use Rattle.std.specs.Option.{unwrap_or};
 ghost use Rattle.amo_core.specs.Automaton.{row, mode_of, used_word};
-ghost use Rattle.amo_core.specs.declared.mode.Mode.TheVariants as mode;
-ghost use Rattle.amo_core.specs.declared.reply.Reply.TheVariants as reply;
 ghost use Rattle.amo_world.specs.declared.event.Event.{Event};
 ghost use Rattle.amo_world.specs.History.{IsRight, IsHonest, IsFresh};
 ghost use Rattle.amo_outcomes.specs.Outcome.{HasOutcome};
 ghost use Rattle.amo_outcomes.specs.Told.{AreOutcomes};
-ghost use Rattle.amo_outcomes.specs.Places.{at_sender, at_receiver, is_get, takes_in, asks};
-ghost use Rattle.amo_outcomes.specs.Follower.{IsFollowed, brings, is_accept};
+ghost use Rattle.amo_outcomes.specs.Places.{at_sender, at_receiver, is_get, is_put, takes_in, asks};
+ghost use Rattle.amo_outcomes.specs.Follower.{IsFollowed, brings, brings_body, is_accept};
 
 use crate::Outcome;
-use crate::places::Places;
+use crate::places::{Places, most_of};
 use amo_core::{Act, Automaton, Mode, Receiver, Reply, Sender};
 use amo_object::End;
 use amo_packet::OwnedBody;
@@ -43,14 +41,19 @@ impl Follower {
     }
 
     /// One event more, which is one of the stream.
-    pub(crate) fn follow(&mut self, event: &Event) -> Result<(), AllocError>
-        ensures { IfOk result (λ _. (past : List Event) → IsRight (event.now ∷ past) → IsHonest (event.now ∷ past) → IsFresh (event.now ∷ past)
-            → IsFollowed self.old event.now.stream past → IsFollowed self.new event.now.stream (event.now ∷ past)) }
+    pub(crate) fn follow(&mut self, event: Event) -> Result<(), AllocError>
+        ensures { IfOk result (λ _. (past : List Event) → IsRight (event ∷ past) → IsHonest (event ∷ past) → IsFresh (event ∷ past)
+            → IsFollowed self.old event.stream past → IsFollowed self.new event.stream (event ∷ past)) }
     {
-        let act = act_of(event)?;
-        match event.side {
-            End::Sender => self.act_at_sender(act, event)?,
-            End::Receiver => self.act_at_receiver(act, event),
+        let Event {
+            side,
+            act,
+            reply,
+            ..
+        } = event;
+        match side {
+            End::Sender => self.act_at_sender(act, &reply)?,
+            End::Receiver => self.act_at_receiver(act),
         }
         Ok(())
     }
@@ -89,52 +92,38 @@ impl Follower {
         Outcome::Gone
     }
 
-    /// An act at the sender, which is the event's.
-    fn act_at_sender(&mut self, act: Act, event: &Event) -> Result<(), AllocError>
+    /// An act at the sender, with its reply.
+    fn act_at_sender(&mut self, act: Act, reply: &Reply) -> Result<(), AllocError>
         ensures sender { IfOk result (λ _. self.new.sender ≡ (row self.old.sender act).state) }
         ensures receiver { IfOk result (λ _. self.new.receiver ≡ self.old.receiver) }
         ensures accepted { IfOk result (λ _. self.new.accepted ≡ self.old.accepted) }
-        ensures places { IfOk result (λ _. self.new.places ≡ at_sender (mode_of self.old.sender) (mode_of (row self.old.sender act).state) event.now.act event.now.reply
-            (is_accept (mode_of self.old.receiver) && brings event.now.act self.old.accepted) self.old.places) }
+        ensures places { IfOk result (λ _. self.new.places ≡ at_sender (mode_of self.old.sender) (mode_of (row self.old.sender act).state) act reply.now
+            (is_accept (mode_of self.old.receiver) && brings act self.old.accepted) self.old.places) }
     {
+        let most = most_of(&act);
+        let puts = is_put(&act, reply);
+        let arrives = self.receiver.mode() == Mode::Accept && brings(&act, self.accepted);
         let before = self.sender.mode();
         self.sender.advance(act);
         match (before, self.sender.mode()) {
-            (Mode::Quiet, Mode::NeedId) => self.places.begin(&event.act)?,
-            (Mode::NeedId, Mode::Send) => self.send(&event.act),
+            (Mode::Quiet, Mode::NeedId) => self.places.begin(most)?,
+            (Mode::NeedId, Mode::Send) => self.places.arrive_if(arrives),
             (_, Mode::Down) => self.places.forget(),
-            _ => self.places.called(&event.act, &event.reply)?,
+            _ => self.places.put_if(puts)?,
         }
         Ok(())
     }
 
-    /// The sender sends what it asked for. That arrives where the receiver accepts the identifier that an accept brought.
-    fn send(&mut self, act: &Act)
-        ensures sender { self.new.sender ≡ self.old.sender }
-        ensures receiver { self.new.receiver ≡ self.old.receiver }
-        ensures accepted { self.new.accepted ≡ self.old.accepted }
-        ensures places { self.new.places ≡ at_sender mode.NeedId mode.Send act.now reply.Done
-            (is_accept (mode_of self.old.receiver) && brings act.now self.old.accepted) self.old.places }
-    {
-        if self.receiver.mode() == Mode::Accept
-            && let Act::Deliver(packet, _) = act
-            && let OwnedBody::Accept(_, id) = packet.body
-            && id == self.accepted
-        {
-            self.places.arrive();
-        }
-    }
-
-    /// An act at the receiver, which is the event's.
-    fn act_at_receiver(&mut self, act: Act, event: &Event)
+    /// An act at the receiver.
+    fn act_at_receiver(&mut self, act: Act)
         ensures sender { self.new.sender ≡ self.old.sender }
         ensures receiver { self.new.receiver ≡ (row self.old.receiver act).state }
         ensures accepted { self.new.accepted ≡ unwrap_or (used_word self.old.receiver act) self.old.accepted }
         ensures places { self.new.places ≡ at_receiver (mode_of self.old.receiver) (mode_of (row self.old.receiver act).state)
-            event.now.act self.old.places }
+            act self.old.places }
     {
         let used = self.receiver.used_word(&act);
-        let gives = is_get(&event.act) && self.receiver.mode() == Mode::Rcvd;
+        let gives = is_get(&act) && self.receiver.mode() == Mode::Rcvd;
         self.accepted = used.unwrap_or(self.accepted);
         self.receiver.advance(act);
         self.places.give_if(gives);
@@ -142,11 +131,31 @@ impl Follower {
     }
 }
 
-/// The act of an event, copied.
-pub(crate) fn act_of(event: &Event) -> Result<Act, AllocError>
-    ensures { IfOk result (λ act. act ≡ event.now.act) }
+/// Whether an act brings a sender this identifier. What it sends under the one that the receiver accepts arrives.
+fn brings(act: &Act, accepted: u64) -> bool
+    ensures { result ≡ brings act.now accepted }
 {
-    event.act.clone()
+    match act {
+        Act::Deliver(packet, _) => brings_body(&packet.body, accepted),
+        _ => false,
+    }
+}
+
+/// Whether a packet brings a sender this identifier.
+fn brings_body(body: &OwnedBody, accepted: u64) -> bool
+    ensures { result ≡ brings_body body.now accepted }
+{
+    match body {
+        OwnedBody::Accept(_, id) => *id == accepted,
+        _ => false,
+    }
+}
+
+/// Whether an act is a put that was taken.
+fn is_put(act: &Act, reply: &Reply) -> bool
+    ensures { result ≡ is_put act.now reply.now }
+{
+    matches!((act, reply), (Act::Put(_), Reply::Ok))
 }
 
 /// Whether the act is a get.

@@ -32,10 +32,10 @@ impl Followers {
     }
 
     /// One event more.
-    pub fn follow(&mut self, event: &Event) -> Result<(), AllocError>
-        requires stream { IsStream event.now.stream }
-        ensures { OnOk result ((past : List Event) → IsRight (event.now ∷ past) → IsHonest (event.now ∷ past) → IsFresh (event.now ∷ past)
-            → HaveFollowed self.old past → HaveFollowed self.new (event.now ∷ past)) }
+    pub fn follow(&mut self, event: Event) -> Result<(), AllocError>
+        requires stream { IsStream event.stream }
+        ensures { OnOk result ((past : List Event) → IsRight (event ∷ past) → IsHonest (event ∷ past) → IsFresh (event ∷ past)
+            → HaveFollowed self.old past → HaveFollowed self.new (event ∷ past)) }
     {
         follow(&mut self.of_streams, event)
     }

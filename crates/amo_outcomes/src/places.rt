@@ -3,7 +3,7 @@ ghost use Rattle.std.specs.Prelude.{◌≡◌, ◌↔◌, ◌<◌, Some, IfOk, I
 ghost use Rattle.std.specs.List.{Contains};
 ghost use Rattle.amo_outcomes.specs.Places as places;
 
-use amo_core::{Act, Reply};
+use amo_core::Act;
 use amo_packet::MAX_BATCH;
 use std::alloc::{AllocError, Global};
 use std::collections::VecDeque;
@@ -80,33 +80,33 @@ impl Places {
         has(&self.waiting, put)
     }
 
-    /// A client's call was answered: a put that was taken waits, after the others.
-    pub(crate) fn called(&mut self, act: &Act, reply: &Reply) -> Result<(), AllocError>
-        ensures { IfOk result (λ _. self.new ≡ places.called act.now reply.now self.old) }
+    /// A put that was taken waits after the others, if one was.
+    pub(crate) fn put_if(&mut self, puts: bool) -> Result<(), AllocError>
+        ensures { IfOk result (λ _. self.new ≡ places.if_put puts self.old) }
     {
-        if let (Act::Put(_), Reply::Ok) = (act, reply) {
+        if puts {
             self.waiting.push_back(self.got.len())?;
             self.got.push(false)?;
         }
         Ok(())
     }
 
-    /// The sender asks for an identifier for the first ones that wait: for one, or for as many as a batch has at most.
-    pub(crate) fn begin(&mut self, act: &Act) -> Result<(), AllocError>
-        ensures { IfOk result (λ _. self.new ≡ places.begun act.now self.old) }
+    /// The sender asks for an identifier for the first ones that wait, for so many at most.
+    pub(crate) fn begin(&mut self, most: usize) -> Result<(), AllocError>
+        ensures { IfOk result (λ _. self.new ≡ places.begun most self.old) }
     {
-        let rest = self
-            .waiting
-            .split_off(most_of(act).min(self.waiting.len()))?;
+        let rest = self.waiting.split_off(most.min(self.waiting.len()))?;
         self.asked = mem::replace(&mut self.waiting, rest);
         Ok(())
     }
 
-    /// What was asked for is sent under the identifier that the receiver accepts.
-    pub(crate) fn arrive(&mut self)
-        ensures { self.new ≡ places.arrived self.old }
+    /// What was asked for is sent, under the identifier that the receiver accepts if it arrives.
+    pub(crate) fn arrive_if(&mut self, arrives: bool)
+        ensures { self.new ≡ places.if_arrived arrives self.old }
     {
-        mem::swap(&mut self.arriving, &mut self.asked);
+        if arrives {
+            mem::swap(&mut self.arriving, &mut self.asked);
+        }
     }
 
     /// The sender forgets what waits.

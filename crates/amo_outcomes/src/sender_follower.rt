@@ -8,9 +8,9 @@ ghost use Rattle.amo_outcomes.specs.SenderPlaces.{Acts};
 ghost use Rattle.amo_outcomes.specs.SenderFollower.{IsSenderFollowed};
 
 use crate::SenderOutcome;
-use crate::follower::{act_of, asks};
+use crate::follower::asks;
 use crate::sender_places::SenderPlaces;
-use amo_core::{Mode, Sender};
+use amo_core::{Act, Mode, Sender};
 use amo_object::End;
 use amo_world::Event;
 use std::alloc::{AllocError, Global};
@@ -84,4 +84,11 @@ impl SenderFollower {
         }
         Ok(())
     }
+}
+
+/// The act of an event, copied.
+fn act_of(event: &Event) -> Result<Act, AllocError>
+    ensures { IfOk result (λ act. act ≡ event.now.act) }
+{
+    event.act.clone()
 }

@@ -38,7 +38,7 @@ pub(crate) fn tell(alloc: Global, followers: &[Follower]) -> Result<Vec<Vec<Outc
 }
 
 /// A follower of each stream after these events, that of stream 1 first.
-fn followed(alloc: Global, events: &[Event]) -> Result<Vec<Follower>, AllocError>
+fn followed(alloc: Global, events: &[Event]) -> Result<Vec<Follower>, NoMemory>
     requires streams { All (λ e. IsStream e.stream) events.now }
     requires right { IsRight (reverse events.now) }
     requires honest { IsHonest (reverse events.now) }
@@ -47,17 +47,17 @@ fn followed(alloc: Global, events: &[Event]) -> Result<Vec<Follower>, AllocError
 {
     let mut followers = nothing_followed(alloc)?;
     for event in events {
-        follow(&mut followers, event)?;
+        follow(&mut followers, event.copy()?)?;
     }
     Ok(followers)
 }
 
 /// One event more.
-pub(crate) fn follow(followers: &mut Vec<Follower>, event: &Event) -> Result<(), AllocError>
-    requires stream { IsStream event.now.stream }
+pub(crate) fn follow(followers: &mut Vec<Follower>, event: Event) -> Result<(), AllocError>
+    requires stream { IsStream event.stream }
     requires followers { length followers.old.items ≡ 256 }
-    ensures followed { IfOk result (λ _. (past : List Event) → IsRight (event.now ∷ past) → IsHonest (event.now ∷ past) → IsFresh (event.now ∷ past)
-        → AreFollowed followers.old.items past → AreFollowed followers.new.items (event.now ∷ past)) }
+    ensures followed { IfOk result (λ _. (past : List Event) → IsRight (event ∷ past) → IsHonest (event ∷ past) → IsFresh (event ∷ past)
+        → AreFollowed followers.old.items past → AreFollowed followers.new.items (event ∷ past)) }
     ensures count { length followers.new.items ≡ 256 }
 {
     let follower = &mut followers[event.stream as usize - 1];
