@@ -18,7 +18,7 @@ use crate::site::{Hosted, Offered, Site};
 use crate::{Judgement, Reach, Verdict};
 use amo_journal::{Lines, TakeEvents, open};
 use amo_outcomes::{Followers, Outcome};
-use amo_world::{Event, NoMemory, World};
+use amo_world::{Event, NoMemory, World, WorldFault};
 use std::alloc::{AllocError, Global};
 
 /// What became of the puts of two journals.
@@ -184,17 +184,18 @@ impl Site for Followed {
 
     ghost MayEnd = { Unit {0} };
 
-    fn offer(&mut self, before: usize, event: Event) -> Result<Offered, AllocError> {
+    fn offer(&mut self, _before: usize, event: Event) -> Result<Offered, AllocError> {
         let Ok(copy) = event.copy() else {
             return Err(AllocError);
         };
-        match self.world.offer(before, event)? {
-            Offered::Taken => {
-                self.followers.follow(&copy)?;
+        match self.world.apply(event) {
+            Ok(()) => {
+                self.followers.follow(copy)?;
                 Ok(Offered::Taken)
             }
-            Offered::Unsent(event) => Ok(Offered::Unsent(event)),
-            Offered::GivenUp => Ok(Offered::GivenUp),
+            Err(WorldFault::Unsent) => Ok(Offered::Unsent(copy)),
+            Err(WorldFault::NoMemory) => Err(AllocError),
+            Err(WorldFault::WrongReply) | Err(WorldFault::Repeat) => Ok(Offered::GivenUp),
         }
     }
 }
@@ -235,7 +236,10 @@ impl TakeEvents for Audited {
     ghost HasTaken = { λ taker past. Finds taker.auditor.world taker.auditor.finding past × FollowsIfSound taker.followers past };
 
     fn take(&mut self, before: usize, event: Event) -> Result<(), AllocError> {
-        self.followers.follow(&event)?;
+        let Ok(copy) = event.copy() else {
+            return Err(AllocError);
+        };
+        self.followers.follow(copy)?;
         self.auditor.take(before, event)
     }
 }
