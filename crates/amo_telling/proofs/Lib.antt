@@ -2,3 +2,4 @@ pub mod Counted
 pub mod PutLines
 pub mod SoFar
 pub mod Journals
+pub mod LineByLine

@@ -7,7 +7,9 @@ use Rattle.amo_core.specs.declared.reply.Reply.{Reply}
 use Rattle.amo_core.specs.declared.reply.Reply.TheVariants as reply
 use Rattle.amo_world.specs.declared.event.Event.{Event}
 use Rattle.amo_journal.specs.declared.version.Version.{Version}
+use Rattle.amo_journal.specs.Journal.{InRange, fields_of}
 use Rattle.amo_journal.specs.Version.{lines_before}
+use Rattle.amo_text.specs.Line.{Lacks, text_of}
 use Rattle.amo_audit.specs.declared.reach.Reach.{Reach}
 use Rattle.amo_audit.specs.declared.reach.Reach.TheVariants.{First, Second}
 use Rattle.amo_telling.specs.declared.listing.Listing.{Listing}
@@ -58,6 +60,20 @@ pub record HasTold (choice : Manner) (listing : Listing) (counts text : List ℕ
 abbrev pub front_of : Option ℕ → Version → List Event → List Event
 front_of None version events = events
 front_of (Some line) version events = take (line - (1 + lines_before version)) events
+
+-- how many lines of a journal stand in front of that one; without one all do, which are fewer
+abbrev pub end_of : Option ℕ → Version → ℕ
+end_of None version = 18446744073709551615
+end_of (Some line) version = line - (1 + lines_before version)
+
+-- the text is that of the line of this number and this event
+abbrev pub IsLineOf : Version → ℕ → Event → List ℕ → Type 0
+IsLineOf version number e text = InRange version (record { number = number; event = e }) × (text ≡ text_of (fields_of (record { number = number; event = e })))
+
+-- this stands behind four fields of a text
+abbrev pub StandsBehind : List ℕ → List ℕ → Type 0
+StandsBehind text more = (a : List ℕ) × (b : List ℕ) × (c : List ℕ) × (d : List ℕ) × Lacks 32 a × Lacks 32 b × Lacks 32 c × Lacks 32 d
+    × (text ≡ a ++ 32 ∷ (b ++ 32 ∷ (c ++ 32 ∷ (d ++ 32 ∷ more))))
 
 -- the line at which what was judged of the first, or of the second, ends, if it does
 abbrev pub first_ends : Reach → Option ℕ

@@ -10,7 +10,7 @@ ghost use Rattle.amo_telling.specs.Alone.{IsTellingAlone, TellsFound};
 ghost use Rattle.amo_telling.specs.Outcomes.{IsKnownAlone, Tells, by};
 
 use crate::listing::Listing;
-use crate::puts::told_of_events;
+use crate::puts::{Report, told_of_events};
 use crate::{Asked, Choice};
 use amo_audit::{SenderFound, Verdict, sender_events};
 use amo_journal::JournalFault;
@@ -76,12 +76,7 @@ fn told_alone(
     ensures { IfOk result (λ text. Tells (IsKnownAlone (reverse events.now)) (by choice doubts.now) [] events.now text.items) }
 {
     let all = outcomes_of_sender(alloc, events)?;
-    let text = told_of_events(
-        alloc,
-        events,
-        choice,
-        doubts,
-        Listing::OfSender(all.as_slice()),
-    )?;
-    Ok(text)
+    let listing = Listing::OfSender(all.as_slice());
+    let report = Report { choice, doubts };
+    Ok(told_of_events(alloc, events, report, listing)?)
 }

@@ -14,7 +14,7 @@
 //! The number is that of the line in its journal, as it stands there in front. So it stays the same while a journal goes on, and an
 //! application may keep it beside its own work. A message is spelt as `amo receive` shows it, or as a member of a JSON object.
 //!
-//! A text is made whole, and then written. Of outcomes the events of one journal lie in memory at a time, of two once both were judged.
+//! A text is made whole, and then written. Of two journals no events lie in memory, of one alone all of them.
 //!
 //! Lines are defined in `specs/Shown.antt`, what is told of puts in `specs/Outcomes.antt` and `specs/Alone.antt`, and of gets in `specs/Got.antt`.
 #![tactic(auto)]

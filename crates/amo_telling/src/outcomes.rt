@@ -10,7 +10,7 @@ ghost use Rattle.amo_telling.specs.Outcomes.{IsTelling, TellsIf, by};
 ghost use Rattle.amo_telling.specs.Told.{first_ends, front_of, second_ends, told_text};
 
 use crate::listing::Listing;
-use crate::puts::told_of;
+use crate::puts::{Report, told_of};
 use crate::{Asked, Choice, Telling};
 use amo_audit::{Judgement, Reach, Verdict, outcomes_of};
 use amo_journal::{JournalFault, Lines, open};
@@ -70,13 +70,14 @@ fn text_of(
     ensures found { IfErr result (FindsBoth first.entry.bytes.now second.entry.bytes.now) }
 {
     let told = outcomes_of(alloc, first.bytes, second.bytes)?;
+    let listing = Listing::OfBoth(told.all.as_slice());
     match told_of_both(
         alloc,
         (open(first.bytes), first.doubts),
         (open(second.bytes), second.doubts),
         told.reach,
         choice,
-        Listing::OfBoth(told.all.as_slice()),
+        listing,
     ) {
         Ok(text) => Ok((text, told.reach)),
         Err(AllocError) => Err(Judgement::Whole(Verdict::NoMemory)),
@@ -103,8 +104,16 @@ fn told_of_both(
         Reach::First(line) => (Some(line), None),
         Reach::Second(line) => (None, Some(line)),
     };
-    let mut text = told_of(alloc, first.0, ends, choice, first.1, listing)?;
-    let more = told_of(alloc, second.0, other_ends, choice, second.1, listing)?;
+    let ours = Report {
+        choice,
+        doubts: first.1,
+    };
+    let theirs = Report {
+        choice,
+        doubts: second.1,
+    };
+    let mut text = told_of(alloc, first.0, ends, ours, listing)?;
+    let more = told_of(alloc, second.0, other_ends, theirs, listing)?;
     text.extend_from_slice(more.as_slice())?;
     Ok(text)
 }

@@ -4,4 +4,4 @@ use Rattle.amo_telling.specs.Outcomes.{by}
 use Rattle.amo_telling.proofs.puts.told_of_events.Goals as goal
 
 pub loop-event-init : goal.loop-event-init
-loop-event-init c = (refl, nothing_told (by c.args.choice c.args.doubts.now) _ c.new-text.result.items c.args.events.now c.new-text.ensures.items)
+loop-event-init c = (refl, nothing_told (by c.args.report.choice c.args.report.doubts.now) _ c.new-text.result.items c.args.events.now c.new-text.ensures.items)
