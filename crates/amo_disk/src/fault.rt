@@ -39,6 +39,9 @@ impl Display for Cause {
 /// Why a journal cannot go on. It is as it was; but where the device failed, a last line that was torn may be gone.
 #[derive(Clone, Copy, Debug, PartialEq, Eq, Error)]
 pub enum OpenFault {
+    /// It is a pipe, a device or a link to nowhere.
+    #[error("it is no file, and none can be made there")]
+    NoFile,
     /// Another process has the journal.
     #[error("another process has it in use")]
     InUse,

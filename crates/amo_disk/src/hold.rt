@@ -39,7 +39,11 @@ pub(crate) fn hold<R: Files<File = File>>(
             return Ok(held);
         }
     }
-    Err(OpenFault::InUse)
+    match fs::symlink_metadata(rt, path) {
+        // It leads nowhere, so it is not there, and cannot be made.
+        Ok(found) if found.is_symlink() => Err(OpenFault::NoFile),
+        _ => Err(OpenFault::InUse),
+    }
 }
 
 /// Takes hold of the files that are there. None where some got other names meanwhile.
@@ -50,6 +54,9 @@ fn look<R: Files<File = File>>(
 ) -> Result<Option<Held>, OpenFault> {
     let found = find_newest(rt, path)?;
     if let Some(newest) = &found {
+        if !newest.metadata()?.is_file() {
+            return Err(OpenFault::NoFile);
+        }
         try_lock(newest)?;
         if !is_named(rt, newest, path)? {
             return Ok(None);

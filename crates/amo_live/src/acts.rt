@@ -294,7 +294,7 @@ fn word_for(packet: &Packet<'_>, word: u64) -> u64
 }
 
 /// Whether a packet is one for this side.
-fn is_for(side: End, packet: &Packet<'_>) -> bool {
+pub(crate) fn is_for(side: End, packet: &Packet<'_>) -> bool {
     match packet.body {
         Body::Accept(_, _) | Body::Ack(_, _) => side == End::Sender,
         Body::NeedUid(_) | Body::Send(_, _) | Body::Batch(_, _) | Body::Cleanup(_) => {

@@ -138,6 +138,11 @@ impl<L: Link, S: Sink> Host<L, S> {
         self.journal.version()
     }
 
+    /// The number of the journal's next line when the last turn's lines were written down: so many are there, whatever becomes of this process.
+    pub fn safe_line(&self) -> u64 {
+        self.journal.safe_line()
+    }
+
     /// How many bytes of lines its journal was handed.
     pub fn journal_bytes(&self) -> u64 {
         self.journal.bytes()

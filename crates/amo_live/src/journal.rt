@@ -25,6 +25,8 @@ pub struct Journal<S> {
     left: u64,
     /// How many bytes of lines it was handed.
     bytes: u64,
+    /// The number of the next line when all lines were handed on last: so many are there, whatever becomes of this process.
+    safe: u64,
     opened: Snapshot<S>,
     first: Snapshot<u64>,
     is_new: Snapshot<bool>,
@@ -62,6 +64,7 @@ impl<S: Sink + Drop> Journal<S> {
             next: 0,
             left: 0,
             bytes: 0,
+            safe: 0,
             opened,
             first,
             is_new,
@@ -88,6 +91,7 @@ impl<S: Sink> Journal<S> {
             next: lines,
             left,
             bytes: 0,
+            safe: lines,
             opened,
             first,
             is_new,
@@ -107,6 +111,11 @@ impl<S: Sink> Journal<S> {
         ensures { result ≡ self.now.next }
     {
         self.next
+    }
+
+    /// The number of the next line when all lines were handed on last.
+    pub fn safe_line(&self) -> u64 {
+        self.safe
     }
 
     /// How many bytes of lines it was handed since it was opened.
@@ -156,7 +165,10 @@ impl<S: Durable> Journal<S> {
         ensures holds { (history : List Event) → Holds S.written self.old history → Holds S.written self.new history }
     {
         match self.sink.flush() {
-            Ok(()) => Ok(()),
+            Ok(()) => {
+                self.safe = self.next;
+                Ok(())
+            }
             Err(_) => Err(LiveFault::Journal),
         }
     }
@@ -172,7 +184,10 @@ impl<S: Durable> Journal<S> {
         ensures holds { (history : List Event) → Holds S.written self.old history → Holds S.written self.new history }
     {
         match self.sink.sync() {
-            Ok(()) => Ok(()),
+            Ok(()) => {
+                self.safe = self.next;
+                Ok(())
+            }
             Err(_) => Err(LiveFault::Journal),
         }
     }

@@ -62,6 +62,14 @@ impl OpenedLives {
         self.lives.is_none()
     }
 
+    /// Whether it tells of a life.
+    pub fn has_lives(&self) -> bool {
+        match &self.lives {
+            Some(lives) => !lives.lives().is_empty(),
+            None => false,
+        }
+    }
+
     /// The lives of a host whose journal has so many lines, behind which its next lives are written into the file of this path. They are refused, and the
     /// file is left as it is, where they are not those of such a journal. A new file gets its key, which the system draws, and its heading. Where it is
     /// to be synced, it and the entry of its directory are on the disk then.

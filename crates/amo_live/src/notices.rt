@@ -72,6 +72,7 @@ pub struct Notices {
     silence: Silence,
     batch: bool,
     streams: bool,
+    stray: bool,
 }
 
 impl Notices {
@@ -81,6 +82,7 @@ impl Notices {
             silence: Silence::new(),
             batch: false,
             streams: false,
+            stray: false,
         }
     }
 
@@ -94,6 +96,7 @@ impl Notices {
         self.tell_of_peer(rt, service.has_heard(), !service.is_at_rest(), now);
         self.tell_of_batch(rt, service.has_missed_batch());
         self.tell_of_streams(rt, service.foreign_stream(), service.streams());
+        self.tell_of_stray(rt, service.has_stray());
     }
 
     /// Tells that the peer is silent, or that it is heard again.
@@ -126,6 +129,16 @@ impl Notices {
             self.streams = true;
             let _ = eprintln!(rt;
                 "amo: a packet came for stream {stream}, and this host has {streams}: give both hosts as many --streams"
+            );
+        }
+    }
+
+    /// Tells that a packet came for the other side.
+    fn tell_of_stray<C: Eprint>(&mut self, rt: &C, is_stray: bool) {
+        if is_stray && !self.stray {
+            self.stray = true;
+            let _ = eprintln!(rt;
+                "amo: a packet came that is for the other side: of two hosts one has to send, and the other to receive"
             );
         }
     }

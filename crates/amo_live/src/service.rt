@@ -14,6 +14,7 @@ mod door;
 mod getting;
 mod notes;
 
+use crate::acts::is_for;
 use crate::lines::{Spelling, Word, push_word};
 use crate::{Dropped, Figures, Host, Lineage, LiveFault, Times};
 use amo_core::{MAX_WAITING, Mode};
@@ -98,6 +99,8 @@ pub struct Service<L, S, W> {
     next: u32,
     /// A stream that it has not, for which a packet came.
     foreign: Option<u32>,
+    /// A packet came for the other side, as this host sends them.
+    astray: bool,
     /// No more messages are accepted.
     closes: bool,
     put: u64,
@@ -172,6 +175,7 @@ impl<L: Link + Drop, S: Sink + Drop, W: Lineage + Drop> Service<L, S, W> {
             behind: false,
             next: 1,
             foreign: None,
+            astray: false,
             closes: false,
             put: 0,
             yes: 0,
@@ -267,6 +271,11 @@ impl<L: Link, S: Sink, W: Lineage> Service<L, S, W> {
     /// A stream that it has not, for which a packet came, if one did.
     pub fn foreign_stream(&self) -> Option<u32> {
         self.foreign
+    }
+
+    /// Whether a packet came for the other side, as this host sends them.
+    pub fn has_stray(&self) -> bool {
+        self.astray
     }
 
     /// Whether no stream waits for its peer, and each client has its answers.
@@ -442,7 +451,7 @@ impl<L: Link, S: Sink, W: Lineage> Service<L, S, W> {
         ensures words { OnOk result (BearsNew W.is_drawn (words_of self.old) (words_of self.new) self.old.host.pass self.new.host.pass) }
         ensures same { self.new ≡ record self.old { host = self.new.host; words = self.new.words } }
     {
-        let word = draw(&mut self.words, self.host.next_line())?;
+        let word = draw(&mut self.words, self.host.safe_line())?;
         self.start(stream, word, now)
     }
 
@@ -561,6 +570,10 @@ impl<L: Link, S: Sink, W: Lineage> Service<L, S, W> {
             self.drop_foreign(packet.stream);
             return Ok(());
         }
+        if !is_for(self.setup.side, &packet) {
+            self.drop_stray();
+            return Ok(());
+        }
         let before = self.host.mode_of(packet.stream);
         let Some((stream, mode)) = self.deliver_anew(&packet, bytes, now)? else {
             self.drop_idle();
@@ -615,7 +628,7 @@ impl<L: Link, S: Sink, W: Lineage> Service<L, S, W> {
         if self.closes || self.has_enough() {
             return Ok(None);
         }
-        let word = draw(&mut self.words, self.host.next_line())?;
+        let word = draw(&mut self.words, self.host.safe_line())?;
         self.host.deliver(bytes, word, now)
     }
 
@@ -707,15 +720,16 @@ fn is_other(before: Option<Mode>, after: Mode) -> bool {
     }
 }
 
-/// The next word. Where this life has no more, another one begins, whose next line in the journal has this number.
+/// The next word. Where this life has no more, another one begins: no line of the journal before this number bears one of its words. So many lines are there,
+/// or a host that dies now would leave a file of lives that tells of more.
 #[tactic(auto, using(crate::proofs::Fresh::new_behind, crate::proofs::Fresh::stays_on))]
-fn draw<W: Lineage>(words: &mut W, next_line: u64) -> Result<u64, LiveFault>
+fn draw<W: Lineage>(words: &mut W, line: u64) -> Result<u64, LiveFault>
     ensures new { IfOk result (IsNew (W.is_drawn words.old) (W.is_drawn words.new)) }
     ensures stays { OnOk result (StaysDrawn (W.is_drawn words.old) (W.is_drawn words.new)) }
 {
     match words.next() {
         Some(word) => Ok(word),
-        None => words.begin(next_line),
+        None => words.begin(line),
     }
 }
 

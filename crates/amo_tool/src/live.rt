@@ -215,6 +215,9 @@ pub(crate) fn open_lives<
     if opened.is_new() && lines > 0 {
         tell_of_new_lives(rt, path);
     }
+    if opened.has_lives() && lines == 0 {
+        tell_of_lost_journal(rt, path);
+    }
     match opened.go_on(rt, alloc, path, lines, plan.limits.sync, cause, blank) {
         Ok(lives) => Ok(lives),
         Err(fault) => Err(Failure::of_lives(alloc, path, fault)),
@@ -224,6 +227,13 @@ pub(crate) fn open_lives<
 /// Tells that a journal goes on, and that the key of its words is not known any more.
 fn tell_of_new_lives<R: Eprint>(rt: &R, path: &str) {
     let _ = eprintln!(rt; "amo: {path}: it is begun with a new key, beside a journal that goes on");
+}
+
+/// Tells that a journal has no line, and that an earlier host had it.
+fn tell_of_lost_journal<R: Eprint>(rt: &R, path: &str) {
+    let _ = eprintln!(rt;
+        "amo: {path}: it tells of an earlier life, and the journal has no line: was it moved away?"
+    );
 }
 
 /// Opens the socket. Answers its port, too.

@@ -67,6 +67,14 @@ impl<L: Link, S: Sink, W: Lineage> Service<L, S, W> {
         self.dropped.foreign = self.dropped.foreign.saturating_add(1);
     }
 
+    /// A packet came for the other side.
+    pub(crate) fn drop_stray(&mut self)
+        ensures { self.new ≡ record self.old { astray = self.new.astray; dropped = self.new.dropped } }
+    {
+        self.astray = true;
+        self.dropped.idle = self.dropped.idle.saturating_add(1);
+    }
+
     /// A packet came that made no event.
     pub(crate) fn drop_idle(&mut self)
         ensures { self.new ≡ record self.old { dropped = self.new.dropped } }
