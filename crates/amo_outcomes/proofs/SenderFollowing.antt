@@ -218,6 +218,12 @@ pub sender_followed_at : (followers : List SenderFollower) (past : List Event) (
 sender_followed_at followers past place f all within at = all.each place f (slice_get_read followers 256 place f
     (sym all.count) within at)
 
+pub sender_followed_of : (followers : List SenderFollower) (past : List Event) (stream : ℕ) (f : SenderFollower) → IsStream stream → SendersFollowed followers past
+    → f ≡ get_or followers (stream - 1) f → IsSenderFollowed f stream past
+sender_followed_of followers past stream f ranged all at =
+    let number : stream - 1 + 1 ≡ stream = omega (arith, ranged.0, ranged.1) in
+    subst (λ (n : ℕ). IsSenderFollowed f n past) number (sender_followed_at followers past (stream - 1) f all (omega (arith, ranged.0, ranged.1)) at)
+
 -- so many followers, of streams in which nothing happened
 pub record NoSenderFollowed (followers : List SenderFollower) (number : ℕ) : Type 0 where
   pub count : length followers ≡ number

@@ -9,3 +9,4 @@ pub mod SenderOutcome
 pub mod Marks
 pub mod SenderPlaces
 pub mod SenderFollower
+pub mod SenderFollowers

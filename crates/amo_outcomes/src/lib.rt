@@ -34,8 +34,8 @@
 //! it, though its identifier died with a receiver; here it is gone.
 //!
 //! [`Followers`] tells the same of events that come one by one. It keeps none of them: of each stream both automata, and of the puts only
-//! those that are open, some twenty at most, and whether each was got. A follower of a sender alone keeps a mark of each put, and the handshakes
-//! of which no ack said that they were got.
+//! those that are open, some twenty at most, and whether each was got. [`SenderFollowers`] tell so what a sender's own events tell: they keep a mark
+//! of each put, and the handshakes of which no ack said that they were got.
 #![tactic(auto)]
 
 mod follower;
@@ -45,6 +45,7 @@ mod marks;
 mod outcome;
 mod places;
 mod sender_follower;
+mod sender_followers;
 mod sender_outcome;
 mod sender_places;
 mod sender_telling;
@@ -52,6 +53,7 @@ mod telling;
 
 pub use followers::Followers;
 pub use outcome::Outcome;
+pub use sender_followers::SenderFollowers;
 pub use sender_outcome::SenderOutcome;
 pub use sender_telling::outcomes_of_sender;
 pub use telling::outcomes;

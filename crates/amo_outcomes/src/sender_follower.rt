@@ -1,8 +1,9 @@
 //! A stream, followed by its sender's own events.
-ghost use Rattle.std.specs.Prelude.{◌≡◌, ◌∷◌, ◌<◌, ℕ, length, List, [], IfOk};
+ghost use Rattle.std.specs.Prelude.{◌≡◌, ◌∷◌, ◌<◌, ◌≤◌, ℕ, length, List, [], IfOk, IfSome, IsNone};
 ghost use Rattle.amo_core.specs.Sender.{row, kind};
 ghost use Rattle.amo_world.specs.declared.event.Event.{Event};
 ghost use Rattle.amo_world.specs.History.{IsRight};
+ghost use Rattle.amo_outcomes.specs.Puts.{puts_after};
 ghost use Rattle.amo_outcomes.specs.SenderOutcome.{HasSenderOutcome, AreSenderOutcomes};
 ghost use Rattle.amo_outcomes.specs.SenderPlaces.{Acts};
 ghost use Rattle.amo_outcomes.specs.SenderFollower.{IsSenderFollowed};
@@ -56,6 +57,18 @@ impl SenderFollower {
             told.push(self.outcome(put))?;
         }
         Ok(told)
+    }
+
+    /// What became of the put of this number, if so many were taken.
+    pub(crate) fn told(&self, put: usize) -> Option<SenderOutcome>
+        ensures none { IsNone result → (number : ℕ) (past : List Event) → IsSenderFollowed self.now number past → (puts_after number past).count ≤ put }
+        ensures some { IfSome result (λ outcome. (number : ℕ) (past : List Event) → IsSenderFollowed self.now number past → HasSenderOutcome number past put outcome) }
+    {
+        if put < self.places.count() {
+            Some(self.outcome(put))
+        } else {
+            None
+        }
     }
 
     /// What became of a put that was taken.

@@ -53,10 +53,11 @@ fn followed(alloc: Global, events: &[Event]) -> Result<Vec<SenderFollower>, Allo
 }
 
 /// One event more.
-fn follow(followers: &mut Vec<SenderFollower>, event: &Event) -> Result<(), AllocError>
+pub(crate) fn follow(followers: &mut Vec<SenderFollower>, event: &Event) -> Result<(), AllocError>
     requires stream { IsStream event.now.stream }
     requires followers { length followers.old.items ≡ 256 }
-    ensures { IfOk result (λ _. (past : List Event) → IsRight (event.now ∷ past) → SendersFollowed followers.old.items past
+    ensures all { length followers.new.items ≡ 256 }
+    ensures followed { IfOk result (λ _. (past : List Event) → IsRight (event.now ∷ past) → SendersFollowed followers.old.items past
         → SendersFollowed followers.new.items (event.now ∷ past)) }
 {
     let follower = &mut followers[event.stream as usize - 1];
@@ -65,7 +66,7 @@ fn follow(followers: &mut Vec<SenderFollower>, event: &Event) -> Result<(), Allo
 }
 
 /// A follower of the sender of each stream of hosts where nothing happened, that of stream 1 first.
-fn nothing_followed(alloc: Global) -> Result<Vec<SenderFollower>, AllocError>
+pub(crate) fn nothing_followed(alloc: Global) -> Result<Vec<SenderFollower>, AllocError>
     ensures { IfOk result (λ followers. SendersFollowed followers.items []) }
 {
     let mut followers = Vec::with_capacity(alloc, STREAMS as usize)?;

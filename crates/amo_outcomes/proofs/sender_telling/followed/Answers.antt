@@ -14,6 +14,6 @@ loop-event-preserved c =
     let history : reverse (take (place + 1) events) ≡ event ∷ reverse
     (take place events) = past_next events place event within c.event-item.is in
     subst (λ (past : List Event). SendersFollowed c.follow.new.followers.items past) (sym history)
-    (c.in_ok-follow.ensures (reverse (take place events))
+    (c.in_ok-follow.ensures.followed (reverse (take place events))
     (subst (λ (past : List Event). IsRight past) history (beginning HasRightReply events (place + 1) c.requires.right))
     c.loop-event.invariant)
