@@ -129,7 +129,7 @@ pub record HasReceive (rows : List Row) (receive : ReceiveSettings) : Type 0 whe
   pub count : HasNumberOrNone rows (codes "count") receive.count
   pub some : IfSome receive.count (λ count. 1 ≤ count)
 
--- the matches of `serve` have these values, each within its limits. Nothing is shown, in whatever spelling, and there is no end at which to wait.
+-- the matches of `serve` have these values, each within its limits. Nothing is shown, in whatever spelling.
 pub record HasServedHost (rows : List Row) (host : HostSettings) : Type 0 where
   pub listen : HasAddress rows (codes "listen") 0 (string_bytes host.listen)
   pub peer : HasAddress rows (codes "peer") 1 (string_bytes host.peer)
@@ -138,8 +138,9 @@ pub record HasServedHost (rows : List Row) (host : HostSettings) : Type 0 where
   pub journal : HasJournal rows (string_bytes host.journal)
   pub tick : HasNumber rows (codes "tick") host.tick
   pub sync : HasFlag rows (codes "sync") host.sync
+  pub wait : HasNumberOrNone rows (codes "wait") host.wait
   pub piece : HasNumberOrNone rows (codes "piece") host.piece
-  pub plain : (host.json ≡ false) × (host.wait ≡ None)
+  pub plain : host.json ≡ false
   pub within : IsHostWithin host
 
 -- the matches of `serve` have this side: a sender takes messages one by one, and may start batches; a receiver takes all that come, batches too

@@ -103,7 +103,7 @@ abbrev pub served : App
 served = with_rule (with_rule (with_rule (placed (codes "serve")) (text (codes "side"))) (text (codes "door"))) (optional_text (codes "token-file"))
 
 abbrev pub serve : App
-serve = with_rule (with_rule (with_rule (with_rule served tick) (flag (codes "batch"))) (flag (codes "sync"))) (optional_number (codes "piece") 1024 1000000000000)
+serve = with_rule (with_rule (with_rule (with_rule (with_rule served tick) (flag (codes "batch"))) (flag (codes "sync"))) (optional_number (codes "wait") 0 1000000)) (optional_number (codes "piece") 1024 1000000000000)
 
 abbrev pub audit : App
 audit = with_rule (with_rule (new_app (codes "audit")) file) second_file

@@ -219,6 +219,7 @@ fn parse_served_host(alloc: Global, matches: &ArgMatches<'_>) -> Result<HostSett
     let journal = journal_of(alloc, matches)?;
     let tick = number_of(alloc, matches, "tick", 1, TICK)?;
     let sync = flag_of(alloc, matches, "sync")?;
+    let wait = number_or_none_of(alloc, matches, "wait", 0, WAIT)?;
     let piece = number_or_none_of(alloc, matches, "piece", LEAST_PIECE, PIECE)?;
     Ok(HostSettings {
         listen,
@@ -230,7 +231,7 @@ fn parse_served_host(alloc: Global, matches: &ArgMatches<'_>) -> Result<HostSett
         json: false,
         sync,
         piece,
-        wait: None,
+        wait,
         stats: None,
     })
 }

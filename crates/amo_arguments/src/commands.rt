@@ -248,6 +248,14 @@ fn serve<'a>(alloc: Global) -> Result<Command<'a>, AllocError>
         ))?
         .arg(optional_number(
             alloc,
+            "wait",
+            "SECONDS",
+            0,
+            WAIT,
+            "How long it waits at its end for what is on its way, 0 to 1000000",
+        ))?
+        .arg(optional_number(
+            alloc,
             "piece",
             "BYTES",
             LEAST_PIECE,

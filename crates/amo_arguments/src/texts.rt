@@ -215,7 +215,9 @@ pub(crate) const STOP_ABOUT: &str = "Has a host come to its end, and waits until
 pub(crate) const STOP_AFTER_HELP: &str =
     "FILE is the journal of the host, as --journal names it. A host that sends takes no more lines, and goes
 on until all that was put is answered. One that receives accepts nothing more, and shows what has
-come. Either waits for what is on its way as long as its own --wait says.
+come. One that programs ask, as `amo serve` has it, takes nothing more to put and lets nobody wait; one
+that receives lets them take what has come. Each waits for what is on its way as long as its own --wait
+says.
 
 The host is asked by the socket FILE.stop, which is there while it is at work, for its owner alone.
 Where the name is longer than the system allows for sockets, 107 bytes, the host says so at its start,
@@ -243,6 +245,7 @@ its door, over HTTP/1.1:
   POST /v1/streams/3/messages                     puts the body without a number
   GET /v1/streams/3/messages/18?life=L            what became of message 18
   POST /v1/streams/3/take?life=L&by=B&number=13&wait=30   takes message 13, at a receiver
+  GET /v1/streams/3/got?after=LINE                what was taken, in any life, by the journal
   GET /v1/events, GET /metrics, GET /healthz, GET /       what happens, counts, health, a page
 Who asks names the life of the host, a word of its own and the number that is next: so a call whose
 answer was lost can be made again, and nothing is put or taken twice. A message that has come stays
@@ -257,14 +260,18 @@ ADDR is HOST:PORT. What comes from elsewhere than from --peer is dropped, but no
 use a network that keeps forgers out. An answer leaves once the journal has the lines of all that it
 tells of; with --sync, once they are on the disk. Journals, pieces and kills are as of `amo send`.
 
-It goes on until it is ended. SIGTERM and SIGINT end it at once, which is a crash like any other.
+It goes on until `amo stop FILE` has it come to its end, or until it is ended: SIGTERM and SIGINT do so at
+once, which is a crash like any other. At its end it waits as --wait says for what is on its way: without
+it as long as that takes, and one that receives for a second.
 
 Status:
+  0  it was asked to end, and all is answered
   2  arguments that do not parse
   4  as of `amo send`, and
      `amo: cannot listen on ADDR: CAUSE`: also of the door
      `amo: the door at ADDR is open to other machines: give --token-file`
      `amo: FILE: it has no token: ..`: a token is one line of 16 to 256 letters, digits and -._~+/=
+  5  it was asked to end, and something is still on its way, or was not taken
 
 Example:
   amo serve --side send --listen 127.0.0.1:7001 --peer 127.0.0.1:7002 --streams 8 \\
