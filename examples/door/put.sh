@@ -1,7 +1,8 @@
 #!/bin/sh
 # Puts a message through a host's door by curl, once, however often it is started again: put.sh URL STREAM FILE TEXT
 # FILE is of this message alone. It keeps the call, before it is made, and FILE.done what it was answered: where they are there, that call is made again, or
-# its answer is told. Remove both once it is noted elsewhere that the message was put; not before, as a script that is killed behind that would put it twice.
+# its answer is told. Where the host was started again meanwhile, it is asked what became of the message of that call: one that was not got and never will be is
+# put anew. Remove both files once it is noted elsewhere that the message was put; not before, as a script that is killed behind that would put it twice.
 set -eu
 
 url=$1 stream=$2 file=$3 text=$4
@@ -24,6 +25,16 @@ target=$(cat "$file")
 until status=$(printf %s "$text" | curl -sS -o "$file.answer" -w '%{http_code}' -X PUT --data-binary @- "$url$target") && [ "$status" != 503 ]; do
     sleep 1
 done
+if [ "$status" = 410 ]; then
+    curl -sS -o "$file.answer" "$url${target%&by=*}"
+    case $(member outcome <"$file.answer") in
+    never | gone)
+        rm "$file.answer" "$file"
+        exec "$0" "$@"
+        ;;
+    got | open | unknown | settled) status=200 ;;
+    esac
+fi
 echo >>"$file.answer"
 case $status in
 200 | 201)
@@ -31,7 +42,7 @@ case $status in
     cat "$file.done"
     ;;
 *)
-    # The host was started again, or another program puts on the stream: whether this was put, the host's journal tells.
+    # Another program puts on the stream, or the host does not know the life of the call: whether this was put, the host's journal tells.
     cat "$file.answer"
     rm "$file.answer"
     echo "put.sh: see whether it was put, by amo outcomes JOURNAL; then remove $file" >&2

@@ -10,6 +10,7 @@ use Rattle.amo_door.specs.declared.answer.Extra.TheVariants as extra
 use Rattle.amo_door.specs.declared.answer.Fate.{Fate}
 use Rattle.amo_door.specs.declared.answer.Fate.TheVariants as fate
 use Rattle.amo_door.specs.declared.answer.GotMessage.{GotMessage}
+use Rattle.amo_door.specs.declared.answer.GotPage.{GotPage}
 use Rattle.amo_door.specs.declared.answer.Kind.{Kind}
 use Rattle.amo_door.specs.declared.answer.Kind.TheVariants as kind
 use Rattle.amo_door.specs.declared.answer.Last.{Last}
@@ -145,7 +146,7 @@ line_front line = codes "{\"line\":" ++ decimal line ++ codes ","
 
 -- the object about a message that was got
 abbrev pub got_message : GotMessage → List ℕ
-got_message got = line_front got.line ++ message_member got.message.now ++ codes "}"
+got_message got = line_front got.line ++ message_member got.message ++ codes "}"
 
 -- the same behind another one
 abbrev pub next_got : GotMessage → List ℕ
@@ -156,6 +157,19 @@ abbrev pub got_list : List GotMessage → List ℕ
 got_list [] = []
 got_list (first ∷ rest) = got_message first ++ flat_map next_got rest
 
+-- the number of a line, or null
+abbrev pub line_value : Option ℕ → List ℕ
+line_value (Some line) = decimal line
+line_value None = codes "null"
+
+-- whether there are more lines, and the end of the object
+abbrev pub more_end : Bool → List ℕ
+more_end more = codes ",\"more\":" ++ truth more ++ codes "}"
+
+-- which lines were read, behind the messages that they tell
+abbrev pub got_end : GotPage → List ℕ
+got_end page = codes "],\"from\":" ++ line_value page.from ++ codes ",\"next\":" ++ line_value page.next ++ more_end page.more
+
 -- the object about messages that were got of a stream
-abbrev pub got_body : ℕ → List GotMessage → List ℕ
-got_body stream messages = got_front stream ++ got_list messages ++ codes "]}"
+abbrev pub got_body : ℕ → GotPage → List ℕ
+got_body stream page = got_front stream ++ got_list page.messages.items ++ got_end page

@@ -3,7 +3,7 @@ use Rattle.std.specs.Prelude.{ℕ, Option, None, Some, List, codes}
 use Rattle.amo_door.specs.declared.query.QueryFault.{QueryFault}
 use Rattle.amo_door.specs.declared.query.QueryFault.TheVariants as query
 use Rattle.amo_door.specs.declared.refusal.Refusal.{Refusal}
-use Rattle.amo_door.specs.declared.refusal.Refusal.TheVariants.{Unreadable, Unknown, Repeated, Missing, Wrong, Stray, Token, Origin, NoPlace, NoStream, NoNumber, OtherSide, Method, Slow, Conflict, OtherLife, OtherOutcome, TooLong, LongTarget, Host, LongHead, Coding, Full, NotNow, Crowded}
+use Rattle.amo_door.specs.declared.refusal.Refusal.TheVariants.{Unreadable, Unknown, Repeated, Missing, Wrong, Stray, Token, Origin, NoPlace, NoStream, NoNumber, OtherSide, Method, Slow, Conflict, OtherLife, UnknownLife, TooLong, LongTarget, Host, LongHead, Journal, Coding, Full, NotNow, Ending, Crowded}
 use Rattle.amo_door.specs.Place.{methods_of}
 
 -- the status of a refusal (RFC 9110, section 15; RFC 6585 for 431)
@@ -24,14 +24,16 @@ status_of (Method _) = 405
 status_of Slow = 408
 status_of Conflict = 409
 status_of OtherLife = 410
-status_of OtherOutcome = 410
+status_of UnknownLife = 410
 status_of TooLong = 413
 status_of LongTarget = 414
 status_of Host = 421
 status_of LongHead = 431
+status_of Journal = 500
 status_of Coding = 501
 status_of Full = 503
 status_of NotNow = 503
+status_of Ending = 503
 status_of Crowded = 503
 
 -- the word that tells a refusal from others
@@ -52,14 +54,16 @@ word_of (Method _) = codes "method"
 word_of Slow = codes "slow"
 word_of Conflict = codes "conflict"
 word_of OtherLife = codes "other_life"
-word_of OtherOutcome = codes "other_outcome"
+word_of UnknownLife = codes "unknown_life"
 word_of TooLong = codes "too_long"
 word_of LongTarget = codes "long_target"
 word_of Host = codes "host"
 word_of LongHead = codes "long_head"
+word_of Journal = codes "journal"
 word_of Coding = codes "coding"
 word_of Full = codes "full"
 word_of NotNow = codes "not_now"
+word_of Ending = codes "ending"
 word_of Crowded = codes "crowded"
 
 -- the methods of a place that was asked by another one

@@ -7,11 +7,12 @@ ghost use Rattle.amo_door.specs.Answer.{IsRefusal, extra_of, got_body, host_body
 ghost use Rattle.amo_door.specs.Refusal.{status_of};
 
 use crate::json::{
-    push_got, push_got_front, push_host, push_life, push_place, push_receiver, push_refusal,
-    push_sender,
+    push_got, push_got_end, push_got_front, push_host, push_life, push_place, push_receiver,
+    push_refusal, push_sender,
 };
 use crate::{EventPlace, Made, Place, Refusal, Word};
 use amo_object::End;
+use amo_packet::Message;
 use amo_text::push_decimal;
 use std::alloc::{AllocError, Global};
 
@@ -155,12 +156,25 @@ pub struct About<'a> {
 }
 
 /// A message that was got, as its receiver's journal tells it.
-#[derive(Clone, Copy, Debug)]
-pub struct GotMessage<'a> {
+#[derive(Debug, Drop)]
+pub struct GotMessage {
     /// The number of its line.
     pub line: u64,
-    /// Its bytes.
-    pub message: &'a [u8],
+    /// The message.
+    pub message: Message,
+}
+
+/// Messages that were got of a stream, as some lines of its receiver's journal tell it.
+#[derive(Debug, Drop)]
+pub struct GotPage {
+    /// The messages, in the order of their lines.
+    pub messages: Vec<GotMessage>,
+    /// The number of the first of those lines; none where there are no more.
+    pub from: Option<u64>,
+    /// The number of the last line that was read, behind which to go on; none where none is there.
+    pub next: Option<u64>,
+    /// Whether there are lines behind that.
+    pub more: bool,
 }
 
 impl Answer {
@@ -280,19 +294,15 @@ impl Answer {
         Ok(Answer::new(200, Kind::Json, body))
     }
 
-    /// Which messages were got of a stream, in their order.
-    pub fn got(
-        alloc: Global,
-        stream: u32,
-        messages: &[GotMessage<'_>],
-    ) -> Result<Answer, AllocError>
+    /// Which messages were got of a stream, as some lines tell it.
+    pub fn got(alloc: Global, stream: u32, page: &GotPage) -> Result<Answer, AllocError>
         ensures head { IfOk result (λ answer. (answer.status ≡ 200) × (answer.kind ≡ AnyKind.Json) × (answer.extra ≡ AnyExtra.None)) }
-        ensures body { IfOk result (λ answer. answer.body.items ≡ got_body stream messages.now) }
+        ensures body { IfOk result (λ answer. answer.body.items ≡ got_body stream page.now) }
     {
         let mut body = Vec::new(alloc);
         push_got_front(&mut body, stream)?;
-        push_got(&mut body, messages)?;
-        body.extend_from_slice(b"]}")?;
+        push_got(&mut body, page.messages.as_slice())?;
+        push_got_end(&mut body, page)?;
         Ok(Answer::new(200, Kind::Json, body))
     }
 

@@ -3,10 +3,10 @@ ghost use Rattle.std.specs.Prelude.{◌≡◌, ◌++◌, OnOk};
 ghost use Rattle.std.specs.List.{flat_map, list_any};
 ghost use Rattle.std.specs.Char.{is_ascii_control};
 ghost use Rattle.std.specs.Str.{chars};
-ghost use Rattle.amo_door.specs.Answer.{count_members, fate_word, got_front, got_list, got_message, host_body, last_value, life_member, line_front, network_members, next_got, place_members, program_members, receiver_members, refusal_members, sender_members, side_member, stream_members, streams_member, truth};
+ghost use Rattle.amo_door.specs.Answer.{count_members, fate_word, got_end, got_front, got_list, got_message, line_value, host_body, last_value, life_member, line_front, more_end, network_members, next_got, place_members, program_members, receiver_members, refusal_members, sender_members, side_member, stream_members, streams_member, truth};
 ghost use Rattle.amo_door.specs.Json.{escaped, is_text, message_member, quoted};
 
-use crate::{About, Fate, GotMessage, Last, ReceiverState, Refusal, SenderState, Word};
+use crate::{About, Fate, GotMessage, GotPage, Last, ReceiverState, Refusal, SenderState, Word};
 use amo_object::End;
 use amo_text::{push_decimal, push_hex};
 use std::alloc::AllocError;
@@ -167,7 +167,7 @@ pub(crate) fn push_got_front(text: &mut Vec<u8>, stream: u32) -> Result<(), Allo
 }
 
 /// Appends messages that were got, with commas between them.
-pub(crate) fn push_got(text: &mut Vec<u8>, messages: &[GotMessage<'_>]) -> Result<(), AllocError>
+pub(crate) fn push_got(text: &mut Vec<u8>, messages: &[GotMessage]) -> Result<(), AllocError>
     ensures { OnOk result (text.new.items ≡ text.old.items ++ got_list messages.now) }
 {
     match messages {
@@ -180,7 +180,7 @@ pub(crate) fn push_got(text: &mut Vec<u8>, messages: &[GotMessage<'_>]) -> Resul
 }
 
 /// Appends messages that were got behind another one.
-fn push_more_got(text: &mut Vec<u8>, messages: &[GotMessage<'_>]) -> Result<(), AllocError>
+fn push_more_got(text: &mut Vec<u8>, messages: &[GotMessage]) -> Result<(), AllocError>
     ensures { OnOk result (text.new.items ≡ text.old.items ++ flat_map next_got messages.now) }
 {
     for message in messages {
@@ -190,19 +190,49 @@ fn push_more_got(text: &mut Vec<u8>, messages: &[GotMessage<'_>]) -> Result<(), 
 }
 
 /// Appends a message that was got behind another one.
-fn push_next_got(text: &mut Vec<u8>, message: &GotMessage<'_>) -> Result<(), AllocError>
+fn push_next_got(text: &mut Vec<u8>, message: &GotMessage) -> Result<(), AllocError>
     ensures { OnOk result (text.new.items ≡ text.old.items ++ next_got message.now) }
 {
     text.extend_from_slice(b",")?;
     push_got_message(text, message)
 }
 
+/// Appends the lines that were read, whether there are more, and the end of an object about messages that were got.
+pub(crate) fn push_got_end(text: &mut Vec<u8>, page: &GotPage) -> Result<(), AllocError>
+    ensures { OnOk result (text.new.items ≡ text.old.items ++ got_end page.now) }
+{
+    text.extend_from_slice(b"],\"from\":")?;
+    push_line_value(text, page.from)?;
+    text.extend_from_slice(b",\"next\":")?;
+    push_line_value(text, page.next)?;
+    push_more(text, page.more)
+}
+
+/// Appends whether there are more lines, and the end of the object.
+fn push_more(text: &mut Vec<u8>, more: bool) -> Result<(), AllocError>
+    ensures { OnOk result (text.new.items ≡ text.old.items ++ more_end more) }
+{
+    text.extend_from_slice(b",\"more\":")?;
+    text.extend_from_slice(truth(more).as_bytes())?;
+    text.extend_from_slice(b"}")
+}
+
+/// Appends the number of a line, if there is one, as a value.
+fn push_line_value(text: &mut Vec<u8>, line: Option<u64>) -> Result<(), AllocError>
+    ensures { OnOk result (text.new.items ≡ text.old.items ++ line_value line) }
+{
+    match line {
+        Some(line) => push_decimal(text, line),
+        None => text.extend_from_slice(b"null"),
+    }
+}
+
 /// Appends a message that was got.
-fn push_got_message(text: &mut Vec<u8>, message: &GotMessage<'_>) -> Result<(), AllocError>
+fn push_got_message(text: &mut Vec<u8>, message: &GotMessage) -> Result<(), AllocError>
     ensures { OnOk result (text.new.items ≡ text.old.items ++ got_message message.now) }
 {
     push_line(text, message.line)?;
-    push_message(text, message.message)?;
+    push_message(text, message.message.bytes())?;
     text.extend_from_slice(b"}")
 }
 

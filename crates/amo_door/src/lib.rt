@@ -58,7 +58,7 @@ mod spelling;
 mod word;
 
 pub use answer::{
-    About, Answer, Extra, Fate, GotMessage, Kind, Last, ReceiverState, SenderState, When,
+    About, Answer, Extra, Fate, GotMessage, GotPage, Kind, Last, ReceiverState, SenderState, When,
 };
 pub use call::{Call, LONGEST_WAIT, Served};
 pub use claim::{Claim, Decision, EventPlace, Made};

@@ -58,9 +58,9 @@ pub enum Refusal {
     /// It means another life of the host.
     #[error("the host lives another life now")]
     OtherLife,
-    /// It asks what became of a message of another life, which the host does not know: its journal tells it.
-    #[error("this host tells of its present life alone: `amo outcomes` tells of others, of its journal")]
-    OtherOutcome,
+    /// It asks what became of a message of a life that the host does not know.
+    #[error("the host knows of no such life")]
+    UnknownLife,
     /// Its body is longer than a message may be, or than the place takes.
     #[error("the body is too long: a message has 1024 bytes at most")]
     TooLong,
@@ -73,6 +73,9 @@ pub enum Refusal {
     /// Its head is longer than any.
     #[error("the head is too long")]
     LongHead,
+    /// What the host's own journal tells cannot be read.
+    #[error("the host cannot read its own journal")]
+    Journal,
     /// Its body has a coding that is not known here.
     #[error("the body has a coding that is not known here")]
     Coding,
@@ -82,6 +85,9 @@ pub enum Refusal {
     /// The host cannot do it now.
     #[error("the host cannot do this now: ask again")]
     NotNow,
+    /// The host comes to its end, and takes nothing more.
+    #[error("the host comes to its end, and takes nothing more")]
+    Ending,
     /// Too many connections ask at once.
     #[error("too many ask at once: ask again")]
     Crowded,
@@ -106,13 +112,14 @@ impl Refusal {
             Refusal::Method(_) => 405,
             Refusal::Slow => 408,
             Refusal::Conflict => 409,
-            Refusal::OtherLife | Refusal::OtherOutcome => 410,
+            Refusal::OtherLife | Refusal::UnknownLife => 410,
             Refusal::TooLong => 413,
             Refusal::LongTarget => 414,
             Refusal::Host => 421,
             Refusal::LongHead => 431,
+            Refusal::Journal => 500,
             Refusal::Coding => 501,
-            Refusal::Full | Refusal::NotNow | Refusal::Crowded => 503,
+            Refusal::Full | Refusal::NotNow | Refusal::Ending | Refusal::Crowded => 503,
         }
     }
 
@@ -137,14 +144,16 @@ impl Refusal {
             Refusal::Slow => "slow",
             Refusal::Conflict => "conflict",
             Refusal::OtherLife => "other_life",
-            Refusal::OtherOutcome => "other_outcome",
+            Refusal::UnknownLife => "unknown_life",
             Refusal::TooLong => "too_long",
             Refusal::LongTarget => "long_target",
             Refusal::Host => "host",
             Refusal::LongHead => "long_head",
+            Refusal::Journal => "journal",
             Refusal::Coding => "coding",
             Refusal::Full => "full",
             Refusal::NotNow => "not_now",
+            Refusal::Ending => "ending",
             Refusal::Crowded => "crowded",
         }
     }

@@ -1,1 +1,4 @@
 pub mod Served
+mod Reading
+mod Lanes
+mod Pasts

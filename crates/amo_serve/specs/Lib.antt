@@ -1,1 +1,6 @@
 pub mod Serving
+pub mod Records
+pub mod Lane
+pub mod Fates
+pub mod Reign
+pub mod Past

@@ -106,6 +106,21 @@ impl Client {
         self.has_ended || self.stage != Stage::Open
     }
 
+    /// Whether it asks which messages were got.
+    pub(crate) fn seeks_gets(&self) -> bool {
+        matches!(self.reply, Some(Reply::Got { .. }))
+    }
+
+    /// Whether it asks what became of a message of an earlier life.
+    pub(crate) fn seeks_fate(&self) -> bool {
+        matches!(self.reply, Some(Reply::Fate { .. }))
+    }
+
+    /// Whether it waits for what the journal tells.
+    pub(crate) fn seeks(&self) -> bool {
+        self.seeks_gets() || self.seeks_fate()
+    }
+
     /// Whether it is told what happens.
     pub(crate) fn is_following(&self) -> bool {
         self.stage == Stage::Open && self.connection.is_following()
@@ -117,12 +132,26 @@ impl Client {
         if self.wants_input() {
             events |= net::POLLIN;
         }
-        if self.stage == Stage::Open && !self.connection.output().is_empty() {
+        if self.has_unsent() {
             events |= net::POLLOUT;
         }
         pollfd {
             fd: self.stream.as_raw_fd(),
             events,
+            revents: 0,
+        }
+    }
+
+    /// Whether it has not taken yet all that is to be sent.
+    pub(crate) fn has_unsent(&self) -> bool {
+        self.stage == Stage::Open && !self.connection.output().is_empty()
+    }
+
+    /// What the system is to wait for until it takes more.
+    pub(crate) fn interest_in_room(&self) -> pollfd {
+        pollfd {
+            fd: self.stream.as_raw_fd(),
+            events: net::POLLOUT,
             revents: 0,
         }
     }
@@ -279,7 +308,7 @@ impl Client {
 
     /// Sends what is to be sent, as far as it is taken.
     pub(crate) fn flush(&mut self, now: u64) {
-        if self.stage == Stage::Open && !self.connection.output().is_empty() {
+        if self.has_unsent() {
             self.send(now);
         }
         self.look(now);

@@ -46,13 +46,15 @@ pub struct Door {
     pub(crate) clients: Vec<Client>,
     /// Those who wait, in the order in which they came.
     pub(crate) waiters: VecDeque<Waiter>,
-    waited: Vec<pollfd>,
+    pub(crate) waited: Vec<pollfd>,
     room: Vec<u8>,
     pub(crate) routes: Routes,
     pub(crate) guard: Guard,
     pub(crate) served: Served,
     /// The number of the next client.
     next: u64,
+    /// The number of the client who was told last what was got.
+    pub(crate) told: u64,
     pub(crate) accepted: u64,
     pub(crate) crowded: u64,
 }
@@ -77,27 +79,30 @@ impl Door {
             guard,
             served,
             next: 0,
+            told: 0,
             accepted: 0,
             crowded: 0,
         })
     }
 
-    /// Waits until something has come, or until a time. The system waits for the host's socket by this number.
+    /// Waits until something has come, or until a time. The system waits for the host's socket by this number, and for its bell by that.
     pub(crate) fn wait<C: Clock>(
         &mut self,
         rt: &C,
         socket: i32,
+        bell: i32,
         due: Option<u64>,
         now: u64,
     ) -> Result<(), AllocError> {
         self.waited.clear();
         push(&mut self.waited, watched(self.listener.as_raw_fd()))?;
         push(&mut self.waited, watched(socket))?;
+        push(&mut self.waited, watched(bell))?;
         let mut until = due.unwrap_or(u64::MAX);
         for client in &self.clients {
             push(&mut self.waited, client.interest())?;
             until = until.min(client.deadline().unwrap_or(until));
-            if client.may_have_more() {
+            if client.may_have_more() || client.seeks() {
                 until = now;
             }
         }
@@ -109,6 +114,14 @@ impl Door {
             net::poll(self.waited.as_mut_slice(), limit);
         }
         Ok(())
+    }
+
+    /// Whether somebody rings the host's bell.
+    pub(crate) fn hears_bell(&self) -> bool {
+        match self.waited.get(2) {
+            Some(bell) => bell.revents != 0,
+            None => false,
+        }
     }
 
     /// Whether something comes while the host looks.
@@ -135,7 +148,7 @@ impl Door {
     /// Reads what clients sent, ends what lasts too long, and takes the clients that came.
     pub(crate) fn hear(&mut self, now: u64) -> Result<(), AllocError> {
         let room = self.room.as_mut_slice();
-        for (client, waited) in self.clients.iter_mut().zip(self.waited.iter().skip(2)) {
+        for (client, waited) in self.clients.iter_mut().zip(self.waited.iter().skip(3)) {
             client.hear(waited.revents, room, now);
             client.tick(now);
         }

@@ -53,6 +53,8 @@ pub struct Responder<L, S, W> {
     /// When the other host was heard last, in microseconds.
     pub(crate) heard_at: Option<u64>,
     pub(crate) counts: Counts,
+    /// It was asked to come to its end: it takes nothing more to put, and nobody waits.
+    pub(crate) ends: bool,
 }
 
 /// What comes of a request now.
@@ -61,11 +63,30 @@ pub enum Reply {
     /// It is answered.
     Answer(Answer),
     /// It waits for so many seconds at most, until the last message of this stream has settled, or its next one is ready.
-    State { stream: u32, wait: u64 },
+    State {
+        stream: u32,
+        wait: u64,
+    },
     /// It waits for so many seconds at most, until the message that it claims is there.
-    Take { claim: Claim, wait: u64 },
+    Take {
+        claim: Claim,
+        wait: u64,
+    },
+    /// The journal tells which messages of this stream were got, behind this line if one is given.
+    Got {
+        stream: u32,
+        after: Option<u64>,
+    },
+    /// The journal tells what became of the message of this number of a life before this one.
+    Fate {
+        stream: u32,
+        number: u64,
+        life: Word,
+    },
     /// Its client is told what happens from now on, or from behind this line on.
-    Follow { after: Option<u64> },
+    Follow {
+        after: Option<u64>,
+    },
 }
 
 impl<L: Link + Drop, S: Sink + Drop, W: Lineage + Drop> Responder<L, S, W> {
@@ -94,6 +115,7 @@ impl<L: Link + Drop, S: Sink + Drop, W: Lineage + Drop> Responder<L, S, W> {
             news,
             heard_at: None,
             counts: Counts::new(),
+            ends: false,
         })
     }
 }
@@ -117,12 +139,12 @@ impl<L: Link, S: Sink, W: Lineage> Responder<L, S, W> {
                 stream,
                 number,
                 life,
-            } => self.respond_to_outcome(stream, number, &life),
+            } => self.respond_to_outcome(stream, number, life),
             Call::Host => self.respond_of_host(),
             Call::Metrics => self.respond_of_counts(),
             Call::Health => self.respond_of_health(),
             Call::Page => self.respond_with_page(),
-            Call::Got { .. } => self.refuse(Refusal::NotNow),
+            Call::Got { stream, after } => Ok(Reply::Got { stream, after }),
         }
     }
 

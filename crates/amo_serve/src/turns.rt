@@ -5,15 +5,17 @@ ghost use Rattle.amo_live.specs.Service.{words_of};
 ghost use Rattle.amo_live.specs.Words.{BearsNew};
 ghost use Rattle.amo_serve.specs.Serving.{Serves};
 
-use crate::DoorFault;
 use crate::client::Client;
 use crate::door::Door;
+use crate::ending::Farewell;
 use crate::news::News;
 use crate::responder::{Reply, Responder};
+use crate::{Archive, DoorFault};
 use amo_door::Happening;
-use amo_live::{Durable, Lineage, LiveFault, Notices};
+use amo_live::{Bell, Durable, Ended, Limits, Lineage, LiveFault, Notices};
 use amo_net::Link;
-use std::rt::Clock;
+use std::fs::File;
+use std::rt::{Clock, Files};
 use std::time::Instant;
 
 /// How many bytes of messages are shown of the host's own accord: none, so that a message stays where it came until it is taken.
@@ -22,14 +24,17 @@ const NO_ROOM: usize = 0;
 /// After how many microseconds in which it was not heard those who follow are told that the other host is heard.
 const SILENCE: u64 = 10_000_000;
 
-/// Makes one turn after another, until the host cannot go on. The system waits for its socket by this number.
-pub fn serve_door<C: Clock + Eprint, L: Link, S: Durable, W: Lineage>(
+/// Makes one turn after another, until the host was asked to come to its end and nothing is on its way any more, or for as long as it waits for that; or
+/// until it cannot go on, which those who follow are told. The system waits for its socket by this number.
+pub fn serve_door<C: Clock + Eprint + Files<File = File>, L: Link, S: Durable, W: Lineage>(
     rt: &C,
     responder: &mut Responder<L, S, W>,
     door: &mut Door,
+    archive: &mut Archive,
+    bell: &mut Bell,
     socket: i32,
-    sync: bool,
-) -> Result<(), DoorFault>
+    limits: Limits,
+) -> Result<Ended, DoorFault>
     requires { IsNoted S.written responder.old.service.host }
     ensures noted { OnOk result (IsNoted S.written responder.new.service.host) }
     // Each message that was put was put by a turn of a caller, once and with its bytes; and each turn is right behind those before it.
@@ -39,20 +44,70 @@ pub fn serve_door<C: Clock + Eprint, L: Link, S: Durable, W: Lineage>(
 {
     let start = started(rt)?;
     let mut notices = Notices::new();
+    let mut farewell = Farewell::new(limits);
     'turns: for _turn in 0..u64::MAX {
         let now = microseconds(rt, &start)?;
         notices.tell(rt, &responder.service, now);
-        door.wait(rt, socket, responder.service.next_due(), now)?;
+        if let Some(ended) = responder.ended(&mut farewell, now) {
+            responder.tell_of_open(rt, ended);
+            door.send_rest(now)?;
+            return Ok(ended);
+        }
+        let due = farewell.until(responder.service.next_due());
+        door.wait(rt, socket, bell.number(), due, now)?;
         let now = microseconds(rt, &start)?;
-        turn(responder, door, sync, now)?;
+        responder.ends = hear_bell(rt, door, bell, responder.ends)?;
+        turn_or_tell(rt, responder, door, archive, limits.sync, now)?;
     }
-    Ok(())
+    Ok(Ended::OnItsWay)
 }
 
-/// One turn, behind a wait.
-fn turn<L: Link, S: Durable, W: Lineage>(
+/// Hears who rings. Answers whether somebody has, by now.
+fn hear_bell<C: Eprint>(
+    rt: &C,
+    door: &Door,
+    bell: &mut Bell,
+    was_rung: bool,
+) -> Result<bool, DoorFault> {
+    if !door.hears_bell() {
+        return Ok(was_rung);
+    }
+    bell.hear()?;
+    if bell.was_rung() && !was_rung {
+        let _ = eprintln!(rt; "amo: was asked to come to its end");
+    }
+    Ok(bell.was_rung())
+}
+
+/// One turn, behind a wait. Those who follow are told where the host cannot go on.
+fn turn_or_tell<C: Files<File = File>, L: Link, S: Durable, W: Lineage>(
+    rt: &C,
     responder: &mut Responder<L, S, W>,
     door: &mut Door,
+    archive: &mut Archive,
+    sync: bool,
+    now: u64,
+) -> Result<(), DoorFault>
+    requires { IsNoted S.written responder.old.service.host }
+    ensures noted { OnOk result (IsNoted S.written responder.new.service.host) }
+    ensures serves { OnOk result (Serves responder.old.numbers responder.new.numbers responder.old.service.host.pass responder.new.service.host.pass) }
+    ensures words { OnOk result (BearsNew W.is_drawn (words_of responder.old.service) (words_of responder.new.service) responder.old.service.host.pass responder.new.service.host.pass) }
+{
+    match turn(rt, responder, door, archive, sync, now) {
+        Ok(()) => Ok(()),
+        Err(fault) => {
+            door.tell_of_fault(now)?;
+            Err(fault)
+        }
+    }
+}
+
+/// One turn.
+fn turn<C: Files<File = File>, L: Link, S: Durable, W: Lineage>(
+    rt: &C,
+    responder: &mut Responder<L, S, W>,
+    door: &mut Door,
+    archive: &mut Archive,
     sync: bool,
     now: u64,
 ) -> Result<(), DoorFault>
@@ -65,6 +120,7 @@ fn turn<L: Link, S: Durable, W: Lineage>(
     door.hear(now)?;
     responder.serve_waiters(door, now)?;
     responder.ask_clients(door, now)?;
+    door.consult(rt, archive, responder.service.host.next_line())?;
     responder.write_down(sync)?;
     hand_out(responder, door, sync, now);
     responder.leave();
@@ -87,16 +143,20 @@ fn hand_out<L: Link, S: Durable, W: Lineage>(
     let _ = sync;
     let next = responder.news.next();
     for client in door.clients.iter_mut() {
-        match client.reply.take() {
-            Some(Reply::Answer(answer)) => client.answer(&answer, now),
-            Some(Reply::Follow { after: Some(line) }) => client.follow(
-                responder.news.behind(line),
-                now,
-            ),
-            Some(Reply::Follow { after: None }) => client.follow(next, now),
-            Some(Reply::State { .. } | Reply::Take { .. }) | None => {}
+        if !client.seeks() {
+            hand(&responder.news, client, next, now);
         }
         tell_news(&responder.news, client, next);
+    }
+}
+
+/// Hands a client what its request is answered.
+fn hand(news: &News, client: &mut Client, next: u64, now: u64) {
+    match client.reply.take() {
+        Some(Reply::Answer(answer)) => client.answer(&answer, now),
+        Some(Reply::Follow { after: Some(line) }) => client.follow(news.behind(line), now),
+        Some(Reply::Follow { after: None }) => client.follow(next, now),
+        Some(_) | None => {}
     }
 }
 
@@ -121,7 +181,7 @@ impl<L: Link, S: Durable, W: Lineage> Responder<L, S, W> {
         ensures serves { OnOk result (Serves self.old.numbers self.new.numbers self.old.service.host.pass self.new.service.host.pass) }
         ensures words { OnOk result (BearsNew W.is_drawn (words_of self.old.service) (words_of self.new.service) self.old.service.host.pass self.new.service.host.pass) }
     {
-        self.service.hear(now, NO_ROOM, false)?;
+        self.service.hear(now, NO_ROOM, self.ends)?;
         self.service.resend(now)?;
         self.tell_peer(now)?;
         self.tell_settled()?;

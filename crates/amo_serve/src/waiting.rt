@@ -149,7 +149,7 @@ impl<L: Link, S: Durable, W: Lineage> Responder<L, S, W> {
             awaited,
             until,
         } = waiter;
-        let is_late = until <= now;
+        let is_late = until <= now || self.ends;
         let waited = if is_late || has_hung_up || self.is_reached(awaited.stream()) {
             self.look_at_wait(door.presence(client), awaited, is_late, now)?
         } else {
@@ -274,7 +274,7 @@ fn keep_reply(
     let (awaited, wait) = match reply {
         Reply::State { stream, wait } => (Awaited::State(stream), wait),
         Reply::Take { claim, wait } => (Awaited::Take(claim), wait),
-        Reply::Answer(_) | Reply::Follow { .. } => {
+        Reply::Answer(_) | Reply::Follow { .. } | Reply::Got { .. } | Reply::Fate { .. } => {
             client.reply = Some(reply);
             return Ok(());
         }

@@ -97,7 +97,7 @@ fn read_lives<R: AllocGlobal>(rt: &R, bytes: &[u8]) -> Result<LivesFile, LivesFa
 }
 
 /// The id of the machine's start, where the system shows it.
-fn boot_id<R: Files<File = File>>(rt: &R) -> Option<BootId> {
+pub(crate) fn boot_id<R: Files<File = File>>(rt: &R) -> Option<BootId> {
     let mut file = fs::open(rt, BOOT_ID).ok()?;
     let mut text = [0; 36];
     file.read_exact(&mut text).ok()?;

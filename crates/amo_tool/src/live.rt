@@ -21,7 +21,7 @@ use std::rt::{Clock, Files};
 use std::sync::ledger::{Blank, Ledger};
 
 /// The status where something was still on its way at the end.
-const ON_ITS_WAY: u8 = 5;
+pub(crate) const ON_ITS_WAY: u8 = 5;
 
 /// The status where the last line of standard input had no end, and was not put.
 const TORN: u8 = 2;

@@ -2,17 +2,20 @@
 ghost use Rattle.std.specs.Prelude.{◌≡◌, ◌<◌, ◌≤◌};
 ghost use Rattle.amo_settings.specs.Limits.{IsSideWithin};
 
+use crate::doubts::boot_id;
 use crate::failure::Failure;
 use crate::live::{
-    check_address, hold_numbers, host_of, open_lives, open_socket, path_of_lives, tell_of_start,
-    tell_of_zeros,
+    ON_ITS_WAY, check_address, hold_numbers, host_of, open_lives, open_socket, path_of_lives,
+    tell_of_start, tell_of_zeros,
 };
+use crate::stopping::{hang_bell, take_down_bell};
 use amo_arguments::VERSION;
 use amo_disk::{Cause, Opened, open};
 use amo_door::{Guard, Served, Word};
-use amo_live::{LiveFault, Plan};
+use amo_live::{Durable, Ended, HostLives, LiveFault, LivesOpenFault, Plan};
+use amo_lives::Lives;
 use amo_object::End;
-use amo_serve::{Door, DoorFault, Identity, run_door};
+use amo_serve::{Archive, Door, DoorFault, Identity, run_door};
 use amo_settings::{HostSettings, ServeSettings, ServedSide};
 use amo_text::push_hex;
 use std::alloc::{AllocError, AllocFailed, Global};
@@ -196,16 +199,23 @@ fn serve_opened<
     tell_of_zeros(rt, path, zeros);
     let file = path_of_lives(alloc, path)?;
     let why = Cell::new(None);
-    let words = open_lives::<R, N>(rt, file.as_str(), &plan, start.lines, &why, lives)?;
-    let life = draw_life(rt)?;
+    let mut words = open_lives::<R, N>(rt, file.as_str(), &plan, start.lines, &why, lives)?;
+    begin_life(alloc, &mut words, file.as_str(), start.lines, &why)?;
+    let lives = read_lives(rt, plan.setup.side, file.as_str())?;
+    let life = word_of_life(alloc, &lives)?;
+    let archive = archive_of(rt, path, &lives)?;
     let identity = identity_of(rt, host, plan.setup.side)?;
     tell_of_start(rt, host.listen.as_str(), port, path, start.lines);
     let _ = eprintln!(rt; "amo: its door is http://{address}");
+    let bell = hang_bell(rt, path)?;
     let number = socket.number();
-    match run_door(
-        rt, alloc, plan, door, identity, life, socket, number, disk, start, words,
-    ) {
-        Ok(()) => Ok(0),
+    let ran = run_door(
+        rt, alloc, plan, door, archive, bell, identity, life, socket, number, disk, start, words,
+    );
+    take_down_bell(rt, path)?;
+    match ran {
+        Ok(Ended::OnItsWay) => Ok(ON_ITS_WAY),
+        Ok(Ended::AtRest | Ended::Torn) => Ok(0),
         Err(fault) if fault == DoorFault::Host(LiveFault::Lives) => {
             Err(Failure::of_door(alloc, file.as_str(), fault, why.get()))
         }
@@ -235,19 +245,60 @@ fn identity_of<R: AllocGlobal + Clock>(
     })
 }
 
-/// A life's word, which the system draws: no other life has it.
-fn draw_life<R: AllocGlobal + RandomSource>(rt: &R) -> Result<Word, Failure> {
-    let mut bytes = [0; 12];
-    match rt.fill_bytes(&mut bytes) {
-        Ok(()) => {}
-        Err(error) => return Err(Failure::Random(Cause::from(error))),
+/// Begins a life of a host, whose next line in the journal has this number, in its file of lives. Its first word is drawn, and left: the life has its
+/// line before anybody is told of it.
+fn begin_life<S: Durable>(
+    alloc: Global,
+    words: &mut HostLives<S>,
+    file: &str,
+    lines: u64,
+    why: &Cell<Option<Cause>>,
+) -> Result<(), Failure> {
+    match words.begin_life(lines) {
+        Ok(_word) => Ok(()),
+        Err(fault) => Err(Failure::of_door(alloc, file, DoorFault::from(fault), why.get())),
     }
-    let mut text = Vec::new(rt.alloc());
-    push_hex(&mut text, bytes.as_slice())?;
+}
+
+/// The lives of the host of this side, by their file.
+fn read_lives<R: AllocGlobal + Files<File = File>>(
+    rt: &R,
+    side: End,
+    file: &str,
+) -> Result<Lives, Failure> {
+    let alloc = rt.alloc();
+    let bytes = match fs::read(rt, file) {
+        Ok(bytes) => bytes,
+        Err(error) => return Err(Failure::of_disk(alloc, file, Cause::from(error))),
+    };
+    match Lives::read(alloc, side, bytes.as_slice()) {
+        Ok(read) => Ok(read.lives),
+        Err(fault) => Err(Failure::of_lives(alloc, file, LivesOpenFault::from(fault))),
+    }
+}
+
+/// The word of the life that began last: the digits of its tag, which no other one has.
+fn word_of_life(alloc: Global, lives: &Lives) -> Result<Word, Failure> {
+    let mut text = Vec::new(alloc);
+    if let Some(life) = lives.lives().last() {
+        push_hex(&mut text, &life.tag.to_be_bytes())?;
+    }
     match Word::read(text.as_slice()) {
         Some(word) => Ok(word),
         None => Err(Failure::NoMemory),
     }
+}
+
+/// The journal of this path, as a host with these lives tells of it.
+fn archive_of<R: AllocGlobal + Files<File = File>>(
+    rt: &R,
+    path: &str,
+    lives: &Lives,
+) -> Result<Archive, Failure> {
+    let alloc = rt.alloc();
+    let doubts = lives.doubts(alloc, &boot_id(rt))?;
+    let lives = Vec::from_slice(alloc, lives.lives())?;
+    Ok(Archive::new(alloc, path, lives, doubts)?)
 }
 
 /// Puts a value at a list's end.

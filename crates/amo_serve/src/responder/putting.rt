@@ -1,5 +1,6 @@
 //! Puts for callers, each once.
 ghost use Rattle.std.specs.Prelude.{◌≡◌, ◌+◌, ◌<◌, ◌^◌, IfOk, IfSome, IsSome, OnOk, Some};
+ghost use Rattle.amo_live.specs.Callers.{PutsAt};
 ghost use Rattle.amo_live.specs.Host.{IsNoted};
 ghost use Rattle.amo_live.specs.Service.{words_of};
 ghost use Rattle.amo_live.specs.Words.{BearsNew};
@@ -86,7 +87,7 @@ impl<L: Link, S: Sink, W: Lineage> Responder<L, S, W> {
     {
         let stream = claim.stream;
         let copy = message.clone()?;
-        let Some(at) = self.service.put_for_caller(stream, copy, now)? else {
+        let Some(at) = self.put_on(stream, copy, now)? else {
             return self.tell_full();
         };
         self.tell_news(at.line, &Happening::Put(stream, message.bytes()))?;
@@ -109,12 +110,31 @@ impl<L: Link, S: Sink, W: Lineage> Responder<L, S, W> {
         ensures words { OnOk result (BearsNew W.is_drawn (words_of self.old.service) (words_of self.new.service) self.old.service.host.pass self.new.service.host.pass) }
     {
         let copy = message.clone()?;
-        let Some(at) = self.service.put_for_caller(stream, copy, now)? else {
+        let Some(at) = self.put_on(stream, copy, now)? else {
             return self.tell_full();
         };
         self.tell_news(at.line, &Happening::Put(stream, message.bytes()))?;
         self.numbers.note_unclaimed(stream, message, place_of(at));
         self.tell_put(When::Now, stream)
+    }
+
+    /// Puts this message on a stream. None where there is no room, or the host comes to its end.
+    fn put_on(
+        &mut self,
+        stream: u32,
+        message: Message,
+        now: u64,
+    ) -> Result<Option<EventAt>, LiveFault>
+        requires { IsNoted S.written self.old.service.host }
+        ensures noted { OnOk result (IsNoted S.written self.new.service.host) }
+        ensures put { IfOk result (PutsAt self.old.service.host.pass self.new.service.host.pass stream message) }
+        ensures words { OnOk result (BearsNew W.is_drawn (words_of self.old.service) (words_of self.new.service) self.old.service.host.pass self.new.service.host.pass) }
+        ensures same { self.new ≡ record self.old { service = self.new.service } }
+    {
+        if self.ends {
+            return Ok(None);
+        }
+        self.service.put_for_caller(stream, message, now)
     }
 
     /// What was put last on a stream, where something was; now, or before.
@@ -134,11 +154,14 @@ impl<L: Link, S: Sink, W: Lineage> Responder<L, S, W> {
         Ok(answer)
     }
 
-    /// That a stream has no room.
+    /// That a stream has no room, or that the host comes to its end.
     fn tell_full(&mut self) -> Result<Answer, LiveFault>
         ensures status { IfOk result (λ answer. answer.status ≡ status_of Full) }
         ensures same { self.new ≡ record self.old { counts = self.new.counts } }
     {
+        if self.ends {
+            return Ok(Answer::refusal(self.alloc, Refusal::Ending)?);
+        }
         self.counts.full = self.counts.full.saturating_add(1);
         Ok(Answer::refusal(self.alloc, Refusal::Full)?)
     }

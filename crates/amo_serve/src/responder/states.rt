@@ -74,20 +74,24 @@ impl<L: Link, S: Sink, W: Lineage> Responder<L, S, W> {
         &self,
         stream: u32,
         number: u64,
-        life: &Word,
+        life: Word,
     ) -> Result<Reply, LiveFault> {
         if !self.has_stream(stream) {
             return self.refuse(Refusal::NoStream);
         }
-        if self.numbers.life() != life {
-            return self.refuse(Refusal::OtherOutcome);
+        if *self.numbers.life() != life {
+            return Ok(Reply::Fate {
+                stream,
+                number,
+                life,
+            });
         }
         let lane = self.service.sender_lane(stream);
         let answer = match fate_of(&lane, self.numbers.last_number(stream), number) {
-            Some(fate) => Answer::outcome(self.alloc, life, stream, number, fate)?,
+            Some(fate) => Answer::outcome(self.alloc, &life, stream, number, fate)?,
             None => Answer::conflict_at_sender(
                 self.alloc,
-                life,
+                &life,
                 stream,
                 self.sender_state(stream),
             )?,

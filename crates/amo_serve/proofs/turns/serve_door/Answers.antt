@@ -15,9 +15,9 @@ turns-init g c =
 
 pub turns-preserved : goal.turns-preserved
 turns-preserved g c =
-    let first = c.args.responder.now in let before = c.turns.responder in let after = c.turn.new.responder in
+    let first = c.args.responder.now in let before = c.turns.responder in let after = c.turn_or_tell.new.responder in
     record {
       noted = search rules;
-      serves = serves_on first.numbers before.numbers after.numbers first.service.host.pass before.service.host.pass after.service.host.pass c.turns.invariant.serves c.in_ok-turn.ensures.serves;
-      words = bears_on (words_of first.service) (words_of before.service) (words_of after.service) first.service.host.pass before.service.host.pass after.service.host.pass c.turns.invariant.words c.in_ok-turn.ensures.words;
+      serves = serves_on first.numbers before.numbers after.numbers first.service.host.pass before.service.host.pass after.service.host.pass c.turns.invariant.serves c.in_ok-turn_or_tell.ensures.serves;
+      words = bears_on (words_of first.service) (words_of before.service) (words_of after.service) first.service.host.pass before.service.host.pass after.service.host.pass c.turns.invariant.words c.in_ok-turn_or_tell.ensures.words;
     }

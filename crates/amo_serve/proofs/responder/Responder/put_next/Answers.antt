@@ -15,7 +15,7 @@ returns-in_default-clause-answered g c =
     let v = c.args.self.now.service.host.pass in
     let w = c.tell_full.new.self.service.host.pass in
     let same : c.tell_full.new.self.numbers ≡ s = search rules in
-    let pass : w ≡ c.put_for_caller.new.self.host.pass = search rules in
+    let pass : w ≡ c.put_on.new.self.service.host.pass = search rules in
     let none = rw c.in_default.is at c.in_ok-at.ensures.put in
     let kept : puts_in (mine w) ≡ puts_in (mine v) = ap (λ (p : PassState). puts_in (mine p)) pass ∙ none in
     IfOk-weaker c.tell_full.result _ _ (λ answer status. full_put s c.tell_full.new.self.numbers v w c.args.claim c.args.message answer c.requires.stream c.requires.next same kept status) c.tell_full.ensures.status
@@ -27,7 +27,7 @@ returns-clause-answered g c =
     let w = c.tell_put.new.self.service.host.pass in
     let made = made_for c.args.claim c.args.message c.place_of.result in
     let same : c.tell_put.new.self.numbers ≡ c.note_put.new.self = search rules in
-    let pass : w ≡ c.put_for_caller.new.self.host.pass = search rules in
+    let pass : w ≡ c.put_on.new.self.service.host.pass = search rules in
     let copied : c.in_ok-copy.copy ≡ c.args.message = search rules in
     let one = rw c.in-Some.is at c.in_ok-at.ensures.put in
     let put : puts_in (mine w) ≡ (c.args.claim.stream, c.args.message) ∷ puts_in (mine v) = ap (λ (p : PassState). puts_in (mine p)) pass ∙ (one ∙ ap (λ (m : List ℕ). (c.args.claim.stream, m) ∷ puts_in (mine v)) copied) in
