@@ -1,5 +1,5 @@
 -- What became of the messages of a sender's earlier lives.
-use Rattle.std.specs.Prelude.{◌≡◌, ℕ, ◌+◌, Bool, true, false, Option, Some, None, List, [], ◌++◌, length, map, slice_get}
+use Rattle.std.specs.Prelude.{◌≡◌, ℕ, ◌+◌, Bool, true, false, Option, Some, None, List, [], ◌++◌, length, map, slice_get, ◌⊎◌}
 use Rattle.amo_door.specs.declared.answer.Fate.{Fate}
 use Rattle.amo_door.specs.declared.answer.Fate.TheVariants as fate
 use Rattle.amo_journal.specs.declared.numbered.Numbered.{Numbered}
@@ -42,9 +42,9 @@ pub data TellsPut (stream : ℕ) (lines : List Numbered) (put : ℕ) (doubtful :
   IsUnknown : what ≡ fate.Unknown → TellsPut stream lines put doubtful what
   IsTold : (outcome : SenderOutcome) → (IsRight (events_of lines) → HasSenderOutcome stream (events_of lines) put outcome) → what ≡ fate_of outcome doubtful → TellsPut stream lines put doubtful what
 
--- what is told of a message: it was never put, or this is told of the put that it is
+-- what is told of a message: it was never put, or this is told of the put that it is. Where a loss of power may have taken its line that is unknown.
 abbrev pub TellsMessage : ℕ → List Numbered → Option (ℕ × Bool) → Fate → Type 0
-TellsMessage stream lines None what = what ≡ fate.Never
+TellsMessage stream lines None what = (what ≡ fate.Never) ⊎ (what ≡ fate.Unknown)
 TellsMessage stream lines (Some (put, doubtful)) what = TellsPut stream lines put doubtful what
 
 -- what is told of the message of a number that a life put on a stream, by these lines

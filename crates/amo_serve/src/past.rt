@@ -1,6 +1,7 @@
 //! What became of the messages of a sender's earlier lives, as its journal tells it.
-ghost use Rattle.std.specs.Prelude.{◌≡◌, ◌+◌, ◌≤◌, ◌<◌, ◌^◌, ◌++◌, ◌∷◌, ℕ, List, [], Some, IfOk, OnOk, drop, length, slice_get};
+ghost use Rattle.std.specs.Prelude.{◌≡◌, ◌⊎◌, ◌+◌, ◌≤◌, ◌<◌, ◌^◌, ◌++◌, ◌∷◌, ℕ, List, [], None, Some, IfOk, OnOk, drop, length, slice_get};
 ghost use Rattle.std.specs.List.{list_any};
+ghost use Rattle.amo_door.specs.declared.answer.Fate.TheVariants as AnyFate;
 ghost use Rattle.amo_journal.specs.declared.numbered.Numbered.{Numbered};
 ghost use Rattle.amo_journal.specs.declared.version.Version.{Version};
 ghost use Rattle.amo_journal.specs.Journal.{InRange};
@@ -33,7 +34,9 @@ struct Reign {
 
 impl Reign {
     /// Nobody's yet.
-    fn new() -> Reign {
+    fn new() -> Reign
+        ensures { result ≡ record { life = None; is_at_work = false; upcoming = 0 } }
+    {
         Reign {
             life: None,
             is_at_work: false,
@@ -222,13 +225,32 @@ impl Past {
         ensures { (past : List Numbered) → length past < 2 ^ 64 → HasRead self.now past → TellsFate self.now life stream number past result }
     {
         let Some((put, is_doubtful)) = self.lanes[stream as usize - 1].find(life, number) else {
-            return Fate::Never;
+            return self.fate_of_none(life);
         };
         match self.followers.outcome(stream, put) {
             Some(outcome) => fate_of(outcome, is_doubtful),
             None => Fate::Unknown,
         }
     }
+}
+
+impl Past {
+    /// What is told of a message of which no line tells, of the life at this place: it was never put, unless a loss of power may have taken its line.
+    fn fate_of_none(&self, life: usize) -> Fate
+        ensures { (result ≡ AnyFate.Never) ⊎ (result ≡ AnyFate.Unknown) }
+    {
+        match self.lives.get(life) {
+            Some(life) if may_have_lost(self.doubts.as_slice(), life.first_line) => Fate::Unknown,
+            _ => Fate::Never,
+        }
+    }
+}
+
+/// Whether a life that begins with this line may have lost its last lines, or the one before it or behind it.
+fn may_have_lost(doubts: &[Span], first_line: u64) -> bool {
+    doubts
+        .iter()
+        .any(|span| span.first <= first_line && first_line <= span.end)
 }
 
 /// No puts on any stream.

@@ -3,4 +3,4 @@ use Rattle.amo_serve.proofs.past.no_lanes.Given as goal
 
 -- so many lanes, without puts
 abbrev pub invariant-loop-stream : goal.invariant-loop-stream
-invariant-loop-stream l = AreEmpty l.stream l.lanes.items
+invariant-loop-stream l = AreEmpty l._stream l.lanes.items

@@ -15,7 +15,7 @@ returns-in_default c = λ past few read.
     let owners = owners_at s.lives.items s.doubts.items past s.lanes.items c.args.stream c.index.result.now c.requires s.all c.index.ensures read.1.lanes in
     let bound : length (owners_in c.index.result.now) < 2 ^ 64 = omega (arith, few, few_owners s.lives.items s.doubts.items c.args.stream past, ap length owners) in
     let found : None ≡ message_of c.args.life c.args.number (owners_of s.lives.items s.doubts.items c.args.stream past) = sym c.in_default.is ∙ (c.find.ensures bound ∙ ap (message_of c.args.life c.args.number) owners) in
-    subst (λ (m : Option (ℕ × Bool)). TellsMessage c.args.stream past m fate.Never) found refl
+    subst (λ (m : Option (ℕ × Bool)). TellsMessage c.args.stream past m c.fate_of_none.result) found c.fate_of_none.ensures
 
 pub returns-in-Some-outcome : goal.returns-in-Some-outcome
 returns-in-Some-outcome c = λ past few read.
