@@ -16,7 +16,8 @@ returns c =
     let token : rule_of c.optional_text.result ≡ optional_text (codes "token-file") = search rules in
     let batch : rule_of c.flag.result ≡ flag (codes "batch") = search rules in
     let sync : rule_of c.flag-2.result ≡ flag (codes "sync") = search rules in
-    let piece : rule_of c.optional_number.result ≡ optional_number (codes "piece") 1024 1000000000000 = search rules in
+    let wait : rule_of c.optional_number.result ≡ optional_number (codes "wait") 0 1000000 = search rules in
+    let piece : rule_of c.optional_number-2.result ≡ optional_number (codes "piece") 1024 1000000000000 = search rules in
     let none : IsCommand (new_app (codes "serve")) c.with_texts.result = c.with_texts.ensures in
     let one = with_argument c.in_ok-arg.ensures listen c.text.ensures.local none in
     let two = with_argument c.in_ok-arg-2.ensures peer c.text-2.ensures.local one in
@@ -28,4 +29,5 @@ returns c =
     let eight = with_argument c.in_ok-arg-8.ensures c.tick.ensures.rule c.tick.ensures.local seven in
     let nine = with_argument c.in_ok-arg-9.ensures batch c.flag.ensures.local eight in
     let ten = with_argument c.in_ok-arg-10.ensures sync c.flag-2.ensures.local nine in
-    IfOk-weaker c.arg-11.result _ _ (λ m h. with_argument h piece c.optional_number.ensures.local ten) c.arg-11.ensures
+    let eleven = with_argument c.in_ok-arg-11.ensures wait c.optional_number.ensures.local ten in
+    IfOk-weaker c.arg-12.result _ _ (λ m h. with_argument h piece c.optional_number-2.ensures.local eleven) c.arg-12.ensures
