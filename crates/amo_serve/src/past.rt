@@ -1,5 +1,5 @@
 //! What became of the messages of a sender's earlier lives, as its journal tells it.
-ghost use Rattle.std.specs.Prelude.{◌≡◌, ◌⊎◌, ◌+◌, ◌≤◌, ◌<◌, ◌^◌, ◌++◌, ◌∷◌, ℕ, List, [], None, Some, IfOk, OnOk, drop, length, slice_get};
+ghost use Rattle.std.specs.Prelude.{◌≡◌, ◌⊎◌, ◌+◌, ◌≤◌, ◌<◌, ◌^◌, ◌++◌, ◌∷◌, ℕ, List, [], None, Some, false, IfOk, OnOk, drop, length, slice_get};
 ghost use Rattle.std.specs.List.{list_any};
 ghost use Rattle.amo_door.specs.declared.answer.Fate.TheVariants as AnyFate;
 ghost use Rattle.amo_journal.specs.declared.numbered.Numbered.{Numbered};
