@@ -322,7 +322,10 @@ fn numbers_of<R: Files<File = File>>(
 /// Appends the numbers of those of these names, each with a zero behind it, that are pieces of this file.
 fn push_numbers(numbers: &mut Vec<u64>, file: &[u8], names: &[u8]) -> Result<(), AllocError> {
     let mut rest = names;
-    while let Some((name, behind)) = cut(rest, 0) {
+    'names: for _name in 0..names.len() {
+        let Some((name, behind)) = cut(rest, 0) else {
+            break;
+        };
         if let Some(number) = piece_number(file, name) {
             numbers.push(number)?;
         }
