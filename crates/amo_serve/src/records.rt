@@ -287,7 +287,10 @@ fn number_in_front(line: &[u8]) -> Option<u64> {
 /// These lines from the first on that has no smaller number than this one.
 fn from_line(lines: &[u8], number: u64) -> &[u8] {
     let mut rest = lines;
-    while let Some((line, behind)) = cut(rest, b'\n') {
+    'lines: for _line in 0..lines.len() {
+        let Some((line, behind)) = cut(rest, b'\n') else {
+            break;
+        };
         match number_in_front(line) {
             Some(other) if other < number => rest = behind,
             _ => return rest,

@@ -120,8 +120,8 @@ fn turn<C: Files<File = File>, L: Link, S: Durable, W: Lineage>(
     door.hear(now)?;
     responder.serve_waiters(door, now)?;
     responder.ask_clients(door, now)?;
-    door.consult(rt, archive, responder.service.host.next_line())?;
     responder.write_down(sync)?;
+    door.consult(rt, archive, responder.service.host.next_line())?;
     hand_out(responder, door, sync, now);
     responder.leave();
     door.flush(now);
