@@ -10,9 +10,9 @@ use crate::live::{
 };
 use crate::stopping::{hang_bell, take_down_bell};
 use amo_arguments::VERSION;
-use amo_disk::{Cause, Opened, open};
+use amo_disk::{Cause, Opened, Start, open};
 use amo_door::{Guard, Served, Word};
-use amo_live::{Durable, Ended, HostLives, LiveFault, LivesOpenFault, Plan};
+use amo_live::{Durable, Ended, HostLives, LiveFault, LivesOpenFault, Plan, Socket};
 use amo_lives::Lives;
 use amo_object::End;
 use amo_serve::{Archive, Door, DoorFault, Identity, run_door};
@@ -197,14 +197,47 @@ fn serve_opened<
         Err(fault) => return Err(Failure::of_journal(alloc, path, fault)),
     };
     tell_of_zeros(rt, path, zeros);
+    let ran = serve_noted::<R, L, _, N>(
+        rt, host, plan, door, address, socket, port, disk, start, lives,
+    )?;
+    match ran {
+        Ok(Ended::OnItsWay) => Ok(ON_ITS_WAY),
+        Ok(Ended::AtRest | Ended::Torn) => Ok(0),
+        Err(fault) => Err(Failure::of_door(alloc, path, fault, cause.get())),
+    }
+}
+
+/// Opens the file of lives beside a journal that is open, begins a life, and runs the host with them and the door. A fault of the file of lives is told
+/// here, and any other is handed on.
+fn serve_noted<
+    R: AllocGlobal + Clock + Eprint + Files<File = File> + Net + RandomSource,
+    L: Ledger,
+    S: Durable + Drop,
+    N: Ledger,
+>(
+    rt: &R,
+    host: &HostSettings,
+    plan: Plan,
+    door: Door,
+    address: SocketAddr,
+    socket: Socket<L>,
+    port: u16,
+    disk: S,
+    start: Start,
+    lives: Blank,
+) -> Result<Result<Ended, DoorFault>, Failure>
+    requires lives { (lives.name ≡ N.name) × (lives.parts ≡ N.parts) × (0 < N.parts) }
+    requires streams { (1 ≤ plan.setup.streams) × (plan.setup.streams ≤ 256) }
+{
+    let alloc = rt.alloc();
+    let path = host.journal.as_str();
+    let side = plan.setup.side;
     let file = path_of_lives(alloc, path)?;
     let why = Cell::new(None);
     let mut words = open_lives::<R, N>(rt, file.as_str(), &plan, start.lines, &why, lives)?;
     begin_life(alloc, &mut words, file.as_str(), start.lines, &why)?;
-    let lives = read_lives(rt, plan.setup.side, file.as_str())?;
-    let life = word_of_life(alloc, &lives)?;
-    let archive = archive_of(rt, path, &lives)?;
-    let identity = identity_of(rt, host, plan.setup.side)?;
+    let (life, archive) = life_told(rt, side, path, file.as_str())?;
+    let identity = identity_of(rt, host, side)?;
     tell_of_start(rt, host.listen.as_str(), port, path, start.lines);
     let _ = eprintln!(rt; "amo: its door is http://{address}");
     let bell = hang_bell(rt, path)?;
@@ -214,13 +247,24 @@ fn serve_opened<
     );
     take_down_bell(rt, path)?;
     match ran {
-        Ok(Ended::OnItsWay) => Ok(ON_ITS_WAY),
-        Ok(Ended::AtRest | Ended::Torn) => Ok(0),
         Err(fault) if fault == DoorFault::Host(LiveFault::Lives) => {
             Err(Failure::of_door(alloc, file.as_str(), fault, why.get()))
         }
-        Err(fault) => Err(Failure::of_door(alloc, path, fault, cause.get())),
+        ran => Ok(ran),
     }
+}
+
+/// The word of the life that began last, and the journal of this path, as a host of this side with the lives of this file tells of it.
+fn life_told<R: AllocGlobal + Files<File = File>>(
+    rt: &R,
+    side: End,
+    path: &str,
+    file: &str,
+) -> Result<(Word, Archive), Failure> {
+    let lives = read_lives(rt, side, file)?;
+    let life = word_of_life(rt.alloc(), &lives)?;
+    let archive = archive_of(rt, path, &lives)?;
+    Ok((life, archive))
 }
 
 /// What is told of a host.
