@@ -13,7 +13,7 @@ use crate::reply_reader::read_reply;
 use crate::spelling::has_line;
 use crate::{Numbered, Version};
 use amo_object::End;
-use amo_text::{LineItem, next_field, read_decimal, read_side, read_stream};
+use amo_text::{LineItem, next_decimal, next_field, next_stream, read_side};
 use amo_world::Event;
 use std::alloc::{AllocError, Global};
 
@@ -26,7 +26,7 @@ impl LineItem for Numbered {
     ghost InRange = { journal.InRange Version.Two };
 
     fn read(alloc: Global, text: &[u8]) -> Result<Option<Numbered>, AllocError> {
-        let Some((number, rest)) = next_number(text) else {
+        let Some((number, rest)) = next_decimal(text) else {
             return Ok(None);
         };
         let Some(event) = read_event(alloc, rest)? else {
@@ -64,22 +64,13 @@ fn read_event(alloc: Global, text: &[u8]) -> Result<Option<Event>, AllocError>
     Ok(Some(event))
 }
 
-/// The number in front, and what stands behind the space after it.
-pub(crate) fn next_number(text: &[u8]) -> Option<(u64, &[u8])>
-    ensures found { IfSome result (λ n. (n.0 < 2 ^ 64) × (text.now ≡ decimal n.0 ++ 32 ∷ n.1.now)) }
-    ensures none { IfNone result ((n : ℕ) (rest : List ℕ) → n < 2 ^ 64 → text.now ≢ decimal n ++ 32 ∷ rest) }
-{
-    let (field, rest) = next_field(text)?;
-    Some((read_decimal(field)?, rest))
-}
-
 /// The pass, the side and the stream in front, and what stands behind the space after them.
 fn next_place(text: &[u8]) -> Option<(usize, End, u32, &[u8])>
     ensures found { IfSome result (λ at. (at.0 < 2 ^ 64) × IsStream at.2 × (text.now ≡ place_and at.0 at.1 at.2 at.3.now)) }
     ensures none { IfNone result ((pass : ℕ) (side : End) (stream : ℕ) (rest : List ℕ) → pass < 2 ^ 64 → IsStream stream
         → text.now ≢ place_and pass side stream rest) }
 {
-    let (pass, rest) = next_number(text)?;
+    let (pass, rest) = next_decimal(text)?;
     let (side, rest) = next_side(rest)?;
     let (stream, rest) = next_stream(rest)?;
     Some((pass as usize, side, stream, rest))
@@ -92,13 +83,4 @@ fn next_side(text: &[u8]) -> Option<(End, &[u8])>
 {
     let (field, rest) = next_field(text)?;
     Some((read_side(field)?, rest))
-}
-
-/// The stream in front, and what stands behind the space after it.
-fn next_stream(text: &[u8]) -> Option<(u32, &[u8])>
-    ensures found { IfSome result (λ s. IsStream s.0 × (text.now ≡ decimal s.0 ++ 32 ∷ s.1.now)) }
-    ensures none { IfNone result ((stream : ℕ) (rest : List ℕ) → IsStream stream → text.now ≢ decimal stream ++ 32 ∷ rest) }
-{
-    let (field, rest) = next_field(text)?;
-    Some((read_stream(field)?, rest))
 }

@@ -9,8 +9,8 @@ ghost use Rattle.amo_schedule.specs.Schedule.{ReadsAs, Parses};
 use crate::ScheduleLine;
 use amo_object::End;
 use amo_text::{
-    ActName, CheckedItem, LineItem, is_message, next_field, read_act_name, read_decimal,
-    read_message, read_side, read_stream,
+    ActName, CheckedItem, LineItem, is_message, next_decimal, next_field, next_stream,
+    read_act_name, read_decimal, read_message, read_side, read_stream,
 };
 use std::alloc::{AllocError, Global};
 
@@ -34,8 +34,7 @@ fn read_side_of_stream(fields: &[u8]) -> Option<(End, u32)>
 fn read_put(fields: &[u8]) -> Option<LineText<'_>>
     ensures { Parses (codes "put" ++ 32 ∷ fields.now) result }
 {
-    let (stream, digits) = next_field(fields)?;
-    let stream = read_stream(stream)?;
+    let (stream, digits) = next_stream(fields)?;
     if is_message(digits) {
         Some(LineText::Put(stream, digits))
     } else {
@@ -62,8 +61,8 @@ fn read_word_of_stream(fields: &[u8]) -> Option<(u32, u64)>
     ensures found { IfSome result (λ at. IsStream at.0 × (at.1 < 2 ^ 64) × (fields.now ≡ decimal at.0 ++ 32 ∷ decimal at.1)) }
     ensures none { IfNone result ((stream word : ℕ) → IsStream stream → word < 2 ^ 64 → fields.now ≢ decimal stream ++ 32 ∷ decimal word) }
 {
-    let (stream, word) = next_field(fields)?;
-    Some((read_stream(stream)?, read_decimal(word)?))
+    let (stream, word) = next_stream(fields)?;
+    Some((stream, read_decimal(word)?))
 }
 
 /// The start of which these are the fields after the first.
@@ -86,8 +85,8 @@ fn read_batch(fields: &[u8]) -> Option<ScheduleLine>
 fn read_deliver(fields: &[u8]) -> Option<ScheduleLine>
     ensures { ReadsAs (codes "deliver" ++ 32 ∷ fields.now) result }
 {
-    let (number, word) = next_field(fields)?;
-    Some(ScheduleLine::Deliver(read_decimal(number)?, read_decimal(word)?))
+    let (number, word) = next_decimal(fields)?;
+    Some(ScheduleLine::Deliver(number, read_decimal(word)?))
 }
 
 /// The resending of which these are the fields after the first.

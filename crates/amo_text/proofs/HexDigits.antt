@@ -1,5 +1,5 @@
 -- Hexadecimal digits, by pairs.
-use Rattle.std.proofs.Common.{◌≡◌, ◌≢◌, ℕ, zero, suc, ◌+◌, ◌*◌, ◌/◌, ◌%◌, ◌<◌, Bool, true, false, eqb, ltb, ◌&&◌, List, [], ◌∷◌, ◌++◌, length, take, slice_index, codes, Result, Ok, Err, refl, sym, ◌∙◌, ap, arith}
+use Rattle.std.proofs.Common.{◌≡◌, ◌≢◌, ℕ, zero, suc, ◌+◌, ◌*◌, ◌/◌, ◌%◌, ◌<◌, ◌≤◌, Bool, true, false, eqb, ltb, ◌&&◌, List, [], ◌∷◌, ◌++◌, length, take, slice_index, codes, Result, Ok, Err, refl, sym, ◌∙◌, ap, arith}
 use Rattle.std.specs.Prelude.{MatchResult}
 use Rattle.std.specs.Char.{digit_value}
 use Rattle.std.specs.List.{list_all}
@@ -103,3 +103,8 @@ hex-injective (b ∷ m) (c ∷ n) first second e =
 -- bytes of one spelling are as many
 pub same_length : (text m n : List ℕ) → IsBytes m → IsBytes n → text ≡ hex m → text ≡ hex n → length m ≡ length n
 same_length text m n first second e f = ap length (hex-injective m n first second (sym e ∙ f))
+
+-- a text of few digits spells few bytes
+pub few_bytes : (text m : List ℕ) (k : ℕ) → text ≡ hex m → length text ≤ 2 * k → length m ≤ k
+few_bytes text [] k e few = omega arith
+few_bytes text (b ∷ m) k e few = let long = ap length e ∙ length-encode_with lower_digits (b ∷ m) in omega arith

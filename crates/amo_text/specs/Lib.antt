@@ -1,8 +1,9 @@
-pub mod Sink
-pub mod Hexadecimal
-pub mod Line
-pub mod Items
-pub mod Side
 pub mod Act
-pub mod Reply
+pub mod Decimal
+pub mod Hexadecimal
+pub mod Items
+pub mod Line
 pub mod Message
+pub mod Reply
+pub mod Side
+pub mod Sink

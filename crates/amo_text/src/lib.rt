@@ -6,11 +6,11 @@
 //! end, as `put 1 61` of a schedule or `0 0 s 1 put 61 ok` of a journal. What a field spells is read where
 //! it stands, and takes no memory.
 //!
-//! - [`read_decimal`] and [`push_decimal`]: numbers, with no sign and no leading zero.
+//! - [`read_decimal`], [`next_decimal`] and [`push_decimal`]: numbers, with no sign and no leading zero.
 //! - [`read_hex`], [`hex_length`] and [`push_hex`]: bytes, two lower-case digits each, and `-` for none.
-//! - [`cut`], [`next_line`] and [`next_field`]: what stands before and after the first such byte.
-//! - [`read_side`], [`read_stream`], [`read_act_name`] with [`ActName`], and [`push_reply`]: the fields that every such
-//!   file has.
+//! - [`cut`], [`next_line`], [`next_field`] and [`next_long_field`]: what stands before and after the first such byte.
+//! - [`read_side`], [`read_stream`], [`next_stream`], [`read_act_name`] with [`ActName`], and [`push_reply`]: the fields that
+//!   every such file has.
 //! - [`read_message`] and [`is_message`]: messages, in HEX.
 //! - [`LineItem`] is what one line of a file spells. [`item_in_front`] reads one of them, [`read_items`] a whole file, and
 //!   [`first_malformed`] finds the first line that spells none.
@@ -22,7 +22,8 @@
 //!   is the first that is malformed.
 //!
 //! The definitions stand in `specs/`: [`Sink`]'s in `Sink.antt`, HEX in `Hexadecimal.antt`, fields and lines
-//! in `Line.antt`, files of lines in `Items.antt`. A decimal is what the standard library's `decimal` writes.
+//! in `Line.antt`, files of lines in `Items.antt`. A decimal is what the standard library's `decimal` writes; where one ends in
+//! front of a text stands in `Decimal.antt`.
 #![tactic(auto)]
 
 mod act;
@@ -39,13 +40,13 @@ mod sink;
 mod stream;
 
 pub use act::{ActName, read_act_name};
-pub use decimal::{push_decimal, read_decimal};
+pub use decimal::{next_decimal, push_decimal, read_decimal};
 pub use failures::Failures;
 pub use hexadecimal::{hex_length, push_hex, read_hex};
 pub use items::{CheckedItem, LineItem, LinesFault, first_malformed, item_in_front, read_items};
-pub use line::{cut, next_field, next_line};
+pub use line::{cut, next_field, next_line, next_long_field};
 pub use message::{is_message, read_message};
 pub use reply::push_reply;
 pub use side::{push_side, read_side};
 pub use sink::{Out, Sink, SinkFault, write_all};
-pub use stream::read_stream;
+pub use stream::{next_stream, read_stream};

@@ -11,11 +11,11 @@ pub returns-in_default-clause-none : goal.returns-in_default-clause-none
 returns-in_default-clause-none c = no_delivery c.args.text.now (λ p w rest known small e.
     no_cut 32 c.args.text.now (hex (spelling p)) (decimal w ++ 32 ∷ rest) c.in_default.ensures.none e)
 
-pub returns-in_default-next_number-clause-none : goal.returns-in_default-next_number-clause-none
-returns-in_default-next_number-clause-none c =
+pub returns-in_default-next_decimal-clause-none : goal.returns-in_default-next_decimal-clause-none
+returns-in_default-next_decimal-clause-none c =
     let cut = c.in-Some.ensures.found in
     no_delivery c.args.text.now (λ p w rest known small e.
-    c.in_default-next_number.ensures.none w rest small (one_field c.args.text.now _ _ (hex (spelling p)) (decimal w ++ 32 ∷ rest) cut.0 cut.1 (IsField-hex (spelling p) (bytes_of_spelling p known.1)) e).1)
+    c.in_default-next_decimal.ensures.none w rest small (one_field c.args.text.now _ _ (hex (spelling p)) (decimal w ++ 32 ∷ rest) cut.0 cut.1 (IsField-hex (spelling p) (bytes_of_spelling p known.1)) e).1)
 
 pub returns-in_default-2-clause-none : goal.returns-in_default-2-clause-none
 returns-in_default-2-clause-none c =
