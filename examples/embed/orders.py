@@ -61,7 +61,7 @@ def settle(orders, amo, journal, peer):
 def start(command):
     """Starts a host, and waits until it has its journal. One of an earlier life of this program may still have it: that one ends with its input."""
     while True:
-        host = subprocess.Popen([*command, "--json", "--each"], stdin=subprocess.PIPE, stdout=subprocess.PIPE, stderr=subprocess.PIPE, text=True)
+        host = subprocess.Popen([*command, "--json"], stdin=subprocess.PIPE, stdout=subprocess.PIPE, stderr=subprocess.PIPE, text=True)
         for line in host.stderr:
             if line.startswith("amo: listens on"):
                 threading.Thread(target=host.stderr.read, daemon=True).start()
@@ -103,13 +103,11 @@ def send(orders, journal, peer, command):
 
 def work(orders, journal, amo):
     """Carries out each message once: its line in the journal is kept in the same transaction as the work."""
-    while True:
-        (last,) = orders.base.execute("SELECT MAX(line) FROM work").fetchone()
-        after = [] if last is None else ["--after", str(last)]
-        ran = subprocess.run([amo, "got", journal, *after, "--json"], stdout=subprocess.PIPE, stderr=subprocess.DEVNULL, check=False)
-        for it in map(json.loads, ran.stdout.splitlines()):
+    (last,) = orders.base.execute("SELECT MAX(line) FROM work").fetchone()
+    after = [] if last is None else ["--after", str(last)]
+    with subprocess.Popen([amo, "got", journal, *after, "--follow", "--json"], stdout=subprocess.PIPE) as got:
+        for it in map(json.loads, got.stdout):
             orders.base.execute("INSERT INTO work VALUES (?, ?)", (it["number"], it["text"]))
-        time.sleep(0.1)
 
 
 def main(table, act, *words):

@@ -2,7 +2,7 @@
 use Rattle.std.proofs.Common.{◌≡◌, ◌∙◌, ℕ, ◌+◌, Bool, true, false, Option, List, [], ◌∷◌, ◌++◌, length, length-append, refl, sym, ap, arith, append_assoc, subst, eqb, inl, inr, ◌⊎◌, ◌≤◌}
 use Rattle.std.specs.Prelude.{◌==◌, ◌||◌, if◌then◌else◌}
 use Rattle.std.proofs.lemmas.Bool.Decides.{eqb_tells}
-use Rattle.std.specs.List.{AllByRecursion, flat_map}
+use Rattle.std.specs.List.{flat_map}
 use Rattle.std.proofs.lemmas.List.{append-nil}
 use Rattle.std.proofs.lemmas.List.Folds.{list_any-append}
 use Rattle.amo_text.specs.Line.{Lacks}
@@ -10,15 +10,17 @@ use Rattle.amo_world.specs.declared.event.Event.{Event}
 use Rattle.amo_journal.specs.declared.lines.Lines.{Lines}
 use Rattle.amo_journal.specs.declared.numbered.Numbered.{Numbered}
 use Rattle.amo_journal.specs.declared.version.Version.{Version}
-use Rattle.amo_journal.specs.Journal.{InRange, line_text, numbered}
-use Rattle.amo_journal.proofs.Gaps.{length-numbered, next_number}
-use Rattle.amo_journal.proofs.ReadOn.{HasRead}
-use Rattle.amo_telling.specs.declared.got.Gets.{Gets}
+use Rattle.amo_journal.specs.Journal.{InRange, fields_of, line_text, numbered}
+use Rattle.amo_journal.proofs.Fields.{IsLine-fields_of}
+use Rattle.amo_journal.proofs.Gaps.{length-numbered}
+use Rattle.amo_text.proofs.Readings.{IsReadTo}
+use Rattle.amo_text.proofs.Readings as readings
+use Rattle.amo_telling.specs.declared.gets.Gets.{Gets}
 use Rattle.amo_telling.specs.declared.reading.Reading.{Reading}
-use Rattle.amo_telling.specs.declared.reading.Reading.TheVariants.{Whole, Malformed, Gap, OfSender}
+use Rattle.amo_telling.specs.declared.reading.Reading.TheVariants.{Whole, Malformed, Gap, OfSender, TooLong}
 use Rattle.amo_journal.proofs.Further.{lines_within}
 use Rattle.amo_telling.specs.Got.{line_named, IsGotLines, Stops, event_line, got_text, has_receivers, is_receivers, whole_of}
-use Rattle.amo_telling.specs.Gets.{HaveRead, if_receives}
+use Rattle.amo_telling.specs.Gets.{AreGotFurther, HaveRead, if_receives}
 
 -- one event more
 got_more : (after : Option ℕ) (json : Bool) (number : ℕ) (events : List Event) (e : Event) → got_text after json number (events ++ e ∷ []) ≡ got_text after json number events ++ event_line after json (number + length events) e
@@ -34,15 +36,19 @@ or_false false = refl
 
 -- and what is kept
 pub read_more : (after : Option ℕ) (json : Bool) (gets now : Gets) (events : List Event) (e : Event) → HaveRead after json gets events
-    → now.text.items ≡ gets.text.items ++ event_line after json gets.lines e → now.lines ≡ gets.lines + 1 → now.receives ≡ (gets.receives || is_receivers e.side)
+    → now.after ≡ gets.after → now.json ≡ gets.json → now.lines ≡ gets.lines + 1 → now.receives ≡ (gets.receives || is_receivers e.side)
     → HaveRead after json now (events ++ e ∷ [])
-read_more after json gets now events e so_far text lines receives = record {
-  text = text ∙ ap (λ n. gets.text.items ++ event_line after json n e) so_far.lines ∙ ap (λ (t : List ℕ). t ++ event_line after json (length events) e) so_far.text
-      ∙ ap (λ n. got_text after json 0 events ++ event_line after json n e) (omega arith) ∙ sym (got_more after json 0 events e);
+read_more after json gets now events e so_far same_after same_json lines receives = record {
+  after_is = same_after ∙ so_far.after_is;
+  json_is = same_json ∙ so_far.json_is;
   lines = lines ∙ ap (λ n. n + 1) so_far.lines ∙ sym (length-append events (e ∷ []));
   receives = receives ∙ ap (λ (b : Bool). b || is_receivers e.side) so_far.receives
       ∙ ap (λ (b : Bool). has_receivers events || b) (sym (or_false (is_receivers e.side))) ∙ sym (list_any-append (λ (event : Event). is_receivers event.side) events (e ∷ []));
 }
+
+-- an event is told as is asked
+pub told_so : (after : Option ℕ) (json : Bool) (gets : Gets) (events : List Event) (number : ℕ) (e : Event) → HaveRead after json gets events → event_line gets.after gets.json number e ≡ event_line after json number e
+told_so after json gets events number e so_far = ap (λ (a : Option ℕ). event_line a gets.json number e) so_far.after_is ∙ ap (λ (j : Bool). event_line after j number e) so_far.json_is
 
 -- whose lines are that read to their end
 pub whose : (events : List Event) → whole_of events ≡ if_receives (has_receivers events) (length events)
@@ -57,33 +63,82 @@ whose (e ∷ events) = by_receivers (has_receivers (e ∷ events))
     by_receivers true = refl
     by_receivers false = ap (λ (b : Bool). if b then Whole else OfSender) (sym (some (eqb_tells (length (e ∷ events)) 0)))
 
--- what has been read
-abbrev pub AreRead : Option ℕ → Bool → Gets → List Numbered → Type 0
-AreRead after json gets lines = (events : List Event) × (lines ≡ numbered 0 events) × HaveRead after json gets events
+-- the next line
+numbered_push : (n k : ℕ) (events : List Event) (l : Numbered) → k ≡ n + length events → l.number ≡ k → numbered n events ++ l ∷ [] ≡ numbered n (events ++ l.event ∷ [])
+numbered_push n k [] l here is =
+    let same : l.number ≡ n = omega arith in
+    ap (λ (m : ℕ). line m ∷ []) same
+  where
+    line : ℕ → Numbered
+    line m = record { number = m; event = l.event }
+numbered_push n k (e ∷ events) l here is = ap (λ (t : List Numbered). record { number = n; event = e } ∷ t) (numbered_push (n + 1) k events l (omega arith) is)
 
-pub line_read : (after : Option ℕ) (json : Bool) (gets now : Gets) (line : Numbered) → line.number ≡ gets.lines
-    → ((past : List Event) → HaveRead after json gets past → HaveRead after json now (past ++ line.event ∷ []))
-    → (lines : List Numbered) → AreRead after json gets lines → AreRead after json now (lines ++ line ∷ [])
-line_read after json gets now line here takes lines (events, are, read) = (
-  events ++ line.event ∷ [],
-  next_number lines events line gets.lines (read.lines ∙ sym (length-numbered 0 events) ∙ sym (ap length are)) are here,
-  takes events read,
-)
+-- lines that go on behind past events were read up to here, and told of behind a text
+pub record IsFurther (after : Option ℕ) (json : Bool) (past : List Event) (lines : Lines) (rest before : List ℕ) (gets : Gets) (text : List ℕ) : Type 0 where
+  pub events : List Event
+  pub read : IsReadTo fields_of (InRange lines.version) lines.text.now (numbered (length past) events) rest
+  pub have : HaveRead after json gets (past ++ events)
+  pub told : text ≡ before ++ got_text after json (length past) events
 
--- where reading stops
-pub stopped_at : (after : Option ℕ) (json : Bool) (lines : Lines) (gets : Gets) (rest : List ℕ) (count : ℕ) (reading : Reading) → HasRead lines.version lines.text.now rest count (AreRead after json gets)
-    → ((events : List Event) → HaveRead after json gets events → Stops lines.version events rest reading) → IsGotLines after json lines reading gets.text.items
-stopped_at after json lines gets rest count reading read stops =
-    let (events, are, have) = read.holds in
-    record {
-      events = events;
-      front = flat_map line_text (numbered 0 events);
-      rest = rest;
-      whole = read.read.1 ∙ ap (λ (t : List Numbered). flat_map line_text t ++ rest) are;
-      read = (subst (AllByRecursion (InRange lines.version)) are read.read.0, refl);
-      stops = stops events have;
-      written = have.text;
-    }
+module _ (after : Option ℕ) (json : Bool) (past : List Event) (lines : Lines) (before : List ℕ) where
+  pub none_yet : (gets : Gets) → HaveRead after json gets past → IsFurther after json past lines lines.text.now before gets before
+  none_yet gets have = record {
+    events = [];
+    read = (tt, refl);
+    have = subst (HaveRead after json gets) (sym (append-nil past)) have;
+    told = sym (append-nil before);
+  }
+
+  module _ (rest text : List ℕ) (gets : Gets) (so_far : IsFurther after json past lines rest before gets text) where
+    number_is : gets.lines ≡ length past + length so_far.events
+    number_is = so_far.have.lines ∙ length-append past so_far.events
+
+    -- one line more
+    pub one_further : (line : Numbered) (more text' : List ℕ) (now : Gets) → InRange lines.version line → rest ≡ line_text line ++ more → line.number ≡ gets.lines
+        → ((after : Option ℕ) (json : Bool) (past : List Event) → HaveRead after json gets past → HaveRead after json now (past ++ line.event ∷ []) × (text' ≡ text ++ event_line after json gets.lines line.event))
+        → IsFurther after json past lines more before now text'
+    one_further line more text' now known is here takes =
+        let taken = takes after json (past ++ so_far.events) so_far.have in
+        record {
+          events = so_far.events ++ line.event ∷ [];
+          read = subst (λ (ls : List Numbered). IsReadTo fields_of (InRange lines.version) lines.text.now ls more) (numbered_push (length past) gets.lines so_far.events line number_is here)
+              (readings.read_on fields_of (InRange lines.version) (IsLine-fields_of lines.version) lines.text.now rest more (numbered (length past) so_far.events) line so_far.read known is);
+          have = subst (HaveRead after json now) (append_assoc past so_far.events (line.event ∷ [])) taken.0;
+          told = taken.1 ∙ ap (λ (t : List ℕ). t ++ event_line after json gets.lines line.event) so_far.told
+              ∙ append_assoc before (got_text after json (length past) so_far.events) (event_line after json gets.lines line.event)
+              ∙ ap (λ n. before ++ (got_text after json (length past) so_far.events ++ event_line after json n line.event)) number_is
+              ∙ ap (λ (t : List ℕ). before ++ t) (sym (got_more after json (length past) so_far.events line.event));
+        }
+
+    -- where reading stops
+    pub stopped_at : (reading : Reading) → ((events : List Event) → HaveRead after json gets events → Stops lines.version events rest reading)
+        → (events : List Event) × (more : List ℕ) × HaveRead after json gets (past ++ events) × (text ≡ before ++ more) × AreGotFurther after json past lines rest reading events more
+    stopped_at reading stops = (
+      so_far.events,
+      got_text after json (length past) so_far.events,
+      so_far.have,
+      so_far.told,
+      record {
+        front = flat_map line_text (numbered (length past) so_far.events);
+        whole = so_far.read.1;
+        read = (so_far.read.0, refl);
+        stops = stops (past ++ so_far.events) so_far.have;
+        written = refl;
+      },
+    )
+
+-- of a journal of which nothing was read
+pub from_the_first : (after : Option ℕ) (json : Bool) (lines : Lines) (rest : List ℕ) (reading : Reading) (events : List Event) (more text : List ℕ) → AreGotFurther after json [] lines rest reading events more → text ≡ more
+    → IsGotLines after json lines reading text
+from_the_first after json lines rest reading events more text got is = record {
+  events = events;
+  front = got.front;
+  rest = rest;
+  whole = got.whole;
+  read = got.read;
+  stops = got.stops;
+  written = is ∙ got.written;
+}
 
 -- it stops at the end, or in a line without its end
 pub at_end : (after : Option ℕ) (json : Bool) (version : Version) (gets : Gets) (rest : List ℕ) (reading : Reading) → Lacks 10 rest → reading ≡ if_receives gets.receives gets.lines
@@ -102,6 +157,14 @@ at_end after json version gets rest reading lacks is events have =
         by_receivers true e = cc
         by_receivers false e = cc
 
+    not_long : (events : List Event) → whole_of events ≡ TooLong → ⊥
+    not_long [] e = cc
+    not_long (first ∷ events) e = by_receivers (has_receivers (first ∷ events)) e
+      where
+        by_receivers : (b : Bool) → (if b then Whole else OfSender) ≡ TooLong → ⊥
+        by_receivers true e = cc
+        by_receivers false e = cc
+
     not_gap : (events : List Event) (at : ℕ) → whole_of events ≡ Gap at → ⊥
     not_gap [] at e = cc
     not_gap (first ∷ events) at e = by_receivers (has_receivers (first ∷ events)) e
@@ -115,6 +178,7 @@ at_end after json version gets rest reading lacks is events have =
     by_kind OfSender is_kind = (lacks, is_kind)
     by_kind (Malformed at) is_kind = absurd (not_malformed events at is_kind)
     by_kind (Gap at) is_kind = absurd (not_gap events at is_kind)
+    by_kind TooLong is_kind = absurd (not_long events is_kind)
 
 -- the line that is named is not far behind the text
 pub named_within : (after : Option ℕ) (json : Bool) (lines : Lines) (reading : Reading) (text : List ℕ) → IsGotLines after json lines reading text → line_named reading ≤ length lines.text.now + 1
@@ -132,3 +196,4 @@ named_within after json lines reading text got = by_reading reading got.stops
     by_reading OfSender stops = omega arith
     by_reading (Malformed at) stops = omega (arith, few, stops.2)
     by_reading (Gap at) stops = omega (arith, few, stops.5)
+    by_reading TooLong stops = omega arith

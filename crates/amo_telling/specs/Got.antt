@@ -1,5 +1,5 @@
 -- What a receiver's journal says was got.
-use Rattle.std.specs.Prelude.{◌≡◌, ◌≢◌, ℕ, ◌+◌, Bool, true, false, nat_lt, if◌then◌else◌, Option, Some, None, List, [], ◌∷◌, ◌++◌, length}
+use Rattle.std.specs.Prelude.{◌≡◌, ◌≢◌, ◌≤◌, ℕ, ◌+◌, ◌^◌, Bool, true, false, nat_lt, if◌then◌else◌, Option, Some, None, List, [], ◌∷◌, ◌++◌, length}
 use Rattle.std.specs.List.{list_any}
 use Rattle.amo_object.specs.declared.step.End.{End}
 use Rattle.amo_object.specs.declared.step.End.TheVariants.{Sender, Receiver}
@@ -15,7 +15,7 @@ use Rattle.amo_journal.specs.declared.version.Version.{Version}
 use Rattle.amo_journal.specs.Journal.{InRange, SpellsLines, line_text, numbered}
 use Rattle.amo_journal.specs.Version.{lines_before, Opens}
 use Rattle.amo_telling.specs.declared.reading.Reading.{Reading}
-use Rattle.amo_telling.specs.declared.reading.Reading.TheVariants.{Whole, Malformed, Gap, OfSender}
+use Rattle.amo_telling.specs.declared.reading.Reading.TheVariants.{Whole, Malformed, Gap, OfSender, TooLong}
 use Rattle.amo_telling.specs.Shown.{got_line}
 
 -- whether lines of this number are written
@@ -50,12 +50,13 @@ whole_of [] = Whole
 whole_of (e ∷ events) = if has_receivers (e ∷ events) then Whole else OfSender
 
 -- why nothing is read behind the lines of these events: nothing is left but a line without its end; or the next line is malformed, or has
--- another number
+-- another number; or there are more lines than are counted
 abbrev pub Stops : Version → List Event → List ℕ → Reading → Type 0
 Stops version events rest Whole = Lacks 10 rest × (whole_of events ≡ Whole)
 Stops version events rest OfSender = Lacks 10 rest × (whole_of events ≡ OfSender)
 Stops version events rest (Malformed at) = (¬ (Lacks 10 rest)) × ((line : Numbered) (more : List ℕ) → InRange version line → rest ≢ line_text line ++ more) × (at ≡ length events + 1)
 Stops version events rest (Gap at) = (line : Numbered) × (more : List ℕ) × InRange version line × (rest ≡ line_text line ++ more) × (line.number ≢ length events) × (at ≡ length events + 1)
+Stops version events rest TooLong = 2 ^ 64 ≤ length events + 3
 
 -- the lines begin with those of these events, numbered from 0, and are read no further; and this is written of them
 pub record IsGotLines (after : Option ℕ) (json : Bool) (lines : Lines) (reading : Reading) (text : List ℕ) : Type 0 where

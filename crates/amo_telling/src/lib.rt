@@ -7,7 +7,7 @@
 //! - [`tell_outcomes_of_sender`] writes the same of a sender's journal alone, as far as that tells it: what was sent and not acknowledged is
 //!   unknown, and settled where it is final all the same.
 //! - [`tell_got`] writes, of a receiver's journal, a line for each message that a get answered, as far as it reads; [`Reading`] is how far
-//!   that was.
+//!   that was. [`Gets`] tells the same of a journal that grows, part by part.
 //!
 //! What a loss of power may have changed is told of no put: of journals of which [`Asked`] names doubtful lines, what would be gone there is unknown.
 //!
@@ -22,6 +22,7 @@
 mod alone;
 mod asked;
 mod choice;
+mod gets;
 mod got;
 mod listing;
 mod outcomes;
@@ -35,6 +36,7 @@ mod whole;
 pub use alone::tell_outcomes_of_sender;
 pub use asked::Asked;
 pub use choice::Choice;
+pub use gets::Gets;
 pub use got::tell_got;
 pub use outcomes::tell_outcomes;
 pub use reading::Reading;

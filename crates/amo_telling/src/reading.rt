@@ -11,6 +11,8 @@ pub enum Reading {
     Gap(usize),
     /// To its end, and each event is one of a sender.
     OfSender,
+    /// As far as lines are counted, and more are left.
+    TooLong,
 }
 
 impl Reading {

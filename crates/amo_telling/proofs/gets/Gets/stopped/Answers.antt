@@ -1,7 +1,7 @@
 use Rattle.std.proofs.Common.{◌+◌, ap}
 use Rattle.amo_text.proofs.Cuts.{no_cut}
 use Rattle.amo_telling.proofs.SoFar.{at_end}
-use Rattle.amo_telling.proofs.got.Gets.stopped.Goals as goal
+use Rattle.amo_telling.proofs.gets.Gets.stopped.Goals as goal
 
 pub returns-in-Some : goal.returns-in-Some
 returns-in-Some c = λ version after json events have none.
