@@ -1,5 +1,5 @@
 -- What a call of a pump did at a stream.
-use Rattle.std.proofs.Common.{◌≡◌, ℕ, Bool, true, false, List, Option, Some, None, Result, Ok, Err, IfOk, IfErr, OnErr, sym, ◌∙◌, subst}
+use Rattle.std.proofs.Common.{◌≡◌, ℕ, Bool, true, false, List, Option, Some, None, Result, Ok, Err, IfOk, IfErr, OnErr, slice_get, sym, ap, ◌∙◌, subst}
 use Rattle.std.proofs.lemmas.Option.{same_Some}
 use Rattle.amo_object.specs.declared.step.End.{End}
 use Rattle.amo_object.specs.declared.step.End.TheVariants.{Sender, Receiver}
@@ -10,7 +10,9 @@ use Rattle.amo_core.specs.declared.act.Act.{Act}
 use Rattle.amo_core.specs.declared.act.Act.TheVariants as act
 use Rattle.amo_book.specs.declared.drive.Done as drive
 use Rattle.amo_book.specs.Pass.{PassState}
-use Rattle.amo_host.specs.AtStream.{Delivers, ResendsAt, StartsAt}
+use Rattle.amo_book.specs.Charge.{ChargeState}
+use Rattle.amo_host.specs.AtStream.{Delivers, HasMode, ResendsAt, StartsAt}
+use Rattle.amo_host.specs.Host.{Host}
 use Rattle.amo_host.specs.Charges.{IsOfSide}
 use Rattle.amo_host.specs.Station.{IsStation, Station}
 use Rattle.amo_host.specs.Turn.{Drew, DrewFor, GoesDownOrUp, Happened, NoEvent, Nothing}
@@ -22,7 +24,7 @@ use Rattle.amo_host.specs.declared.turned.Turned.{Turned}
 use Rattle.amo_host.specs.declared.turned.Turned.TheVariants as turned
 use Rattle.amo_host.proofs.ChargeLemmas.{each_at}
 use Rattle.amo_host.proofs.Drives.{silently_driven}
-use Rattle.amo_host.proofs.StationLemmas.{for_charge}
+use Rattle.amo_host.proofs.StationLemmas.{for_charge, mode_at_place}
 use Rattle.amo_journal.specs.declared.version.Version.{Version}
 use Rattle.amo_journal.specs.Journal.{HasAct}
 use Rattle.amo_live.specs.declared.given_word.GivenWord.{GivenWord}
@@ -31,10 +33,19 @@ use Rattle.amo_live.specs.Host.{Drives, done_of, given, word_for}
 abbrev to_come : GivenWord → ℕ → Option ℕ
 to_come words = given words.word
 
-module _ (first s t : Station GivenWord) (v w : PassState) (old new : List ℕ) (stream now : ℕ) (is : IsStation s) (own : s.host.side ≡ first.host.side) where
+module _ (first s t : Station GivenWord) (v w : PassState) (old new : List ℕ) (stream now : ℕ) (is : IsStation s) (own : s.host ≡ first.host) where
+  -- the mode of the charge in a place, as the first of them had it
+  known_mode : (place : ℕ) (c : ChargeState) → slice_get s.charges place ≡ Some c → c.stream ≡ stream → HasMode first.host stream c.mode
+  known_mode place c at of =
+      subst (λ (n : ℕ). HasMode first.host n c.mode) of (subst (λ (h : Host). HasMode h c.stream c.mode) own (place, mode_at_place s is place c at))
+
+  -- its side is that of the host
+  known_side : (place : ℕ) (c : ChargeState) → slice_get s.charges place ≡ Some c → c.side ≡ first.host.side
+  known_side place c at = each_at (IsOfSide s.host.side) s.charges place c is.sides at ∙ ap (λ (h : Host). h.side) own
+
   -- one event, at the charge of this stream
   happened_at : (place : ℕ) (a : Act) (resent : Bool) (side : End) (named : ℕ) (done : drive.Done) → named ≡ stream → Happened s t v w old new place now a resent side named done → Drives first v w old new stream a (Some done)
-  happened_at place a resent side named done at h = (h.charge, each_at (IsOfSide s.host.side) s.charges place h.charge is.sides h.at ∙ own, sym h.of_stream ∙ at, h.driven)
+  happened_at place a resent side named done at h = (h.charge, known_side place h.charge h.at, sym h.of_stream ∙ at, h.driven, known_mode place h.charge h.at (sym h.of_stream ∙ at))
 
   -- the words were one
   word_drawn : (rest : GivenWord) (word drawn : ℕ) → s.words.word ≡ Some word → Drew to_come s.words rest drawn → drawn ≡ word
@@ -119,9 +130,10 @@ module _ (first s t : Station GivenWord) (v w : PassState) (old new : List ℕ) 
       → Drives first v w buffer buffer stream a (Some done)
   silently_at place a side named done before after buffer at silent h = (
     h.charge,
-    each_at (IsOfSide s.host.side) s.charges place h.charge is.sides h.at ∙ own,
+    known_side place h.charge h.at,
     sym h.of_stream ∙ at,
     silently_driven v w h.charge (record h.charge { mode = done.mode }) a done buffer (silent, (before, after, h.driven)),
+    known_mode place h.charge h.at (sym h.of_stream ∙ at),
   )
 
   pub goes_down_or_up : (a : Act) (k : Kind) (buffer : List ℕ) (r : Result Turned PumpFault) → IfOk r (GoesDownOrUp a k stream now s t v w) → IfErr r (λ fault. (t ≡ s) × (w ≡ v) × (fault ≡ pump_fault.Busy)) → IfOk (done_of r) (Drives first v w buffer buffer stream a)

@@ -3,6 +3,7 @@ pub mod Backlogs
 pub mod Conserving
 pub mod Driving
 pub mod Emissions
+pub mod Ending
 pub mod Showing
 pub mod Onwards
 pub mod Performing

@@ -11,7 +11,14 @@ use Rattle.amo_host.specs.Charges.{IsOfSide}
 use Rattle.amo_host.specs.Station.{BelongTogether, IsStation, Station}
 use Rattle.amo_live.specs.declared.given_word.GivenWord.{GivenWord}
 use Rattle.amo_book.specs.declared.foresee.Foreseen.{Foreseen}
-use Rattle.amo_host.specs.AtStream.{Foretells}
+use Rattle.amo_host.specs.AtStream.{Foretells, HasMode}
+use Rattle.amo_host.specs.Host.{Host, streams_of}
+use Rattle.amo_host.specs.Host as host
+use Rattle.amo_host.specs.declared.agenda.StreamMode.{StreamMode}
+use Rattle.amo_host.proofs.AtStreamLemmas.{one_place}
+use Rattle.amo_core.specs.declared.mode.Mode.{Mode}
+use Rattle.std.specs.Option.{option_map}
+use Rattle.std.proofs.lemmas.Option.{same_Some, slice_get-map}
 use Rattle.amo_live.specs.Emitted.{AreEmitted, Learns, OnlySees, OutboxState, packet_in}
 use Rattle.amo_live.specs.Host.{HostState, Drives, Happens, IsHost, Stays}
 use Rattle.amo_live.specs.Noted.{IsSameJournal, JournalState}
@@ -22,6 +29,15 @@ use Rattle.amo_live.proofs.Returning.{host_after}
 -- a charge of a host's pump is of the host's side
 pub own_side : {L S : Type 0} (h : HostState L S) → IsHost h → (place : ℕ) (c : ChargeState) → slice_get h.pump.charges place ≡ Some c → c.side ≡ h.side
 own_side h is place c at = each_at (IsOfSide h.pump.host.side) h.pump.charges place c is.station.sides at ∙ is.side
+
+-- a stream has one mode
+stream_at : (modes : List StreamMode) (place : ℕ) (m : StreamMode) → slice_get modes place ≡ Some m → slice_get (streams_of modes) place ≡ Some m.stream
+stream_at modes place m at = slice_get-map (λ (x : StreamMode). x.stream) modes place ∙ ap (option_map (λ (x : StreamMode). x.stream)) at
+
+same_mode : (h : Host) → host.IsHost h → (stream : ℕ) (one other : Mode) → HasMode h stream one → HasMode h stream other → one ≡ other
+same_mode h is stream one other (i, at) (j, there) =
+    let same = one_place h is stream i j (stream_at h.modes i _ at) (stream_at h.modes j _ there) in
+    ap (λ (m : StreamMode). m.mode) (same_Some _ _ (sym at ∙ (ap (λ (k : ℕ). slice_get h.modes k) same ∙ there)))
 
 -- what was foretold left the pass without an event
 pub foretold_sees : {W : Type 0} (s : Station W) (stream : ℕ) (a : Act) (v w : PassState) (old new : List ℕ) (foreseen : Option Foreseen) → Foretells s stream a v w old new foreseen → OnlySees v w
@@ -49,6 +65,7 @@ module _ {L S : Type 0} (h : HostState L S) (pump : Station GivenWord) (w : Pass
         let here : Happens h (record h { pass = w; pump = pump; outbox = more; journal = k }) drives.0.side drives.0.stream a done.mode = record {
           grown = drives.3.grown;
           mode_is = drives.3.mode;
+          found = λ known sends has. drives.3.found sends ∙ same_mode h.pump.host is.station.host stream drives.0.mode known drives.4 (subst (λ (n : ℕ). HasMode h.pump.host n known) drives.2 has);
           before = old;
           buffer = new;
           length = done.length;

@@ -1,6 +1,7 @@
 -- A live host: one side of its streams, a link, and a journal that is ahead of all that leaves.
 use Rattle.std.specs.Prelude.{◌≡◌, ℕ, zero, suc, min, ◌<◌, ◌≤◌, ◌⊎◌, Bool, true, false, Option, Some, None, Result, Ok, Err, List, [], ◌∷◌, ◌++◌, length}
 use Rattle.amo_object.specs.declared.step.End.{End}
+use Rattle.amo_object.specs.declared.step.End.TheVariants.{Sender}
 use Rattle.amo_packet.specs.declared.packet.OwnedPacket.{OwnedPacket}
 use Rattle.amo_packet.specs.declared.packet.OwnedBody.{OwnedBody}
 use Rattle.amo_packet.specs.declared.packet.OwnedBody.TheVariants as packet
@@ -19,6 +20,7 @@ use Rattle.amo_book.specs.Book.{BookState}
 use Rattle.amo_book.specs.Charge.{ChargeState}
 use Rattle.amo_book.specs.Drive.{Driven}
 use Rattle.amo_book.specs.declared.drive.Done as drive
+use Rattle.amo_host.specs.AtStream.{HasMode}
 use Rattle.amo_host.specs.Station.{BelongTogether, IsStation, Station}
 use Rattle.amo_host.specs.declared.fault.PumpFault.{PumpFault}
 use Rattle.amo_host.specs.declared.fault.PumpFault.TheVariants as pump_fault
@@ -76,10 +78,12 @@ pub record Stays {L S : Type 0} (h g : HostState L S) : Type 0 where
   pub link : g.link ≡ h.link
   pub journal : IsSameJournal h.journal g.journal
 
--- one event more of the host's own: this act at this side of this stream, which left it in this mode. What its row emits is to leave.
+-- One event more of the host's own: this act at this side of this stream, which left it in this mode. A sender was in the mode that the host had for it
+-- before. What its row emits is to leave.
 pub record Happens {L S : Type 0} (h g : HostState L S) (side : End) (stream : ℕ) (a : Act) (mode : Mode) : Type 0 where
   pub grown : GrownBy h.pass g.pass (event h.pass.number side stream a Done)
   pub mode_is : mode ≡ mode_of (automaton_after side stream g.pass.seen)
+  pub found : (known : Mode) → side ≡ Sender → HasMode h.pump.host stream known → mode_of (automaton_after side stream grown.earlier) ≡ known
   pub before : List ℕ
   pub buffer : List ℕ
   pub length : Option ℕ
@@ -134,11 +138,11 @@ IsHostAct _ = Unit {0}
 abbrev pub Suits : Version → End → ℕ → Act → Type 0
 Suits version side stream a = IsHostAct a × HasAct version side stream a
 
--- what came of an act at this stream's charge, by a call of the pump: the event, with this answer, or none
+-- what came of an act at this stream's charge, in the mode that the pump had for it, by a call of the pump: the event, with this answer, or none
 abbrev pub Drives : {W : Type 0} → Station W → PassState → PassState → List ℕ → List ℕ → ℕ → Act → Option drive.Done → Type 0
 Drives s v w old new stream a None = w ≡ v
 Drives s v w old new stream a (Some done) =
-    (c : ChargeState) × (c.side ≡ s.host.side) × (c.stream ≡ stream) × Driven v w c (record c { mode = done.mode }) a old new done
+    (c : ChargeState) × (c.side ≡ s.host.side) × (c.stream ≡ stream) × Driven v w c (record c { mode = done.mode }) a old new done × HasMode s.host stream c.mode
 
 -- what is made of the answer of a pump: where it had nothing to do, or could not do it now, there was no event
 abbrev pub done_of : Result Turned PumpFault → Result (Option drive.Done) LiveFault

@@ -29,7 +29,7 @@ got_by service = service.got
 abbrev pub words_of : {L S W : Type 0} → Service L S W → W
 words_of service = service.words
 
--- no stream waits for its peer, and each client has its answers
+-- no stream waits for its peer, and each message that was put has its answer
 abbrev pub IsAtRest : {L S W : Type 0} → Service L S W → Type 0
 IsAtRest service = (service.owed ≡ 0) × AreCalm service.host.pump.host
 

@@ -210,6 +210,7 @@ impl<L: Link, S: Sink> Host<L, S> {
         ensures looks { IfOk result (Looks self.old self.new stream act.now) }
         ensures noted { IsNoted S.written self.new }
         ensures stays { Stays self.old self.new }
+        ensures pump { self.new.pump ≡ self.old.pump }
     {
         let Some(place) = self.place_of(stream) else {
             return Ok(false);

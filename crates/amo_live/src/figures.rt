@@ -37,9 +37,9 @@ pub struct Figures {
     pub put: u64,
     /// Messages that were got.
     pub got: u64,
-    /// Streams whose clients were told that their last message was got.
+    /// Messages of which it was told that they were got.
     pub yes: u64,
-    /// Streams whose clients were told that it may or may not have been.
+    /// Messages of which it was told that they may or may not have been got.
     pub no: u64,
     /// Messages that wait for a handshake now.
     pub waiting: u64,

@@ -3,7 +3,7 @@ ghost use Rattle.std.specs.Prelude.{◌≡◌, ◌++◌, IfOk, OnOk};
 ghost use Rattle.std.specs.List.{flat_map, list_any};
 ghost use Rattle.std.specs.Str.{chars};
 ghost use Rattle.amo_live.specs.Client.{BlamesField, ReadsAs};
-ghost use Rattle.amo_live.specs.Shown.{escaped, hex_line, is_hidden, is_text, message_line, object_front, text_line, word_line, word_text};
+ghost use Rattle.amo_live.specs.Shown.{escaped, hex_line, is_hidden, is_text, message_line, object_front, text_line, word_line, word_lines, word_of, word_text};
 
 use amo_packet::{Message, MessageFault};
 use amo_text::{next_field, push_decimal, push_hex, read_decimal, read_message, read_stream};
@@ -40,7 +40,7 @@ pub enum LineFault {
     TooLongLine,
 }
 
-/// What is known of the last message put to a stream.
+/// What is known of a message put to a stream.
 #[derive(Clone, Copy, Debug, PartialEq, Eq)]
 pub enum Word {
     /// It was put.
@@ -52,6 +52,13 @@ pub enum Word {
 }
 
 impl Word {
+    /// The word about messages that were got, or of which that is not known.
+    pub(crate) fn of(was_got: bool) -> Word
+        ensures { result ≡ word_of was_got }
+    {
+        if was_got { Word::Yes } else { Word::No }
+    }
+
     fn text(self) -> &'static str
         ensures { result.now ≡ word_text self }
     {
@@ -100,7 +107,7 @@ fn no_stream(field: &[u8]) -> LineFault
     }
 }
 
-/// Appends the line that tells what is known of the last message put to a stream.
+/// Appends the line that tells what is known of a message put to a stream.
 pub fn push_word(
     shown: &mut Vec<u8>,
     stream: u32,
@@ -119,6 +126,22 @@ pub fn push_word(
         shown.extend_from_slice(word.text().as_bytes())?;
         shown.extend_from_slice(b"\n")
     }
+}
+
+/// Appends such a line for each of so many messages, of which the same is known.
+pub(crate) fn push_words(
+    shown: &mut Vec<u8>,
+    stream: u32,
+    word: Word,
+    messages: u64,
+    spelling: Spelling,
+) -> Result<(), AllocError>
+    ensures { OnOk result (shown.new.items ≡ shown.old.items ++ word_lines spelling stream word messages) }
+{
+    'messages: for _message in 0..messages {
+        push_word(shown, stream, word, spelling)?;
+    }
+    Ok(())
 }
 
 /// Appends the line that shows a message which was got: its text, or its bytes in HEX where they are none, or one that a terminal would not just show.

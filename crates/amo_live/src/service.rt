@@ -1,5 +1,6 @@
 //! What a live host does with datagrams, times and its clients' messages.
-ghost use Rattle.std.specs.Prelude.{◌≡◌, ◌↔◌, ℕ, [], IfOk, IsTrue, OnOk, is_some, length};
+ghost use Rattle.std.specs.Prelude.{◌≡◌, ◌≢◌, ◌↔◌, ℕ, [], Some, IfOk, IsTrue, OnOk, is_some, length};
+ghost use Rattle.amo_core.specs.declared.mode.Mode.TheVariants.{Quiet, Send};
 ghost use Rattle.amo_packet.specs.Packet.{body_of, packet_of};
 ghost use Rattle.amo_packet.specs.Grammar.{Spells, messages_of};
 ghost use Rattle.amo_journal.specs.Version.{newest};
@@ -76,7 +77,7 @@ pub struct Service<L, S, W> {
     lanes: Vec<Lane>,
     words: W,
     shown: Vec<u8>,
-    /// Which streams' clients got their answers since what is shown was cleared.
+    /// The handshakes that ended since what is shown was cleared.
     settled: Vec<Settled>,
     /// How many bytes may be shown in this turn.
     room: usize,
@@ -85,7 +86,7 @@ pub struct Service<L, S, W> {
     /// A stream holds messages for which there was no room.
     unread: bool,
     got: u64,
-    /// How many streams' clients have no answer yet.
+    /// How many messages have no answer yet.
     owed: u64,
     /// A batch came for which the journal has no line.
     missed: bool,
@@ -278,7 +279,7 @@ impl<L: Link, S: Sink, W: Lineage> Service<L, S, W> {
         self.astray
     }
 
-    /// Whether no stream waits for its peer, and each client has its answers.
+    /// Whether no stream waits for its peer, and each message that was put has its answer.
     pub fn is_at_rest(&self) -> bool
         ensures { IsTrue result ↔ IsAtRest self.now }
     {
@@ -575,18 +576,28 @@ impl<L: Link, S: Sink, W: Lineage> Service<L, S, W> {
             return Ok(());
         }
         let before = self.host.mode_of(packet.stream);
+        let end = self.end_by(&packet);
         let Some((stream, mode)) = self.deliver_anew(&packet, bytes, now)? else {
             self.drop_idle();
             return Ok(());
         };
         let is_other = is_other(before, mode);
+        self.tell_ack(&packet, told_by_ack(before, mode, end))?;
         self.arrive(stream, mode, is_other, brought_by(&packet), now);
-        self.go_on(stream, mode, is_other, now)
+        self.go_on(stream, mode, is_other, end, now)
     }
 
-    /// Goes on where a packet was delivered on a stream, whose side is in this mode now, which may be another than before.
+    /// Goes on where a packet was delivered on a stream, whose side is in this mode now, which may be another than before: then a handshake may have
+    /// ended so.
     #[tactic(auto, using(crate::proofs::Fresh::bears_none))]
-    fn go_on(&mut self, stream: u32, mode: Mode, is_other: bool, now: u64) -> Result<(), LiveFault>
+    fn go_on(
+        &mut self,
+        stream: u32,
+        mode: Mode,
+        is_other: bool,
+        end: Settled,
+        now: u64,
+    ) -> Result<(), LiveFault>
         requires { IsNoted S.written self.old.host }
         ensures noted { OnOk result (IsNoted S.written self.new.host) }
         ensures none_put { OnOk result (PutsNone self.old.host.pass self.new.host.pass) }
@@ -597,7 +608,7 @@ impl<L: Link, S: Sink, W: Lineage> Service<L, S, W> {
     {
         match mode {
             Mode::Rcvd => self.get_all(stream, now),
-            Mode::Quiet if is_other => self.settle(stream, now),
+            Mode::Quiet if is_other => self.settle(end, now),
             _ => Ok(()),
         }
     }
@@ -632,9 +643,9 @@ impl<L: Link, S: Sink, W: Lineage> Service<L, S, W> {
         self.host.deliver(bytes, word, now)
     }
 
-    /// A handshake is over: the stream's next one begins, or its client is told what became of the last message.
+    /// A handshake is over: the stream's next one begins, or its client is told what became of the last message, which the ack did not tell.
     #[tactic(auto, using(crate::proofs::Fresh::bears_none))]
-    fn settle(&mut self, stream: u32, now: u64) -> Result<(), LiveFault>
+    fn settle(&mut self, end: Settled, now: u64) -> Result<(), LiveFault>
         requires { IsNoted S.written self.old.host }
         ensures noted { OnOk result (IsNoted S.written self.new.host) }
         ensures none_put { OnOk result (PutsNone self.old.host.pass self.new.host.pass) }
@@ -643,20 +654,25 @@ impl<L: Link, S: Sink, W: Lineage> Service<L, S, W> {
         ensures spelling { spelling_of self.new ≡ spelling_of self.old }
         ensures words { OnOk result (BearsNew W.is_drawn (words_of self.old) (words_of self.new) self.old.host.pass self.new.host.pass) }
     {
-        let Some(lane) = self.lane(stream) else {
-            return Ok(());
-        };
-        if lane.waiting > 0 {
-            return self.begin(stream, now);
+        if !end.is_last {
+            self.note_settled(end)?;
+            return self.begin(end.stream, now);
         }
-        let line = self.host.next_line();
-        let Ok((was_got, _)) = self.host.get_ack(stream)? else {
+        let Some(lane) = self.lane(end.stream) else {
             return Ok(());
         };
-        self.note_settled(stream, was_got, line)?;
-        let word = if was_got { Word::Yes } else { Word::No };
-        push_word(&mut self.shown, stream, word, self.setup.spelling)?;
-        self.note_answer(stream, lane, was_got);
+        let line = self.host.next_line();
+        let Ok((was_got, _)) = self.host.get_ack(end.stream)? else {
+            return Ok(());
+        };
+        self.note_settled(Settled {
+            was_got,
+            line,
+            ..end
+        })?;
+        let word = Word::of(was_got);
+        push_word(&mut self.shown, end.stream, word, self.setup.spelling)?;
+        self.note_answer(end.stream, lane, was_got);
         Ok(())
     }
 
@@ -717,6 +733,17 @@ fn is_other(before: Option<Mode>, after: Mode) -> bool {
     match before {
         Some(before) => before != after,
         None => true,
+    }
+}
+
+/// Of how many messages a packet tells whose delivery found a sender in one mode and left it in the other: where that ended a handshake, of all that
+/// travelled in it, but for the stream's last one.
+fn told_by_ack(before: Option<Mode>, after: Mode, end: Settled) -> u64
+    ensures { result ≢ 0 → (before ≡ Some Send) × (after ≡ Quiet) }
+{
+    match (before, after) {
+        (Some(Mode::Send), Mode::Quiet) => end.messages.saturating_sub(u64::from(end.is_last)),
+        _ => 0,
     }
 }
 

@@ -10,7 +10,7 @@ use crate::service::{Lane, Service};
 use crate::{Lineage, LiveFault};
 use amo_core::MAX_WAITING;
 use amo_net::Link;
-use amo_packet::Message;
+use amo_packet::{Body, Message, Packet};
 use amo_text::Sink;
 use std::alloc::{AllocError, AllocFailed};
 
@@ -36,37 +36,44 @@ pub struct SenderLane {
     pub last: Option<bool>,
 }
 
-/// A stream whose client got its answer: whether the last message was got.
+/// The end of a handshake, and what became of the messages that travelled in it.
 #[derive(Clone, Copy, Debug, PartialEq, Eq)]
 pub struct Settled {
     /// The stream.
     pub stream: u32,
-    /// It was got; or it was got or lost.
+    /// Each of them was got; or each was got or lost.
     pub was_got: bool,
-    /// The number of the answer's line in the journal.
+    /// How many there were: those of the stream that had no such end before, in the order put.
+    pub messages: u64,
+    /// None was put behind them by then.
+    pub is_last: bool,
+    /// The number of the line in the journal that says it: that of the answer to the call for what became of the stream's last message, or that of the
+    /// ack's delivery where others wait behind.
     pub line: u64,
 }
 
 impl<L: Link, S: Sink, W: Lineage> Service<L, S, W> {
-    /// Which streams' clients got their answers since what is shown was cleared.
+    /// The handshakes that ended since what is shown was cleared, in their order.
     pub fn settled(&self) -> &[Settled] {
         self.settled.as_slice()
     }
 
-    /// The client of a stream gets its answer, by the line of this number.
-    pub(crate) fn note_settled(
-        &mut self,
-        stream: u32,
-        was_got: bool,
-        line: u64,
-    ) -> Result<(), AllocError>
+    /// The end of the handshake that is open on a packet's stream, if the delivery of the packet is the next event, and ends it.
+    pub(crate) fn end_by(&self, packet: &Packet<'_>) -> Settled {
+        let lane = self.lane(packet.stream).unwrap_or(Lane::new());
+        Settled {
+            stream: packet.stream,
+            was_got: matches!(packet.body, Body::Ack(_, true)),
+            messages: lane.travelling,
+            is_last: lane.waiting == 0,
+            line: self.host.next_line(),
+        }
+    }
+
+    /// A handshake ended so.
+    pub(crate) fn note_settled(&mut self, settled: Settled) -> Result<(), AllocError>
         ensures { self.new ≡ record self.old { settled = self.new.settled } }
     {
-        let settled = Settled {
-            stream,
-            was_got,
-            line,
-        };
         match self.settled.push(settled) {
             Ok(()) => Ok(()),
             Err(AllocFailed { .. }) => Err(AllocError),

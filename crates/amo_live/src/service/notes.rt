@@ -1,7 +1,10 @@
 //! What a service knows of its streams from what it did, and what it counts.
-ghost use Rattle.std.specs.Prelude.{◌≡◌};
-ghost use Rattle.amo_live.specs.Service.{shown_by, streams_of, words_of};
+ghost use Rattle.std.specs.Prelude.{◌≡◌, ◌++◌, OnOk};
+ghost use Rattle.amo_packet.specs.Packet.{body_of};
+ghost use Rattle.amo_live.specs.Service.{shown_by, spelling_of, streams_of, words_of};
+ghost use Rattle.amo_live.specs.Shown.{ack_lines};
 
+use crate::lines::{Word, push_words};
 use crate::service::{Lane, Service};
 use crate::{Figures, Lineage, Times};
 use amo_core::Mode;
@@ -9,9 +12,10 @@ use amo_net::Link;
 use amo_object::End;
 use amo_packet::{Body, Packet, read};
 use amo_text::Sink;
+use std::alloc::AllocError;
 
 impl<L: Link, S: Sink, W: Lineage> Service<L, S, W> {
-    /// A message more of this stream has no answer.
+    /// A message more of this stream was put, and has no answer.
     pub(crate) fn owe(&mut self, stream: u32, lane: Lane)
         ensures host { self.new.host ≡ self.old.host }
         ensures streams { streams_of self.new ≡ streams_of self.old }
@@ -19,9 +23,7 @@ impl<L: Link, S: Sink, W: Lineage> Service<L, S, W> {
         ensures words { words_of self.new ≡ words_of self.old }
     {
         self.put = self.put.saturating_add(1);
-        if !lane.owed {
-            self.owed = self.owed.saturating_add(1);
-        }
+        self.owed = self.owed.saturating_add(1);
         let waiting = lane.waiting.saturating_add(1);
         self.set_lane(
             stream,
@@ -138,6 +140,40 @@ impl<L: Link, S: Sink, W: Lineage> Service<L, S, W> {
         }
     }
 
+    /// A packet was delivered. If it is an ack, the client is told what it says of so many messages that travelled in its handshake.
+    pub(crate) fn tell_ack(&mut self, packet: &Packet<'_>, messages: u64) -> Result<(), AllocError>
+        ensures told { OnOk result (shown_by self.new ≡ shown_by self.old ++ ack_lines (spelling_of self.old) packet.now.stream (body_of packet.now.body) messages) }
+        ensures host { self.new.host ≡ self.old.host }
+        ensures streams { streams_of self.new ≡ streams_of self.old }
+        ensures setup { self.new.setup ≡ self.old.setup }
+        ensures words { words_of self.new ≡ words_of self.old }
+    {
+        let Body::Ack(_, was_got) = packet.body else {
+            return Ok(());
+        };
+        self.count_answers(was_got, messages);
+        let word = Word::of(was_got);
+        push_words(
+            &mut self.shown,
+            packet.stream,
+            word,
+            messages,
+            self.setup.spelling,
+        )
+    }
+
+    /// So many messages more have their answer.
+    fn count_answers(&mut self, was_got: bool, messages: u64)
+        ensures { self.new ≡ record self.old { yes = self.new.yes; no = self.new.no; owed = self.new.owed } }
+    {
+        if was_got {
+            self.yes = self.yes.saturating_add(messages);
+        } else {
+            self.no = self.no.saturating_add(messages);
+        }
+        self.owed = self.owed.saturating_sub(messages);
+    }
+
     /// The client of a stream was told what became of its last message.
     pub(crate) fn note_answer(&mut self, stream: u32, lane: Lane, was_got: bool)
         ensures host { self.new.host ≡ self.old.host }
@@ -145,12 +181,7 @@ impl<L: Link, S: Sink, W: Lineage> Service<L, S, W> {
         ensures shown { (shown_by self.new ≡ shown_by self.old) × (self.new.setup ≡ self.old.setup) }
         ensures words { words_of self.new ≡ words_of self.old }
     {
-        if was_got {
-            self.yes = self.yes.saturating_add(1);
-        } else {
-            self.no = self.no.saturating_add(1);
-        }
-        self.owed = self.owed.saturating_sub(1);
+        self.count_answers(was_got, 1);
         self.set_lane(
             stream,
             Lane {

@@ -18,7 +18,7 @@ returns-in-Start-clause-driven c =
     let pump = c.args.pump.now in let v = c.args.pass.now in let w = c.start.new.pass in let out = c.args.out.now in let new = c.start.new.out in
     subst (λ (a : Act). IfOk c.done_of.result (Drives pump v w out new c.args.stream a)) (sym c.in-Start.is)
     (subst (λ (r : Result (Option Done) LiveFault). IfOk r (Drives pump v w out new c.args.stream (act.Start c.in-Start.word))) (sym c.done_of.ensures)
-    (start_one pump c.give.new.pump c.start.new.self v w out new c.args.stream c.args.now c.give.ensures.station (ap (λ (x : Station GivenWord). x.host.side) c.give.ensures.given) c.in-Start.word c.start.result
+    (start_one pump c.give.new.pump c.start.new.self v w out new c.args.stream c.args.now c.give.ensures.station (ap (λ (x : Station GivenWord). x.host) c.give.ensures.given) c.in-Start.word c.start.result
     (ap (λ (x : Station GivenWord). x.batches) c.give.ensures.given) c.give.ensures.word c.start.ensures.ok c.start.ensures.no_event))
 
 pub returns-in-Batch-clause-driven : goal.returns-in-Batch-clause-driven
@@ -26,7 +26,7 @@ returns-in-Batch-clause-driven c =
     let pump = c.args.pump.now in let v = c.args.pass.now in let w = c.start-in-Batch.new.pass in let out = c.args.out.now in let new = c.start-in-Batch.new.out in
     subst (λ (a : Act). IfOk c.done_of-in-Batch.result (Drives pump v w out new c.args.stream a)) (sym c.in-Batch.is)
     (subst (λ (r : Result (Option Done) LiveFault). IfOk r (Drives pump v w out new c.args.stream (act.Batch c.in-Batch.word))) (sym c.done_of-in-Batch.ensures)
-    (start_together pump c.give-in-Batch.new.pump c.start-in-Batch.new.self v w out new c.args.stream c.args.now c.give-in-Batch.ensures.station (ap (λ (x : Station GivenWord). x.host.side) c.give-in-Batch.ensures.given) c.in-Batch.word c.start-in-Batch.result
+    (start_together pump c.give-in-Batch.new.pump c.start-in-Batch.new.self v w out new c.args.stream c.args.now c.give-in-Batch.ensures.station (ap (λ (x : Station GivenWord). x.host) c.give-in-Batch.ensures.given) c.in-Batch.word c.start-in-Batch.result
     (ap (λ (x : Station GivenWord). x.batches) c.give-in-Batch.ensures.given) c.give-in-Batch.ensures.word c.start-in-Batch.ensures.ok c.start-in-Batch.ensures.no_event))
 
 pub returns-in-Resend-clause-driven : goal.returns-in-Resend-clause-driven
@@ -44,7 +44,7 @@ returns-in-Deliver-clause-driven c =
     let delivers = subst (λ (q : OwnedPacket). IfOk c.deliver.result (Delivers (λ (words : GivenWord). given words.word) q c.args.now c.give-in-Deliver.new.pump c.deliver.new.self v w out new)) c.as_packet.ensures.value c.deliver.ensures.ok in
     subst (λ (a : Act). IfOk c.done_of-in-Deliver.result (Drives pump v w out new c.args.stream a)) (sym c.in-Deliver.is)
     (subst (λ (r : Result (Option Done) LiveFault). IfOk r (Drives pump v w out new c.args.stream (act.Deliver p word))) (sym c.done_of-in-Deliver.ensures)
-    (deliver_one pump c.give-in-Deliver.new.pump c.deliver.new.self v w out new c.args.stream c.args.now c.give-in-Deliver.ensures.station (ap (λ (x : Station GivenWord). x.host.side) c.give-in-Deliver.ensures.given) p word c.deliver.result
+    (deliver_one pump c.give-in-Deliver.new.pump c.deliver.new.self v w out new c.args.stream c.args.now c.give-in-Deliver.ensures.station (ap (λ (x : Station GivenWord). x.host) c.give-in-Deliver.ensures.given) p word c.deliver.result
     (packet_stream Two pump.host.side c.args.stream p word suits.1) c.give-in-Deliver.ensures.word suits.0 delivers c.deliver.ensures.no_event))
 
 pub returns-in-Crash-clause-driven : goal.returns-in-Crash-clause-driven

@@ -2,7 +2,7 @@ use Rattle.std.proofs.Common.{[], refl, ◌∙◌}
 use Rattle.amo_live.specs.Service.{shown_by, spelling_of, words_of}
 use Rattle.amo_live.proofs.Conserving.{moves_on, none_moved}
 use Rattle.amo_live.proofs.Fresh.{bears_none, bears_on}
-use Rattle.amo_live.proofs.Showing.{shows_after, shows_none}
+use Rattle.amo_live.proofs.Showing.{shows_after, shows_idle}
 use Rattle.amo_live.proofs.turns.put_kept_on.Goals as goal
 
 pub messages-init : goal.messages-init
@@ -12,7 +12,7 @@ messages-init g c =
       noted = c.requires;
       moves = none_moved c.args.kept.now c.args.kept.now v v refl refl;
       streams = refl;
-      shown = shows_none (spelling_of c.args.service.now) v v (shown_by c.args.service.now) (shown_by c.args.service.now) refl refl;
+      shown = shows_idle (spelling_of c.args.service.now) v v (shown_by c.args.service.now) (shown_by c.args.service.now) refl refl;
       words = bears_none (words_of c.args.service.now) (words_of c.args.service.now) v v refl refl;
       spells = refl;
     }

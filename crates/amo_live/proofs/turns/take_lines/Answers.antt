@@ -2,7 +2,7 @@ use Rattle.std.proofs.Common.{◌≡◌, refl, rules, ◌∙◌}
 use Rattle.amo_live.specs.Client.{moment}
 use Rattle.amo_live.specs.Service.{shown_by, spelling_of, streams_of, words_of}
 use Rattle.amo_live.proofs.Fresh.{bears_on}
-use Rattle.amo_live.proofs.Showing.{shows_after}
+use Rattle.amo_live.proofs.Showing.{shows_after, shows_idle}
 use Rattle.amo_live.proofs.Conserving.{line_over, none_moved, none_over, serves_none}
 use Rattle.amo_live.proofs.turns.take_lines.Goals as goal
 
@@ -43,6 +43,11 @@ returns-then-was_rung-clause-serves g c =
     let first = moment c.args.desk.now.input c.args.desk.now.kept c.args.service.now.host.pass in
     serves_none c.args.desk.now.spelling c.args.desk.now.puts (streams_of c.args.service.now) first first refl
     (none_moved c.args.desk.now.kept c.args.desk.now.kept c.args.service.now.host.pass c.args.service.now.host.pass refl refl)
+
+pub returns-then-was_rung-clause-shown : goal.returns-then-was_rung-clause-shown
+returns-then-was_rung-clause-shown g c =
+    let service = c.args.service.now in
+    shows_idle (spelling_of service) service.host.pass service.host.pass (shown_by service) (shown_by service) refl refl
 
 pub returns-in_default-clause-serves : goal.returns-in_default-clause-serves
 returns-in_default-clause-serves g c =

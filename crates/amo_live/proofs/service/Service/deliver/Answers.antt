@@ -1,18 +1,23 @@
-use Rattle.std.proofs.Common.{◌≡◌, refl, rules}
+use Rattle.std.proofs.Common.{◌≡◌, ◌∙◌, refl, ap, rules}
 use Rattle.std.proofs.lemmas.Result.{on_ok_weaker}
 use Rattle.amo_live.specs.Service.{shown_by, spelling_of, words_of}
 use Rattle.amo_live.proofs.Fresh.{bears_as, bears_on}
-use Rattle.amo_live.proofs.Showing.{delivered_then, delivery_shows, shows_as}
+use Rattle.amo_packet.specs.Packet.{packet_of}
+use Rattle.amo_live.proofs.Showing.{delivered_then, shows_as, shows_idle, undelivered_shows}
 use Rattle.amo_live.proofs.service.Service.deliver.Goals as goal
 
 pub returns-clause-shown : goal.returns-clause-shown
 returns-clause-shown g c =
     let pass : c.arrive.new.self.host.pass ≡ c.deliver_anew.new.self.host.pass = search rules in
-    let same : shown_by c.arrive.new.self ≡ shown_by c.args.self.now = search rules in
+    let same : shown_by c.arrive.new.self ≡ shown_by c.tell_ack.new.self = search rules in
     let spelling : spelling_of c.arrive.new.self ≡ spelling_of c.args.self.now = search rules in
     let did = c.in_ok-stream.ensures.delivered in
-    delivered_then c.args.self.now.host c.deliver_anew.new.self.host c.go_on.result (spelling_of c.args.self.now) (spelling_of c.arrive.new.self) c.args.bytes.now did.0 c.in_ok-stream.field-0 c.arrive.new.self.host.pass
-    c.go_on.new.self.host.pass (shown_by c.args.self.now) (shown_by c.arrive.new.self) (shown_by c.go_on.new.self) did.1 pass same spelling c.go_on.ensures.shown
+    let shown : shown_by c.deliver_anew.new.self ≡ shown_by c.args.self.now = search rules in
+    let spelt : spelling_of c.deliver_anew.new.self ≡ spelling_of c.args.self.now = search rules in
+    delivered_then c.args.self.now.host c.deliver_anew.new.self.host c.go_on.result (spelling_of c.args.self.now) (spelling_of c.arrive.new.self) c.args.bytes.now (packet_of c.in-Ok.packet) did.0 c.in-Some.stream c.in-Some.mode c.told_by_ack.result
+    c.arrive.new.self.host.pass c.go_on.new.self.host.pass (shown_by c.args.self.now) (shown_by c.arrive.new.self) (shown_by c.go_on.new.self) c.in-Ok.ensures.found (rw c.in-Some.is at did.1)
+    (λ some. let known = c.told_by_ack.ensures some in (rw known.0 at c.mode_of-before.ensures, known.1)) pass (same ∙ rw (shown, spelt) at c.in_ok-tell_ack.ensures.told) spelling
+    c.go_on.ensures.shown
 
 pub returns-clause-words : goal.returns-clause-words
 returns-clause-words g c =
@@ -31,4 +36,18 @@ returns-in_default-2-clause-shown g c =
     let old = shown_by c.args.self.now in
     let spelling = spelling_of c.args.self.now in
     shows_as spelling spelling c.args.self.now.host.pass c.deliver_anew.new.self.host.pass c.args.self.now.host.pass c.drop_idle.new.self.host.pass old old old (shown_by c.drop_idle.new.self) refl refl pass refl same
-    (delivery_shows c.args.self.now.host c.deliver_anew.new.self.host spelling c.args.bytes.now did.0 c.in_ok-stream.field-0 old old did.1 refl)
+    (undelivered_shows c.args.self.now.host c.deliver_anew.new.self.host spelling c.args.bytes.now did.0 old old (rw c.in_default-2.is at did.1) refl)
+
+pub returns-in_default-clause-shown : goal.returns-in_default-clause-shown
+returns-in_default-clause-shown g c =
+    shows_idle (spelling_of c.args.self.now) c.args.self.now.host.pass c.miss.new.self.host.pass (shown_by c.args.self.now) (shown_by c.miss.new.self) (ap (λ h. h.pass) c.miss.ensures.host) c.miss.ensures.shown.0
+
+pub returns-then-not-has-clause-shown : goal.returns-then-not-has-clause-shown
+returns-then-not-has-clause-shown g c =
+    let old = c.args.self.now in let new = c.drop_foreign.new.self in
+    shows_idle (spelling_of old) old.host.pass new.host.pass (shown_by old) (shown_by new) (ap (λ s. s.host.pass) c.drop_foreign.ensures) (ap (λ s. shown_by s) c.drop_foreign.ensures)
+
+pub returns-then-not-is_for-clause-shown : goal.returns-then-not-is_for-clause-shown
+returns-then-not-is_for-clause-shown g c =
+    let old = c.args.self.now in let new = c.drop_stray.new.self in
+    shows_idle (spelling_of old) old.host.pass new.host.pass (shown_by old) (shown_by new) (ap (λ s. s.host.pass) c.drop_stray.ensures) (ap (λ s. shown_by s) c.drop_stray.ensures)

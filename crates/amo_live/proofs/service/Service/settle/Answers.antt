@@ -1,20 +1,18 @@
-use Rattle.std.proofs.Common.{◌≡◌, ◌++◌, refl, rules, true, false}
-use Rattle.amo_live.specs.declared.lines.Word.TheVariants as word
+use Rattle.std.proofs.Common.{◌≡◌, ◌++◌, refl, rules}
 use Rattle.amo_object.specs.declared.step.End.TheVariants.{Sender}
 use Rattle.amo_core.specs.declared.act.Act.TheVariants as act
 use Rattle.amo_book.specs.Calls.{ack_answer}
 use Rattle.amo_live.specs.Service.{shown_by, spelling_of, words_of}
 use Rattle.amo_live.proofs.Fresh.{bears_as, bears_none, call_bears}
-use Rattle.amo_live.specs.Shown.{word_line}
-use Rattle.amo_live.proofs.Showing.{no_shows, shows_as, unknown_shows, yes_shows}
+use Rattle.amo_live.specs.Shown.{word_line, word_of}
+use Rattle.amo_live.proofs.Showing.{ack_shows, shows_as, unknown_shows}
 use Rattle.amo_live.proofs.service.Service.settle.Goals as goal
-use Rattle.amo_live.proofs.service.Service.settle.Goals.{then-was_got, else-was_got}
 
 pub returns-in_default-2-clause-shown : goal.returns-in_default-2-clause-shown
 returns-in_default-2-clause-shown g c =
     let known = rw c.in_default-2.is at c.in_ok-was_got.ensures.known in
     let old = shown_by c.args.self.now in
-    unknown_shows (spelling_of c.args.self.now) c.args.self.now.host.pass c.get_ack.new.self.pass c.args.stream old old c.in_default-2.field-0 known refl
+    unknown_shows (spelling_of c.args.self.now) c.args.self.now.host.pass c.get_ack.new.self.pass c.args.end.stream old old c.in_default-2.field-0 known refl
 
 pub returns-clause-shown : goal.returns-clause-shown
 returns-clause-shown g c =
@@ -24,25 +22,15 @@ returns-clause-shown g c =
     let old = shown_by c.args.self.now in
     let new = shown_by c.note_answer.new.self in
     let pass : last ≡ c.get_ack.new.self.pass = search rules in
-    elim c.if-was_got.branch [
-      | then-was_got w ↦
-          let got : c.in-Ok.was_got ≡ true = search rules in
-          let known = rw got at (rw c.in-Ok.is at c.in_ok-was_got.ensures.known) in
-          let told : new ≡ old ++ word_line spelling c.args.stream word.Yes = search rules in
-          shows_as spelling spelling first c.get_ack.new.self.pass first last old new old new refl refl pass refl refl
-          (yes_shows spelling first c.get_ack.new.self.pass c.args.stream old new c.in-Ok.field-0-1 known told)
-      | else-was_got w ↦
-          let lost : c.in-Ok.was_got ≡ false = search rules in
-          let known = rw lost at (rw c.in-Ok.is at c.in_ok-was_got.ensures.known) in
-          let told : new ≡ old ++ word_line spelling c.args.stream word.No = search rules in
-          shows_as spelling spelling first c.get_ack.new.self.pass first last old new old new refl refl pass refl refl
-          (no_shows spelling first c.get_ack.new.self.pass c.args.stream old new c.in-Ok.field-0-1 known told)
-    ]
+    let known = rw c.in-Ok.is at c.in_ok-was_got.ensures.known in
+    let told : new ≡ old ++ word_line spelling c.args.end.stream (word_of c.in-Ok.was_got) = search rules in
+    shows_as spelling spelling first c.get_ack.new.self.pass first last old new old new refl refl pass refl refl
+    (ack_shows spelling first c.get_ack.new.self.pass c.args.end.stream old new c.in-Ok.was_got c.in-Ok.field-0-1 known told)
 
 pub returns-in_default-2-clause-words : goal.returns-in_default-2-clause-words
 returns-in_default-2-clause-words g c =
     let old = words_of c.args.self.now in let first = c.args.self.now.host.pass in
-    bears_none old old first c.get_ack.new.self.pass refl (call_bears first c.get_ack.new.self.pass Sender c.args.stream act.Ack (ack_answer c.in_ok-was_got.field-0) refl c.in_ok-was_got.ensures.known)
+    bears_none old old first c.get_ack.new.self.pass refl (call_bears first c.get_ack.new.self.pass Sender c.args.end.stream act.Ack (ack_answer c.in_ok-was_got.field-0) refl c.in_ok-was_got.ensures.known)
 
 pub returns-clause-words : goal.returns-clause-words
 returns-clause-words g c =
@@ -50,4 +38,4 @@ returns-clause-words g c =
     let pass : c.note_answer.new.self.host.pass ≡ c.get_ack.new.self.pass = search rules in
     let words : words_of c.note_answer.new.self ≡ old = search rules in
     bears_as old old old (words_of c.note_answer.new.self) first c.get_ack.new.self.pass first c.note_answer.new.self.host.pass refl words refl pass
-    (bears_none old old first c.get_ack.new.self.pass refl (call_bears first c.get_ack.new.self.pass Sender c.args.stream act.Ack (ack_answer c.in_ok-was_got.field-0) refl c.in_ok-was_got.ensures.known))
+    (bears_none old old first c.get_ack.new.self.pass refl (call_bears first c.get_ack.new.self.pass Sender c.args.end.stream act.Ack (ack_answer c.in_ok-was_got.field-0) refl c.in_ok-was_got.ensures.known))
