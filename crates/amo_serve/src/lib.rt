@@ -29,6 +29,7 @@ mod door;
 mod ending;
 mod fault;
 mod gets;
+mod handshakes;
 mod lane;
 mod news;
 mod page;

@@ -11,6 +11,7 @@ mod states;
 mod taking;
 
 use crate::counts::Counts;
+use crate::handshakes::Handshakes;
 use crate::news::News;
 use crate::page::PAGE;
 use amo_door::{About, Answer, Call, Claim, Happening, Kind, Numbers, Refusal, Word};
@@ -48,6 +49,8 @@ pub struct Responder<L, S, W> {
     pub(crate) streams: u32,
     /// How many lines its journal had at the start of its life.
     pub(crate) first_line: u64,
+    /// How the handshakes of its life ended.
+    pub(crate) handshakes: Handshakes,
     /// What happened of late.
     pub(crate) news: News,
     /// When the other host was heard last, in microseconds.
@@ -112,6 +115,7 @@ impl<L: Link + Drop, S: Sink + Drop, W: Lineage + Drop> Responder<L, S, W> {
             identity,
             streams,
             first_line,
+            handshakes: Handshakes::new(alloc, streams)?,
             news,
             heard_at: None,
             counts: Counts::new(),

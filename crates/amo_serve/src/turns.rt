@@ -207,12 +207,17 @@ impl<L: Link, S: Durable, W: Lineage> Responder<L, S, W> {
         Ok(())
     }
 
-    /// Tells those who follow which streams' last messages have settled.
+    /// Notes how handshakes ended, and tells those who follow which streams' last messages have settled.
     fn tell_settled(&mut self) -> Result<(), LiveFault>
         ensures service { self.new.service ≡ self.old.service }
         ensures numbers { self.new.numbers ≡ self.old.numbers }
     {
         for settled in self.service.settled() {
+            self.handshakes
+                .end(settled.stream, settled.messages, settled.was_got)?;
+            if !settled.is_last {
+                continue;
+            }
             let happening = if settled.was_got {
                 Happening::Yes(settled.stream)
             } else {

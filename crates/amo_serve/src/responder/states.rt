@@ -1,6 +1,7 @@
 //! How streams are, and what became of messages.
-ghost use Rattle.std.specs.Prelude.{◌≡◌, OnOk};
+ghost use Rattle.std.specs.Prelude.{◌≡◌, ◌+◌, OnOk};
 ghost use Rattle.amo_door.specs.Numbers.{HasStream};
+ghost use Rattle.amo_serve.specs.Fates.{present_fate};
 
 use crate::responder::{Reply, Responder};
 use amo_door::{Answer, Fate, Last, ReceiverState, Refusal, SenderState, Word};
@@ -87,7 +88,8 @@ impl<L: Link, S: Sink, W: Lineage> Responder<L, S, W> {
             });
         }
         let lane = self.service.sender_lane(stream);
-        let answer = match fate_of(&lane, self.numbers.last_number(stream), number) {
+        let was_got = self.handshakes.has_got(stream, number);
+        let answer = match fate_of(&lane, self.numbers.last_number(stream), number, was_got) {
             Some(fate) => Answer::outcome(self.alloc, &life, stream, number, fate)?,
             None => Answer::conflict_at_sender(
                 self.alloc,
@@ -113,21 +115,20 @@ fn last_of(lane: &SenderLane, put: u64) -> Last {
     }
 }
 
-/// What became of the message of this number on a stream on which so many were put, in this life; none where it was not put yet.
-fn fate_of(lane: &SenderLane, put: u64, number: u64) -> Option<Fate> {
+/// What became of the message of this number on a stream on which so many were put, in this life; none where it was not put yet. It is open where it is
+/// among the last ones, which wait or travel, and else its handshake has ended: then it was got, as that says, or was got or lost.
+fn fate_of(lane: &SenderLane, put: u64, number: u64, was_got: bool) -> Option<Fate>
+    ensures { result ≡ present_fate (lane.now.waiting + lane.now.travelling) put number was_got }
+{
     if number == 0 || put < number {
         return None;
     }
     let open = lane.waiting.saturating_add(lane.travelling);
     if put - number < open {
-        return Some(Fate::Open);
-    }
-    if number < put {
-        return Some(Fate::Settled);
-    }
-    match last_of(lane, put) {
-        Last::Yes => Some(Fate::Got),
-        Last::No => Some(Fate::Unknown),
-        Last::Open | Last::None => Some(Fate::Open),
+        Some(Fate::Open)
+    } else if was_got {
+        Some(Fate::Got)
+    } else {
+        Some(Fate::Settled)
     }
 }
