@@ -22,6 +22,7 @@ pub unfit_of : (arguments : List Text) (u : Unfit) → AreTaken arguments → Is
 unfit_of arguments unfit.Absent taken = taken
 unfit_of arguments (unfit.Value advice) taken = taken
 unfit_of arguments unfit.EachAndBatch taken = taken
+unfit_of arguments unfit.EachAndMany taken = taken
 unfit_of arguments unfit.NoMemory taken = tt
 
 -- what is told of a refusal is told of the arguments
@@ -33,6 +34,7 @@ told_of arguments (refusal.ByParser e) fault.NoMemory by told = tt
 told_of arguments (refusal.Unfit unfit.Absent) (fault.Text text status) taken told = inr (taken, told)
 told_of arguments (refusal.Unfit (unfit.Value advice)) (fault.Text text status) taken told = inr (taken, told)
 told_of arguments (refusal.Unfit unfit.EachAndBatch) (fault.Text text status) taken told = inr (taken, told)
+told_of arguments (refusal.Unfit unfit.EachAndMany) (fault.Text text status) taken told = inr (taken, told)
 told_of arguments (refusal.Unfit unfit.NoMemory) (fault.Text text status) taken told = absurd told
 told_of arguments (refusal.Unfit u) fault.Seed taken told = absurd told
 told_of arguments (refusal.Unfit u) fault.NoMemory taken told = tt

@@ -6,7 +6,7 @@ use Rattle.amo_arguments.specs.Chosen.{Chooses, ChoosesBy, HasSide, Met}
 use Rattle.amo_settings.specs.declared.settings.ServedSide.{ServedSide}
 use Rattle.amo_settings.specs.declared.settings.ServedSide.TheVariants as side
 use Rattle.amo_settings.specs.declared.settings.Settings.{Settings}
-use Rattle.amo_settings.specs.declared.settings.Settings.TheVariants.{Replay, Run, Send, Receive, Stop, Serve, Audit, Explain, Outcomes, Got, Manual, Completions}
+use Rattle.amo_settings.specs.declared.settings.Settings.TheVariants.{Replay, Run, Send, Receive, Stop, Serve, Call, Audit, Explain, Outcomes, Got, Manual, Completions}
 
 -- on each side
 within_side : (rows : List Row) (s : ServedSide) → HasSide rows s → IsSideWithin s
@@ -21,6 +21,7 @@ within_by met (Send send) h = h.2.host.within
 within_by met (Receive receive) h = h.2.host.within
 within_by met (Stop file) h = tt
 within_by met (Serve serve) h = within_side h.0 serve.side h.2.side_is
+within_by met (Call settings) h = tt
 within_by met (Audit file second) h = tt
 within_by met (Explain file second) h = tt
 within_by met (Outcomes settings) h = tt

@@ -1,5 +1,5 @@
 -- What the program's arguments choose.
-use Rattle.std.specs.Prelude.{◌≡◌, ◌≢◌, ℕ, ◌≤◌, Bool, false, ◌&&◌, if◌then◌else◌, List, [], ◌∷◌, ◌++◌, Option, Some, None, IfSome, codes, length, option_map, string_bytes}
+use Rattle.std.specs.Prelude.{◌≡◌, ◌≢◌, ℕ, ◌≤◌, Bool, false, not, ◌&&◌, ◌||◌, if◌then◌else◌, List, [], ◌∷◌, ◌++◌, Option, Some, None, IfSome, codes, length, option_map, string_bytes}
 use Rattle.hex.specs.Hex.{IsBytes}
 use Rattle.std.specs.Fmt.{decimal}
 use Rattle.clap.specs.Words.{Row, Text, first_of, one_of, subcommand_of, subcommand_rows_of}
@@ -10,6 +10,9 @@ use Rattle.amo_settings.specs.declared.run.LinkKind.{LinkKind}
 use Rattle.amo_settings.specs.declared.run.LinkKind.TheVariants.{Memory, Udp}
 use Rattle.amo_settings.specs.declared.run.RunSettings.{RunSettings}
 use Rattle.amo_arguments.specs.Commands.{Names, AreLinks, AreShells, amo}
+use Rattle.amo_settings.specs.declared.settings.CallSettings.{CallSettings}
+use Rattle.amo_settings.specs.declared.settings.DoorCall.{DoorCall}
+use Rattle.amo_settings.specs.declared.settings.DoorCall.TheVariants as call
 use Rattle.amo_settings.specs.declared.settings.GotSettings.{GotSettings}
 use Rattle.amo_settings.specs.declared.settings.HostSettings.{HostSettings}
 use Rattle.amo_settings.specs.declared.settings.OutcomesSettings.{OutcomesSettings}
@@ -19,7 +22,7 @@ use Rattle.amo_settings.specs.declared.settings.ServeSettings.{ServeSettings}
 use Rattle.amo_settings.specs.declared.settings.ServedSide.{ServedSide}
 use Rattle.amo_settings.specs.declared.settings.ServedSide.TheVariants as side
 use Rattle.amo_settings.specs.declared.settings.Settings.{Settings}
-use Rattle.amo_settings.specs.declared.settings.Settings.TheVariants.{Replay, Run, Send, Receive, Stop, Serve, Audit, Explain, Outcomes, Got, Manual, Completions}
+use Rattle.amo_settings.specs.declared.settings.Settings.TheVariants.{Replay, Run, Send, Receive, Stop, Serve, Call, Audit, Explain, Outcomes, Got, Manual, Completions}
 use Rattle.amo_settings.specs.declared.settings.Shell.{Shell}
 use Rattle.amo_settings.specs.declared.settings.Shell.TheVariants.{Bash, Zsh, Fish}
 
@@ -115,13 +118,18 @@ pub record HasHost (rows : List Row) (host : HostSettings) : Type 0 where
   pub stats : HasNumberOrNone rows (codes "stats") host.stats
   pub within : IsHostWithin host
 
--- the matches of `send` have these values, of which no two contradict each other
+-- The matches of `send` have these values, of which no two contradict each other: a stream's next message waits for the last one's answer, unless several
+-- may wait, as they may where they travel together.
 pub record HasSend (rows : List Row) (send : SendSettings) : Type 0 where
   pub host : HasHost rows send.host
-  pub each : HasFlag rows (codes "each") send.each
+  pub each : Bool
+  pub each_is : HasFlag rows (codes "each") each
+  pub many : Bool
+  pub many_is : HasFlag rows (codes "many") many
   pub batch : HasFlag rows (codes "batch") send.batch
   pub hex : HasFlag rows (codes "hex") send.hex
-  pub apart : send.each && send.batch ≡ false
+  pub waits : send.each ≡ not many && not send.batch
+  pub apart : each && (many || send.batch) ≡ false
 
 -- the matches of `receive` have these values
 pub record HasReceive (rows : List Row) (receive : ReceiveSettings) : Type 0 where
@@ -154,6 +162,31 @@ pub record HasServe (rows : List Row) (serve : ServeSettings) : Type 0 where
   pub door : HasAddress rows (codes "door") 0 (string_bytes serve.door)
   pub token : HasTextOrNone rows (codes "token-file") (option_map string_bytes serve.token_file)
 
+-- the matches of `call` have a stream, 1 to 256
+abbrev pub HasStream : List Row → ℕ → Type 0
+HasStream rows stream = HasNumber rows (codes "stream") stream × (1 ≤ stream) × (stream ≤ 256)
+
+-- and the file of the call, which has a name
+abbrev pub HasState : List Row → Text → Type 0
+HasState rows file = HasText rows (codes "state") file × (file ≢ [])
+
+-- the matches of `call` have this call
+abbrev pub HasDoorCall : List Row → DoorCall → Type 0
+HasDoorCall rows (call.Put stream file message) =
+    HasText rows (codes "CALL") (codes "put") × HasStream rows stream × HasState rows (string_bytes file) × HasTextOrNone rows (codes "MESSAGE") (option_map string_bytes message)
+HasDoorCall rows (call.Get stream file) = HasText rows (codes "CALL") (codes "get") × HasStream rows stream × HasState rows (string_bytes file)
+HasDoorCall rows (call.Done stream file) = HasText rows (codes "CALL") (codes "done") × HasStream rows stream × HasState rows (string_bytes file)
+HasDoorCall rows (call.Status stream) = HasText rows (codes "CALL") (codes "status") × HasStream rows stream
+HasDoorCall rows (call.Watch after) = HasText rows (codes "CALL") (codes "watch") × HasNumberOrNone rows (codes "after") after
+
+-- the matches of `call` have these values
+pub record HasCall (rows : List Row) (settings : CallSettings) : Type 0 where
+  pub call_is : HasDoorCall rows settings.call
+  pub door : HasAddress rows (codes "door") 1 (string_bytes settings.door)
+  pub token : HasTextOrNone rows (codes "token-file") (option_map string_bytes settings.token_file)
+  pub wait : HasNumberOrNone rows (codes "wait") settings.wait
+  pub hex : HasFlag rows (codes "hex") settings.hex
+
 -- the matches of `outcomes` have these values
 pub record HasOutcomes (rows : List Row) (settings : OutcomesSettings) : Type 0 where
   pub first : HasText rows (codes "FILE") (string_bytes settings.first)
@@ -166,6 +199,7 @@ pub record HasOutcomes (rows : List Row) (settings : OutcomesSettings) : Type 0 
 pub record HasGot (rows : List Row) (settings : GotSettings) : Type 0 where
   pub file : HasText rows (codes "FILE") (string_bytes settings.file)
   pub after : HasNumberOrNone rows (codes "after") settings.after
+  pub follow : HasFlag rows (codes "follow") settings.follow
   pub json : HasFlag rows (codes "json") settings.json
 
 -- a command is met that chooses these settings
@@ -176,6 +210,7 @@ ChoosesBy met (Send send) = (rows : List Row) × (met ≡ Some (codes "send", ro
 ChoosesBy met (Receive receive) = (rows : List Row) × (met ≡ Some (codes "receive", rows)) × HasReceive rows receive
 ChoosesBy met (Stop file) = (rows : List Row) × (met ≡ Some (codes "stop", rows)) × HasText rows (codes "FILE") (string_bytes file)
 ChoosesBy met (Serve serve) = (rows : List Row) × (met ≡ Some (codes "serve", rows)) × HasServe rows serve
+ChoosesBy met (Call settings) = (rows : List Row) × (met ≡ Some (codes "call", rows)) × HasCall rows settings
 ChoosesBy met (Audit file second) = (rows : List Row) × (met ≡ Some (codes "audit", rows))
     × HasText rows (codes "FILE") (string_bytes file) × HasTextOrNone rows (codes "SECOND") (option_map string_bytes second)
 ChoosesBy met (Explain file second) = (rows : List Row) × (met ≡ Some (codes "explain", rows))

@@ -15,6 +15,14 @@ file = record (new_rule (codes "FILE")) { required = true; action = Some Set }
 abbrev pub second_file : Rule
 second_file = record (new_rule (codes "SECOND")) { value_names = 1; action = Some Set }
 
+-- an argument of this name, which is required, with one value
+abbrev pub needed : Text → Rule
+needed name = record (new_rule name) { required = true; action = Some Set }
+
+-- one that may be absent
+abbrev pub offered : Text → Rule
+offered name = record (new_rule name) { action = Some Set }
+
 -- an option that is required, with one value
 abbrev pub text : Text → Rule
 text name = record (new_rule name) { long = Some name; value_names = 1; required = true; action = Some Set }
@@ -42,6 +50,10 @@ optional_number name low high = record (new_rule name) { long = Some name; value
 -- --tick: a number of microseconds, up to a minute, and 10000 where it is absent
 abbrev pub tick : Rule
 tick = record (optional_number (codes "tick") 1 60000000) { defaults = codes "10000" ∷ [] }
+
+-- --stream: a number from 1 to 256
+abbrev pub stream : Rule
+stream = optional_number (codes "stream") 1 256
 
 -- a list of texts in memory
 abbrev pub Names : Type 0
@@ -90,7 +102,7 @@ host name =
     (optional_number (codes "stats") 1 1000000)
 
 abbrev pub send : App
-send = with_rule (with_rule (with_rule (host (codes "send")) (flag (codes "each"))) (flag (codes "batch"))) (flag (codes "hex"))
+send = with_rule (with_rule (with_rule (with_rule (host (codes "send")) (flag (codes "each"))) (flag (codes "many"))) (flag (codes "batch"))) (flag (codes "hex"))
 
 abbrev pub receive : App
 receive = with_rule (host (codes "receive")) (optional_number (codes "count") 0 18446744073709551615)
@@ -105,6 +117,16 @@ served = with_rule (with_rule (with_rule (placed (codes "serve")) (text (codes "
 abbrev pub serve : App
 serve = with_rule (with_rule (with_rule (with_rule (with_rule served tick) (flag (codes "batch"))) (flag (codes "sync"))) (optional_number (codes "wait") 0 1000000)) (optional_number (codes "piece") 1024 1000000000000)
 
+-- which call of a door is made, with the message of a put
+abbrev pub called : App
+called = with_rule (with_rule (with_rule (new_app (codes "call")) (needed (codes "CALL"))) (offered (codes "MESSAGE"))) (text (codes "door"))
+
+-- and of which stream, by which file and token, and how
+abbrev pub call : App
+call =
+    with_rule (with_rule (with_rule (with_rule (with_rule (with_rule called stream) (optional_text (codes "state")))
+    (optional_text (codes "token-file"))) (optional_number (codes "wait") 0 1000000)) (optional_number (codes "after") 0 18446744073709551615)) (flag (codes "hex"))
+
 abbrev pub audit : App
 audit = with_rule (with_rule (new_app (codes "audit")) file) second_file
 
@@ -115,7 +137,7 @@ abbrev pub outcomes : App
 outcomes = with_rule (with_rule (with_rule (with_rule (with_rule (new_app (codes "outcomes")) file) second_file) (flag (codes "open"))) (flag (codes "gone"))) (flag (codes "json"))
 
 abbrev pub got : App
-got = with_rule (with_rule (with_rule (new_app (codes "got")) file) (optional_number (codes "after") 0 18446744073709551615)) (flag (codes "json"))
+got = with_rule (with_rule (with_rule (with_rule (new_app (codes "got")) file) (optional_number (codes "after") 0 18446744073709551615)) (flag (codes "follow"))) (flag (codes "json"))
 
 abbrev pub manual : App
 manual = new_app (codes "man")
@@ -128,7 +150,7 @@ abbrev pub bare : App
 bare = let app = new_app (codes "amo") in record app { top = record app.top { has_version = true; subcommand_required = true; arg_required_else_help = true } }
 
 abbrev pub acting : Names → App
-acting links = with_subcommand (with_subcommand (with_subcommand (with_subcommand (with_subcommand (with_subcommand bare replay.top) (run links).top) send.top) receive.top) stop.top) serve.top
+acting links = with_subcommand (with_subcommand (with_subcommand (with_subcommand (with_subcommand (with_subcommand (with_subcommand bare replay.top) (run links).top) send.top) receive.top) stop.top) serve.top) call.top
 
 abbrev pub before_manual : Names → App
 before_manual links = with_subcommand (with_subcommand (with_subcommand (with_subcommand (acting links) audit.top) explain.top) outcomes.top) got.top

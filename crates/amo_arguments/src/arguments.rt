@@ -4,7 +4,7 @@ ghost use Rattle.clap.specs.Words.{first_of, found_of, rows_of, subcommand_rows_
 ghost use Rattle.amo_text.specs.Hexadecimal.{hex};
 ghost use Rattle.amo_settings.specs.Limits.{IsWithin};
 ghost use Rattle.amo_arguments.specs.Arguments.{AreTaken, IsRefusalOf, IsToldOf};
-ghost use Rattle.amo_arguments.specs.Chosen.{Chooses, ChoosesBy, ChoosesRun, HasAddress, HasFlag, HasGot, HasHost, HasJournal, HasNoSeed, HasNumber, HasNumberOrNone, HasOutcomes, HasReceive, HasSend, HasServe, HasServedHost, HasSide, HasText, HasTextOrNone, LacksSeed, Matches, MeetsSeedless, link_name, shell_name};
+ghost use Rattle.amo_arguments.specs.Chosen.{Chooses, ChoosesBy, ChoosesRun, HasAddress, HasCall, HasDoorCall, HasFlag, HasGot, HasHost, HasJournal, HasNoSeed, HasNumber, HasNumberOrNone, HasOutcomes, HasReceive, HasSend, HasServe, HasServedHost, HasSide, HasState, HasStream, HasText, HasTextOrNone, LacksSeed, Matches, MeetsSeedless, link_name, shell_name};
 
 use crate::ArgumentsFault;
 use crate::commands::{
@@ -13,8 +13,8 @@ use crate::commands::{
 use crate::refusal::{Refusal, Unfit, told};
 use crate::values::{check_address, check_apart, check_ceiling, number_in};
 use amo_settings::{
-    GotSettings, HostSettings, LinkKind, OutcomesSettings, ReceiveSettings, RunSettings,
-    SendSettings, ServeSettings, ServedSide, Settings, Shell,
+    CallSettings, DoorCall, GotSettings, HostSettings, LinkKind, OutcomesSettings, ReceiveSettings,
+    RunSettings, SendSettings, ServeSettings, ServedSide, Settings, Shell,
 };
 use amo_text::laws::hex_is_injective;
 use amo_text::read_hex;
@@ -75,6 +75,9 @@ fn parse(alloc: Global, matches: &ArgMatches<'_>) -> Result<Option<Settings>, Un
     }
     if let Some(serve) = matches.subcommand_matches("serve") {
         return Ok(Some(Settings::Serve(parse_serve(alloc, serve)?)));
+    }
+    if let Some(call) = matches.subcommand_matches("call") {
+        return Ok(Some(Settings::Call(parse_call(alloc, call)?)));
     }
     if let Some(audit) = matches.subcommand_matches("audit") {
         let file = text_of(alloc, audit, "FILE")?;
@@ -149,14 +152,18 @@ fn parse_send(alloc: Global, matches: &ArgMatches<'_>) -> Result<SendSettings, U
 {
     let host = parse_host(alloc, matches)?;
     let each = flag_of(alloc, matches, "each")?;
+    let many = flag_of(alloc, matches, "many")?;
     let batch = flag_of(alloc, matches, "batch")?;
     let hex = flag_of(alloc, matches, "hex")?;
     if each && batch {
         return Err(Unfit::EachAndBatch);
     }
+    if each && many {
+        return Err(Unfit::EachAndMany);
+    }
     Ok(SendSettings {
         host,
-        each,
+        each: !many && !batch,
         batch,
         hex,
     })
@@ -236,6 +243,77 @@ fn parse_served_host(alloc: Global, matches: &ArgMatches<'_>) -> Result<HostSett
     })
 }
 
+/// The settings that the arguments of `call` choose.
+fn parse_call(alloc: Global, matches: &ArgMatches<'_>) -> Result<CallSettings, Unfit>
+    ensures { IfOk result (HasCall (rows_of (found_of matches.now))) }
+{
+    Ok(CallSettings {
+        call: parse_door_call(alloc, matches)?,
+        door: address_of(alloc, matches, "door", "127.0.0.1", 1)?,
+        token_file: text_or_none_of(alloc, matches, "token-file")?,
+        wait: number_or_none_of(alloc, matches, "wait", 0, WAIT)?,
+        hex: flag_of(alloc, matches, "hex")?,
+    })
+}
+
+/// The call of a door that the arguments of `call` choose.
+fn parse_door_call(alloc: Global, matches: &ArgMatches<'_>) -> Result<DoorCall, Unfit>
+    ensures { IfOk result (HasDoorCall (rows_of (found_of matches.now))) }
+{
+    match matches.get_str("CALL") {
+        Some("put") => Ok(DoorCall::Put {
+            stream: stream_of(alloc, matches)?,
+            state: state_of(alloc, matches)?,
+            message: text_or_none_of(alloc, matches, "MESSAGE")?,
+        }),
+        Some("get") => Ok(DoorCall::Get {
+            stream: stream_of(alloc, matches)?,
+            state: state_of(alloc, matches)?,
+        }),
+        Some("done") => Ok(DoorCall::Done {
+            stream: stream_of(alloc, matches)?,
+            state: state_of(alloc, matches)?,
+        }),
+        Some("status") => Ok(DoorCall::Status {
+            stream: stream_of(alloc, matches)?,
+        }),
+        Some("watch") => Ok(DoorCall::Watch {
+            after: number_or_none_of(alloc, matches, "after", 0, u64::MAX)?,
+        }),
+        Some(call) => Err(Unfit::Value(format!(in alloc;
+            "call {call}: give put, get, done, status or watch"
+        )?)),
+        None => Err(Unfit::Absent),
+    }
+}
+
+/// The stream that a call of a door is about.
+fn stream_of(alloc: Global, matches: &ArgMatches<'_>) -> Result<u32, Unfit>
+    ensures { IfOk result (HasStream (rows_of (found_of matches.now))) }
+{
+    if value_of(matches, "stream").is_none() {
+        let advice = String::from_str(
+            alloc,
+            "--stream is not there: give the number of the stream",
+        )?;
+        return Err(Unfit::Value(advice));
+    }
+    number_of(alloc, matches, "stream", 1, STREAMS)
+}
+
+/// The name of the file that keeps a call of a door.
+fn state_of(alloc: Global, matches: &ArgMatches<'_>) -> Result<String, Unfit>
+    ensures { IfOk result (λ file. HasState (rows_of (found_of matches.now)) (string_bytes file)) }
+{
+    match text_or_none_of(alloc, matches, "state")? {
+        Some(file) if !file.as_str().is_empty() => Ok(file),
+        _ => Err(Unfit::Value(String::from_str(
+            alloc,
+            "--state has no text: give the name of a file that keeps the call",
+        )?)),
+    }
+}
+
 /// The settings that the arguments of `outcomes` choose.
 fn parse_outcomes(alloc: Global, matches: &ArgMatches<'_>) -> Result<OutcomesSettings, Unfit>
     ensures { IfOk result (HasOutcomes (rows_of (found_of matches.now))) }
@@ -256,6 +334,7 @@ fn parse_got(alloc: Global, matches: &ArgMatches<'_>) -> Result<GotSettings, Unf
     Ok(GotSettings {
         file: text_of(alloc, matches, "FILE")?,
         after: number_or_none_of(alloc, matches, "after", 0, u64::MAX)?,
+        follow: flag_of(alloc, matches, "follow")?,
         json: flag_of(alloc, matches, "json")?,
     })
 }

@@ -71,12 +71,14 @@ fn acting<'a>(alloc: Global) -> Result<Command<'a>, AllocError>
     let receive = receive(alloc)?;
     let stop = stop(alloc)?;
     let serve = serve(alloc)?;
+    let call = call(alloc)?;
     bare.subcommand(replay)?
         .subcommand(run)?
         .subcommand(send)?
         .subcommand(receive)?
         .subcommand(stop)?
-        .subcommand(serve)
+        .subcommand(serve)?
+        .subcommand(call)
 }
 
 /// The program without its commands.
@@ -159,12 +161,17 @@ pub(crate) fn send<'a>(alloc: Global) -> Result<Command<'a>, AllocError>
         .arg(flag(
             alloc,
             "each",
-            "Puts a stream's next message once the last one's answer came",
+            "Puts a stream's next message once the last one's answer came, as without it",
+        ))?
+        .arg(flag(
+            alloc,
+            "many",
+            "Puts it while the last ones have no answer yet, and up to 16 wait",
         ))?
         .arg(flag(
             alloc,
             "batch",
-            "Sends the messages that wait on a stream together, up to four",
+            "The same, and sends those that wait on a stream together, up to four",
         ))?
         .arg(flag(
             alloc,
@@ -261,6 +268,62 @@ fn serve<'a>(alloc: Global) -> Result<Command<'a>, AllocError>
             LEAST_PIECE,
             PIECE,
             "How long its journal is when it begins a new piece, 1024 to 1000000000000",
+        ))
+}
+
+fn call<'a>(alloc: Global) -> Result<Command<'a>, AllocError>
+    ensures { IfOk result (described.IsCommand described.call) }
+{
+    with_texts(alloc, "call", texts::CALL_ABOUT, texts::CALL_AFTER_HELP)
+        .arg(needed(
+            alloc,
+            "CALL",
+            "What is asked: `put`, `get`, `done`, `status` or `watch`",
+        ))?
+        .arg(offered(
+            alloc,
+            "MESSAGE",
+            "The message to put; standard input has it if absent",
+        ))?
+        .arg(text(
+            alloc,
+            "door",
+            "ADDR",
+            "Where the host is asked, as 127.0.0.1:7003",
+        ))?
+        .arg(stream(alloc))?
+        .arg(optional_text(
+            alloc,
+            "state",
+            "FILE",
+            "Keeps the call, so that it is made once; of `put`, `get` and `done`",
+        ))?
+        .arg(optional_text(
+            alloc,
+            "token-file",
+            "FILE",
+            "The token that the door wants stands there",
+        ))?
+        .arg(optional_number(
+            alloc,
+            "wait",
+            "SECONDS",
+            0,
+            WAIT,
+            "How long it is tried again where it does not come about, 0 to 1000000",
+        ))?
+        .arg(optional_number(
+            alloc,
+            "after",
+            "LINE",
+            0,
+            u64::MAX,
+            "Watches from behind this line of the journal on",
+        ))?
+        .arg(flag(
+            alloc,
+            "hex",
+            "Reads and shows messages in lower-case hexadecimal, `-` for no bytes",
         ))
 }
 
@@ -394,6 +457,11 @@ fn got<'a>(alloc: Global) -> Result<Command<'a>, AllocError>
             u64::MAX,
             "Shows lines of greater numbers than N",
         ))?
+        .arg(flag(
+            alloc,
+            "follow",
+            "Goes on with what is got as the journal grows",
+        ))?
         .arg(flag(alloc, "json", "Prints each line as a JSON object"))
 }
 
@@ -449,6 +517,25 @@ fn second_file<'a>(alloc: Global) -> Arg<'a>
         .value_name("FILE")
         .help("The journal of a second process")
         .action(ArgAction::Set)
+}
+
+/// The argument of this name, which is any text, and has to be there.
+fn needed<'a>(alloc: Global, name: &'static str, help: &'static str) -> Arg<'a>
+    ensures rule { rule_of result ≡ described.needed name.entry.now }
+    ensures local { result.global ≡ false }
+{
+    Arg::new(alloc, name)
+        .help(help)
+        .required(true)
+        .action(ArgAction::Set)
+}
+
+/// The argument of this name, which is any text, and may be absent.
+fn offered<'a>(alloc: Global, name: &'static str, help: &'static str) -> Arg<'a>
+    ensures rule { rule_of result ≡ described.offered name.entry.now }
+    ensures local { result.global ≡ false }
+{
+    Arg::new(alloc, name).help(help).action(ArgAction::Set)
 }
 
 /// The argument that names a shell.
@@ -532,6 +619,21 @@ fn tick<'a>(alloc: Global) -> Arg<'a>
         "How long a packet waits for its answer before it is sent again, 1 to 60000000",
     )
     .default_value("10000")
+}
+
+/// The option that names a stream.
+fn stream<'a>(alloc: Global) -> Arg<'a>
+    ensures rule { rule_of result ≡ described.stream }
+    ensures local { result.global ≡ false }
+{
+    optional_number(
+        alloc,
+        "stream",
+        "N",
+        1,
+        u64::from(STREAMS),
+        "The stream, 1 to 256; of all but `watch`",
+    )
 }
 
 /// The option of this name that may be absent, whose value is a number from `low` to `high`.

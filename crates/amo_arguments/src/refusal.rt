@@ -30,6 +30,8 @@ pub(crate) enum Unfit {
     Value(String),
     /// `--each` and `--batch` of `send` contradict each other.
     EachAndBatch,
+    /// So do `--each` and `--many`.
+    EachAndMany,
     /// Memory was refused.
     NoMemory,
 }
@@ -56,7 +58,14 @@ pub(crate) fn told(alloc: Global, refusal: &Refusal) -> ArgumentsFault
         Refusal::ByParser(error) => text(alloc, error, status_of(error.kind())),
         Refusal::Unfit(Unfit::Absent) => absent(alloc),
         Refusal::Unfit(Unfit::Value(advice)) => unfit_value(alloc, advice.as_str()),
-        Refusal::Unfit(Unfit::EachAndBatch) => each_and_batch(alloc),
+        Refusal::Unfit(Unfit::EachAndBatch) => contradiction(
+            alloc,
+            "the argument '--each' cannot be used with '--batch'",
+        ),
+        Refusal::Unfit(Unfit::EachAndMany) => contradiction(
+            alloc,
+            "the argument '--each' cannot be used with '--many'",
+        ),
         Refusal::Unfit(Unfit::NoMemory) => ArgumentsFault::NoMemory,
     }
 }
@@ -93,17 +102,12 @@ fn absent(alloc: Global) -> ArgumentsFault
     }
 }
 
-/// The fault of `send` with both flags.
-fn each_and_batch(alloc: Global) -> ArgumentsFault
+/// The fault of `send` with two flags that contradict each other, with this message.
+fn contradiction(alloc: Global, message: &str) -> ArgumentsFault
     ensures mistake { IsMistake result }
 {
     match sender(alloc) {
-        Ok(sender) => mistake(
-            alloc,
-            sender,
-            ErrorKind::ArgumentConflict,
-            "the argument '--each' cannot be used with '--batch'",
-        ),
+        Ok(sender) => mistake(alloc, sender, ErrorKind::ArgumentConflict, message),
         Err(AllocError) => ArgumentsFault::NoMemory,
     }
 }

@@ -27,6 +27,7 @@ Status:
   4  out of memory, busy, or a file, a socket or standard output that cannot be opened, read or
      written; of a host also an address that is none, or a journal that it cannot go on with
   5  a host waited as long as it was told, and something was still on its way
+`amo call` has more.
 
 Faults go to standard error. `amo: device` is a file, a socket or standard output that failed, also
 where there is no such file; a second line says what failed and, but for a socket, the cause.";
@@ -112,15 +113,16 @@ pub(crate) const SEND_AFTER_HELP: &str = "A line of standard input is a message 
 
 A line that is none is told on standard error with its reason, as `amo: line L: stream 5 of 4`, L
 counted from 1, and nothing is put. Nor is a last line put that lacks its line feed: who wrote it may
-have died in the middle, and `amo: line L has no end` is told. While a stream is full, with 16
-messages waiting, its next lines wait, and those of other streams are put. With --each a line waits
-for the answer to its stream's last message. Where 1,024 lines wait no more are read.
+have died in the middle, and `amo: line L has no end` is told. A line waits until its stream's last
+message has its answer, and lines of other streams are put meanwhile. With --many it waits only while
+its stream is full, with 16 messages waiting. Where 1,024 lines wait no more are read.
 
-With --batch the messages that wait on a stream when a handshake begins travel together, up to four.
-Both hosts have to be of this version, and their journals of version 2, as new ones then are. A host
-from before, or with a journal of version 1, drops them. --each and --batch contradict each other.
+With --batch, which implies --many, the messages that wait on a stream when a handshake begins travel
+together, up to four. Both hosts have to be of this version, and their journals of version 2, as new
+ones then are. A host from before, or with a journal of version 1, drops them. --each says that a line
+waits for the last message's answer, as it does without it: it contradicts --many and --batch.
 
-Output, a line of which each is of the message that was put last to the stream:
+Output, a line for each message as it is put, and one more, in the same order of each stream:
   STREAM ok      it was put
   STREAM yes     it was got
   STREAM no      a host crashed: it may or may not have been got
@@ -276,6 +278,55 @@ Status:
 Example:
   amo serve --side send --listen 127.0.0.1:7001 --peer 127.0.0.1:7002 --streams 8 \\
     --journal send.journal --door 127.0.0.1:7003";
+
+pub(crate) const CALL_ABOUT: &str =
+    "Asks a host at its door from a shell: puts or takes a message, once over kills and lost answers";
+
+pub(crate) const CALL_AFTER_HELP: &str =
+    "CALL is one of these, of a host that `amo serve` is, whose door is at ADDR:
+  put     puts MESSAGE on the stream, at a host that sends, and prints what is known of it
+  get     takes the stream's next message, at a host that receives, and prints it
+  done    says that the message that `get` printed is done: the next `get` takes the next one
+  status  prints how the stream is, as JSON; with --wait once its last message has its answer, or
+          its next one is there
+  watch   prints what happens, until the door is closed: LINE JSON, LINE being the number of the
+          event's line in the host's journal, or a dash
+
+Each put has a FILE of its own. It keeps the message with the call, before that is made. So the same
+command may be repeated, whatever was killed meanwhile, the host too: the message is put once. Remove
+FILE once it is noted elsewhere that the message was put, and not before. A stream is best put to by
+one program.
+
+The gets of a stream share a FILE, and no other program takes from the stream. What was taken is kept
+there before it is printed, and printed again by each `get` until `done`.
+
+MESSAGE is as it stands, 1,024 bytes at most. Where it is absent standard input has it, without a line
+feed at its end. What `get` prints has a line feed behind it. With --hex both are hexadecimal. Beside
+FILE there is FILE.lock while a call is made. Both are their owner's alone.
+
+A put prints a word:
+  put      it was put, once
+  got      it was put in a life of the host that is over, and was got
+  gone     the same, and it was not got and never will be: it may be put again, with another FILE
+  open     the same, and it is on its way
+  unknown  it was put, or may have been, and it is not known whether it was got, or may still be
+  settled  it was put in a life that is over: it was got or lost, and no more becomes of it
+
+Status:
+  0   done; of a put: `put` or `got`
+  2   arguments that do not parse, or no message; FILE keeps another call, or none
+  4   no answer came: make the same call again; or memory, a file or standard output failed
+  5   --wait is over: the stream had no room, and the message was not put yet; or no message came
+  6   `gone`
+  7   `open`
+  8   `unknown`; of a get: another program takes from the stream
+  9   `settled`
+  10  the door refuses it: `amo: the door refuses it: 401 token` on standard error, and so on
+
+Example:
+  amo call put --door 127.0.0.1:7003 --stream 3 --state order-17.call 'pay Ann 100'
+  amo call get --door 127.0.0.1:7004 --stream 3 --state taken.call --wait 30
+  amo call done --door 127.0.0.1:7004 --stream 3 --state taken.call";
 
 pub(crate) const AUDIT_ABOUT: &str =
     "Audits a journal, or those of two processes, and prints a line with the verdict";
@@ -437,6 +488,10 @@ does not say that anybody acted on it.
 The host may be at work: a last line that lacks its end is left out. Nothing is judged but that lines
 read and are numbered from 0; `amo audit` judges. The journal may be in pieces, as of `amo audit`.
 
+With --follow it goes on as the journal grows, also into new pieces, and looks ten times a second; it
+waits for a journal that is not there yet. It ends where it is interrupted, nobody reads its output
+any more, or the journal does not go on where it was read. FILE is then a journal's name, and no list.
+
 Status:
   0  all is told
   2  `malformed at line L`, `gap at line L`, as of `amo audit`: what stands before line L was told
@@ -445,8 +500,9 @@ Status:
   4  `amo: out of memory`
      `amo: device`: the file or standard output failed, or there is no such file
 
-Example:
-  amo got receive.journal --after 120";
+Examples:
+  amo got receive.journal --after 120
+  amo got receive.journal --after 120 --follow --json";
 
 pub(crate) const MANUAL_ABOUT: &str = "Prints the manual page";
 

@@ -7,6 +7,6 @@ mod settings;
 
 pub use run::{LinkKind, RunSettings};
 pub use settings::{
-    GotSettings, HostSettings, OutcomesSettings, ReceiveSettings, SendSettings, ServeSettings,
-    ServedSide, Settings, Shell,
+    CallSettings, DoorCall, GotSettings, HostSettings, OutcomesSettings, ReceiveSettings,
+    SendSettings, ServeSettings, ServedSide, Settings, Shell,
 };

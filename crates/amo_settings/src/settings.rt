@@ -16,6 +16,8 @@ pub enum Settings {
     Stop(String),
     /// Be a host of one of the sides, with a door for programs.
     Serve(ServeSettings),
+    /// Make a call of such a door.
+    Call(CallSettings),
     /// Audit the journal in this file, or the journals of two processes, in this file and the next.
     Audit(String, Option<String>),
     /// Explain the journal in this file, or the journals of two processes, in this file and the next.
@@ -61,7 +63,7 @@ pub struct HostSettings {
 #[derive(Debug, Drop)]
 pub struct SendSettings {
     pub host: HostSettings,
-    /// Whether a stream's next message is put only once the last one's answer came.
+    /// Whether a stream's next message is put only once the last one's answer came: otherwise several wait on it.
     pub each: bool,
     /// Whether the messages that wait on a stream travel together, as a batch, which contradicts `each`.
     pub batch: bool,
@@ -96,6 +98,49 @@ pub struct ServeSettings {
     pub token_file: Option<String>,
 }
 
+/// What is asked of a door.
+#[derive(Debug, Drop)]
+pub enum DoorCall {
+    /// That a message is put on a stream, once. The file of this name keeps the call. Where no message is given, standard input has it.
+    Put {
+        stream: u32,
+        state: String,
+        message: Option<String>,
+    },
+    /// For the next message of a stream, which comes again until it is done. The file of this name keeps the call.
+    Get {
+        stream: u32,
+        state: String,
+    },
+    /// Nothing: the message that was got by the call in the file of this name is done.
+    Done {
+        stream: u32,
+        state: String,
+    },
+    /// How a stream is.
+    Status {
+        stream: u32,
+    },
+    /// What happens, from behind this line of the journal on, or else from now on.
+    Watch {
+        after: Option<u64>,
+    },
+}
+
+/// How a call of a door is made.
+#[derive(Debug, Drop)]
+pub struct CallSettings {
+    pub call: DoorCall,
+    /// The address of the door.
+    pub door: String,
+    /// The file of the token that requests have to bring, if they have to bring one.
+    pub token_file: Option<String>,
+    /// For how many seconds it is tried again where it does not come about, at most 1000000. It is tried once where none are given.
+    pub wait: Option<u64>,
+    /// Whether messages are read and shown in HEX.
+    pub hex: bool,
+}
+
 /// Which outcomes are told, and how. Where neither `open` nor `gone` is chosen, all are.
 #[derive(Debug, Drop)]
 pub struct OutcomesSettings {
@@ -118,6 +163,8 @@ pub struct GotSettings {
     pub file: String,
     /// Only those on lines of greater numbers, if there is one.
     pub after: Option<u64>,
+    /// Whether the journal is followed as it grows.
+    pub follow: bool,
     /// Whether lines are JSON objects.
     pub json: bool,
 }

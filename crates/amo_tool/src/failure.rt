@@ -3,6 +3,7 @@ ghost use Rattle.std.specs.Prelude.{◌≡◌, ◌≢◌, IsNone, IsSome};
 ghost use Rattle.std.specs.IoError.{error_kind, raw_os_error};
 ghost use Rattle.amo_tool.specs.Failure.{IsOfFile, IsOfOutput, IsOfUnknown, IsOfUntold, output_failure, replay_failure, report_failure};
 
+use amo_call::CallFault;
 use amo_disk::{Cause, OpenFault};
 use amo_journal::JournalFault;
 use amo_live::{LiveFault, LivesOpenFault, ProcessFault, ServeFault, SocketFault};
@@ -80,6 +81,15 @@ pub(crate) enum Failure {
     /// What stands in this file is no token.
     #[error("amo: {0}: it has no token: one line of 16 to 256 letters, digits and -._~+/=")]
     Token(String),
+    /// Another call has the file of this name in use.
+    #[error("amo: {0}: another call has it in use")]
+    InUse(String),
+    /// The system tells no time.
+    #[error("amo: the system tells no time: {0}")]
+    Clock(Cause),
+    /// What came from a door is no answer of one.
+    #[error("amo: what came is no answer of a door")]
+    Strange,
     /// The system gives no random bytes.
     #[error("amo: the system gives no random bytes: {0}")]
     Random(Cause),
@@ -302,6 +312,23 @@ impl Failure {
                 Failure::of_disk(alloc, path, cause)
             }
             _ => Failure::Door(fault),
+        }
+    }
+}
+
+impl Failure {
+    /// A call that the file of this name keeps cannot go on. If a call of the system failed, this is why.
+    pub(crate) fn of_call(
+        alloc: Global,
+        path: &str,
+        fault: CallFault,
+        cause: Option<Cause>,
+    ) -> Failure {
+        match (fault, cause) {
+            (CallFault::NoMemory, _) => Failure::NoMemory,
+            (CallFault::File, Some(cause)) => Failure::of_disk(alloc, path, cause),
+            (CallFault::File, None) => Failure::Device,
+            (CallFault::Strange, _) => Failure::Strange,
         }
     }
 }

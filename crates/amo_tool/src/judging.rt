@@ -5,9 +5,10 @@ use crate::failure::Failure;
 use crate::pieces::Journal;
 use crate::watched::Watched;
 use amo_audit::{
-    Judgement, Verdict, Whose, audit, explain, explain_both, report, tell_judgement, whose_are,
+    Judgement, Reach, Verdict, Whose, audit, audit_alone, explain, explain_both, outcomes_of,
+    report, tell_judgement, whose_are,
 };
-use amo_journal::{JournalFault, read_journal};
+use amo_journal::{JournalFault, open, read_journal};
 use amo_text::Out;
 use std::cell::Cell;
 use std::io;
@@ -41,28 +42,47 @@ pub(crate) fn audit_files<R: AllocGlobal + Eprint + Files + Print>(
     Ok(status)
 }
 
-/// Tells where the line stands that was named of a journal in pieces. Where two journals were merged it is a line of neither.
+/// Tells where the line stands that was named of a journal in pieces, or where two journals are at fault of which one is in pieces.
 fn tell_place<R: AllocGlobal + Eprint>(rt: &R, first: &Journal, second: Option<&Journal>) {
-    let Some(second) = second else {
-        if first.is_in_pieces() {
+    match second {
+        Some(second) if first.is_in_pieces() || second.is_in_pieces() => {
+            tell_place_in_two(rt, first, second);
+        }
+        None if first.is_in_pieces() => {
             first.tell_place(rt, line_of(audit(rt.alloc(), first.text())));
         }
-        return;
-    };
-    if !first.is_in_pieces() && !second.is_in_pieces() {
-        return;
-    }
-    match no_journal_at(rt, first) {
-        0 => second.tell_place(rt, no_journal_at(rt, second)),
-        line => first.tell_place(rt, line),
+        _ => {}
     }
 }
 
-/// The line at which a text is no journal, or 0.
-fn no_journal_at<R: AllocGlobal>(rt: &R, journal: &Journal) -> usize {
-    match audit(rt.alloc(), journal.text()) {
-        Verdict::Malformed(line) | Verdict::Gap(line) => line,
-        _ => 0,
+/// Tells where two journals are at fault: the line at which one is no journal, or goes on with what the other one has not sent; or the first
+/// line of each that is at fault whatever the other one says.
+fn tell_place_in_two<R: AllocGlobal + Eprint>(rt: &R, first: &Journal, second: &Journal) {
+    match outcomes_of(rt.alloc(), first.text(), second.text()) {
+        Ok(told) => match told.reach {
+            Reach::First(line) => first.tell_place(rt, line),
+            Reach::Second(line) => second.tell_place(rt, line),
+            Reach::Whole => {}
+        },
+        Err(Judgement::First(verdict)) => first.tell_place(rt, line_of(verdict)),
+        Err(Judgement::Second(verdict)) => second.tell_place(rt, line_of(verdict)),
+        Err(Judgement::Whole(_)) => {
+            first.tell_place(rt, fault_alone_at(rt, first));
+            second.tell_place(rt, fault_alone_at(rt, second));
+        }
+        Err(Judgement::Shared | Judgement::Stuck) => {}
+    }
+}
+
+/// The first line of a journal with a wrong reply, or with a word that is used again; or 0.
+fn fault_alone_at<R: AllocGlobal>(rt: &R, journal: &Journal) -> usize {
+    let Ok(events) = read_journal(rt.alloc(), journal.text()) else {
+        return 0;
+    };
+    let heading = open(journal.text()).version.lines_before();
+    match line_of(audit_alone(rt.alloc(), events.as_slice())) {
+        0 => 0,
+        line => line.saturating_add(heading),
     }
 }
 

@@ -1,17 +1,20 @@
 //! The program `amo`: replays schedules on a book with both sides of 256 streams, and prints what they reply and emit; runs the
-//! service between two hosts, and keeps a journal; is one host of a pair, for clients at its standard input and output or at a door; and audits and
-//! explains journals, and tells by them what became of messages.
+//! service between two hosts, and keeps a journal; is one host of a pair, for clients at its standard input and output or at a door; makes calls of a door;
+//! and audits and explains journals, and tells by them what became of messages.
 //!
 //! `amo_arguments` reads the program's arguments, and answers as `amo_settings` what they choose. `replaying`, `running`, `live`,
-//! `serving`, `judging` and `telling` do it, `pieces` reads the journals that are judged, `progress` shows how far a run is, `failure` is why they cannot, and
-//! `watched` keeps why a write failed.
+//! `serving`, `calling`, `judging`, `telling` and `following` do it, `pieces` reads the journals that are judged, and `followed` one that grows;
+//! `progress` shows how far a run is, `failure` is why they cannot, and `watched` keeps why a write failed.
 #![tactic(auto)]
 
 ghost use Rattle.std.specs.Prelude.{IfOk};
 ghost use Rattle.amo_settings.specs.Limits.{IsWithin};
 
+mod calling;
 mod doubts;
 mod failure;
+mod followed;
+mod following;
 mod judging;
 mod live;
 mod pieces;
@@ -23,14 +26,16 @@ mod stopping;
 mod telling;
 mod watched;
 
+use crate::calling::call_door;
 use crate::failure::Failure;
+use crate::following::tell_or_follow_got;
 use crate::judging::{audit_files, explain_files};
 use crate::live::{receive_lines, send_lines};
 use crate::replaying::replay_file;
 use crate::running::run_to_file;
 use crate::serving::serve_programs;
 use crate::stopping::stop_host;
-use crate::telling::{tell_got_of, tell_outcomes_of};
+use crate::telling::tell_outcomes_of;
 use amo_arguments::{ArgumentsFault, not_text, settings};
 use amo_manual::{page, script};
 use amo_settings::Settings;
@@ -84,12 +89,13 @@ fn obey<
             explain_files(rt, file.as_str(), second, errors)
         }
         Ok(Settings::Outcomes(settings)) => tell_outcomes_of(rt, &settings, errors),
-        Ok(Settings::Got(settings)) => tell_got_of(rt, &settings),
+        Ok(Settings::Got(settings)) => tell_or_follow_got(rt, &settings, output),
         Ok(Settings::Run(settings, file)) => run_to_file(rt, &settings, file.as_str(), errors),
         Ok(Settings::Send(settings)) => send_lines(rt, &settings, input, output),
         Ok(Settings::Receive(settings)) => receive_lines(rt, &settings, input, output),
         Ok(Settings::Stop(file)) => stop_host(rt, file.as_str()),
         Ok(Settings::Serve(settings)) => serve_programs(rt, &settings),
+        Ok(Settings::Call(settings)) => call_door(rt, &settings, input, output),
         Ok(Settings::Manual) => show_page(rt, page(rt.alloc())),
         Ok(Settings::Completions(shell)) => show_page(rt, script(rt.alloc(), shell)),
         Err(ArgumentsFault::Text(text, status)) => show(rt, text.as_str(), status),

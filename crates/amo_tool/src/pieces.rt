@@ -145,13 +145,13 @@ fn is_there<R: Files>(rt: &R, name: &str) -> bool {
 }
 
 /// The name of the file of a numbered piece.
-fn piece_name(alloc: Global, name: &str, number: u64) -> Result<String, AllocError> {
+pub(crate) fn piece_name(alloc: Global, name: &str, number: u64) -> Result<String, AllocError> {
     format!(in alloc; "{name}.{number:06}")
 }
 
 /// The numbers of the pieces of a journal of this name that stand in its directory, rising. A directory that cannot be looked through has none:
 /// where earlier pieces are not read, the numbers of lines show it.
-fn numbers_of<R: AllocGlobal + Files>(rt: &R, name: &str) -> Result<Vec<u64>, Failure> {
+pub(crate) fn numbers_of<R: AllocGlobal + Files>(rt: &R, name: &str) -> Result<Vec<u64>, Failure> {
     let mut numbers = Vec::new(rt.alloc());
     let (directory, file) = name.rsplit_once('/').unwrap_or((".", name));
     if file.is_empty() {

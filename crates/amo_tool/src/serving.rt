@@ -98,7 +98,10 @@ fn serve_at<R: AllocGlobal + Clock + Eprint + Files<File = File> + Net + RandomS
 }
 
 /// The token that stands in this file: one line.
-fn read_token<R: AllocGlobal + Files<File = File>>(rt: &R, path: &str) -> Result<String, Failure> {
+pub(crate) fn read_token<R: AllocGlobal + Files<File = File>>(
+    rt: &R,
+    path: &str,
+) -> Result<String, Failure> {
     let alloc = rt.alloc();
     let file = match fs::open(rt, path) {
         Ok(file) => file,

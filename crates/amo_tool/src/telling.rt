@@ -284,6 +284,7 @@ fn tell_reading<R: Eprint>(rt: &R, journal: &Journal, file: &str, reading: Readi
         Reading::Malformed(line) => (Told::Malformed(line), line),
         Reading::Gap(line) => (Told::Gap(line), line),
         Reading::OfSender => (Told::OfSender(file), 0),
+        Reading::TooLong => (Told::TooLong(file), 0),
     };
     let _ = rt.eprintln(told);
     tell_piece(rt, journal, line);
@@ -302,6 +303,9 @@ enum Told<'a> {
     /// Each line of the file of this name is a sender's.
     #[error("amo: {0}: a sender's journal: a receiver's is needed")]
     OfSender(&'a str),
+    /// The journal in the file of this name has more lines than are counted.
+    #[error("amo: {0}: it has more lines than are counted")]
+    TooLong(&'a str),
     /// Each line of the file of this name is a receiver's.
     #[error("amo: {0}: a receiver's journal: the sender's is needed; amo got tells what was got")]
     OfReceiver(&'a str),

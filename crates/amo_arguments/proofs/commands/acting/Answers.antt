@@ -11,4 +11,5 @@ returns c =
     let receive = with_command c.in_ok-subcommand-4.ensures c.in_ok-receive.ensures send in
     let receive = with_command c.in_ok-subcommand-4.ensures c.in_ok-receive.ensures send in
     let stop = with_command c.in_ok-subcommand-5.ensures c.in_ok-stop.ensures receive in
-    IfOk-weaker c.subcommand-6.result _ _ (λ m h. (links.0, links.1, with_command h c.in_ok-serve.ensures stop)) c.subcommand-6.ensures
+    let serve = with_command c.in_ok-subcommand-6.ensures c.in_ok-serve.ensures stop in
+    IfOk-weaker c.subcommand-7.result _ _ (λ m h. (links.0, links.1, with_command h c.in_ok-call.ensures serve)) c.subcommand-7.ensures

@@ -1,0 +1,4 @@
+pub mod Kept
+pub mod Request
+pub mod Answer
+pub mod Turns

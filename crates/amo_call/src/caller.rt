@@ -1,0 +1,100 @@
+//! Who makes calls.
+ghost use Rattle.std.specs.Prelude.{◌≡◌};
+
+use crate::{Kept, Request, Response};
+use amo_door::Word;
+use amo_packet::MessageFault;
+use std::alloc::AllocError;
+use thiserror::Error;
+
+/// Why a call cannot go on. Its file has what it had, or what was to be kept last.
+#[derive(Clone, Copy, Debug, PartialEq, Eq, Error)]
+pub enum CallFault {
+    /// Memory was refused.
+    #[error("out of memory")]
+    NoMemory,
+    /// The file of the call could not be written. The device is at fault.
+    #[error("the file of the call could not be written")]
+    File,
+    /// The answer is not one of such a door.
+    #[error("what came is no answer of a door")]
+    Strange,
+}
+
+impl From<AllocError> for CallFault {
+    ghost use Rattle.std.specs.Prelude.{◌≡◌};
+    ghost use Rattle.amo_call.specs.declared.caller.CallFault.TheVariants.{NoMemory};
+
+    ghost from_gives = { λ _ fault. fault ≡ NoMemory };
+
+    fn from(_: AllocError) -> CallFault {
+        CallFault::NoMemory
+    }
+}
+
+impl From<MessageFault> for CallFault {
+    fn from(fault: MessageFault) -> CallFault {
+        match fault {
+            MessageFault::NoMemory => CallFault::NoMemory,
+            MessageFault::TooLong => CallFault::Strange,
+        }
+    }
+}
+
+/// Who keeps a call in a file and asks a door. What changes something is asked only as the file has it: so whoever finds the file makes the same call.
+pub trait Caller {
+    ghost use Rattle.std.specs.Prelude.{◌≡◌, ℕ, List, OnOk};
+    ghost use Rattle.amo_call.specs.Kept.{kept_text};
+
+    /// What the file of the call has.
+    ghost saved: { Self → List ℕ };
+
+    /// Puts what is kept of the call into its file, in the place of what that has.
+    fn save(&mut self, kept: &Kept) -> Result<(), CallFault>
+        ensures { OnOk result (saved self.new ≡ kept_text kept.now) };
+
+    /// Makes the call that the file has. None where no answer came: then it may have been made.
+    fn make(&mut self, kept: &Kept) -> Result<Option<Response>, CallFault>
+        requires { saved self.old ≡ kept_text kept.now }
+        ensures { saved self.new ≡ saved self.old };
+
+    /// Asks what changes nothing. None where no answer came.
+    fn ask(&mut self, request: &Request) -> Result<Option<Response>, CallFault>
+        ensures { saved self.new ≡ saved self.old };
+
+    /// Waits a little. Answers whether there is time to try once more.
+    fn pause(&mut self) -> bool
+        ensures { saved self.new ≡ saved self.old };
+}
+
+/// Asks what changes nothing until an answer comes, as long as there is time. None where none came.
+pub(crate) fn ask_until<C: Caller>(
+    caller: &mut C,
+    request: &Request,
+) -> Result<Option<Response>, CallFault> {
+    'asks: for _ask in 0..u64::MAX {
+        let response = caller.ask(request)?;
+        if is_answer(&response) || !caller.pause() {
+            return Ok(response);
+        }
+    }
+    Ok(None)
+}
+
+/// Whether an answer came that is more than a wish to be asked later.
+fn is_answer(response: &Option<Response>) -> bool {
+    match response {
+        Some(response) => response.status != 503 && response.status != 408,
+        None => false,
+    }
+}
+
+/// Another one of a word.
+pub(crate) fn copied(word: &Word) -> Word
+    ensures { result ≡ word.now }
+{
+    match Word::read(word.bytes()) {
+        Some(copy) => copy,
+        None => unreachable!(),
+    }
+}

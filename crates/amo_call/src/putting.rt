@@ -1,0 +1,264 @@
+//! Puts, each once.
+ghost use Rattle.std.specs.Prelude.{◌≡◌, IfOk, IfSome};
+ghost use Rattle.amo_call.specs.declared.putting.Order.{Order};
+ghost use Rattle.amo_call.specs.Kept.{kept_text};
+ghost use Rattle.amo_call.specs.Turns.{HasPut, HasToldPut};
+
+use crate::answer::{Response, read_conflict, read_fate, read_put, read_state};
+use crate::caller::{ask_until, copied};
+use crate::{CallFault, Caller, Kept, Progress, Request};
+use amo_door::{Claim, Fate, Word};
+use amo_packet::Message;
+use std::alloc::Global;
+
+/// A message that is to be put once.
+#[derive(Debug, Drop)]
+pub struct Order {
+    /// The stream.
+    pub stream: u32,
+    /// The message.
+    pub message: Message,
+    /// Who puts it, where it was not begun before: a word that was drawn at random.
+    pub by: Word,
+}
+
+/// What is told of a message that was to be put.
+#[derive(Debug, Drop)]
+pub enum PutTold {
+    /// It was put for this claim, by this line of the host's journal.
+    Put { claim: Claim, line: u64 },
+    /// It was put in a life of the host that is over, and this became of it.
+    Became(Fate),
+    /// Another program puts on the stream, and whether this message was put before is not known.
+    Doubtful,
+    /// It was not put yet, as there is no room, or the host comes to its end.
+    Full,
+    /// No answer came: it may have been put.
+    NoAnswer,
+    /// The file is that of another call. Nothing was asked.
+    OtherCall,
+    /// The door refuses it so.
+    Refused(Response),
+}
+
+/// A put under way.
+#[derive(Drop)]
+pub(crate) struct PutTurn {
+    /// What the file has.
+    kept: Kept,
+    /// Whether this call was never made before.
+    is_first: bool,
+}
+
+/// What comes of a turn: the put is over, or the call that the file has is made.
+#[derive(Drop)]
+pub(crate) enum AfterPut {
+    Told(PutTold),
+    Turn(PutTurn),
+}
+
+/// Puts a message, once. Where its file was found, the call that it has is gone on with. The file has each call before it is made.
+pub fn put<C: Caller>(
+    alloc: Global,
+    caller: &mut C,
+    found: Option<Kept>,
+    order: &Order,
+) -> Result<PutTold, CallFault>
+    requires { IfSome found (λ kept. C.saved caller.old ≡ kept_text kept) }
+    // What is told to have been put the file says is put: so the same call again asks nothing, and tells the same.
+    ensures { IfOk result (HasToldPut order.now (C.saved caller.new)) }
+{
+    let mut after = match found {
+        Some(kept) => resume(kept, order),
+        None => begin(alloc, caller, order)?,
+    };
+    'turns: for _turn in 0..u64::MAX {
+        match after {
+            AfterPut::Told(told) => return Ok(told),
+            AfterPut::Turn(turn) => after = make(alloc, caller, turn, order)?,
+        }
+    }
+    Ok(PutTold::NoAnswer)
+}
+
+/// Goes on with the call of a file, where it is that of this message.
+fn resume(kept: Kept, order: &Order) -> AfterPut
+    ensures { HasPut order.now (kept_text kept) result }
+{
+    if kept.claim.stream != order.stream {
+        return AfterPut::Told(PutTold::OtherCall);
+    }
+    match &kept.progress {
+        Progress::Put { line, message } if *message == order.message => {
+            let line = *line;
+            let Kept {
+                claim,
+                progress: _progress,
+            } = kept;
+            AfterPut::Told(PutTold::Put { claim, line })
+        }
+        Progress::Putting { message } if *message == order.message => AfterPut::Turn(PutTurn {
+            kept,
+            is_first: false,
+        }),
+        _ => AfterPut::Told(PutTold::OtherCall),
+    }
+}
+
+/// Names a call anew: the next number of the stream, in the life that the host lives. The file has it then.
+fn begin<C: Caller>(alloc: Global, caller: &mut C, order: &Order) -> Result<AfterPut, CallFault>
+    ensures { IfOk result (HasPut order.now (C.saved caller.new)) }
+{
+    let request = Request::state(alloc, order.stream, 0)?;
+    let Some(response) = ask_until(caller, &request)? else {
+        return Ok(AfterPut::Told(PutTold::NoAnswer));
+    };
+    let Some(state) = read_state(alloc, &response, order.stream, true)? else {
+        return Ok(AfterPut::Told(PutTold::Refused(response)));
+    };
+    let Some(number) = state.last.checked_add(1) else {
+        return Ok(AfterPut::Told(PutTold::Full));
+    };
+    let kept = Kept {
+        claim: Claim {
+            stream: order.stream,
+            number,
+            life: state.life,
+            by: copied(&order.by),
+        },
+        progress: Progress::Putting {
+            message: order.message.clone()?,
+        },
+    };
+    caller.save(&kept)?;
+    Ok(AfterPut::Turn(PutTurn {
+        kept,
+        is_first: true,
+    }))
+}
+
+/// Makes the call that the file has.
+fn make<C: Caller>(
+    alloc: Global,
+    caller: &mut C,
+    turn: PutTurn,
+    order: &Order,
+) -> Result<AfterPut, CallFault>
+    requires { C.saved caller.old ≡ kept_text turn.kept }
+    ensures { IfOk result (HasPut order.now (C.saved caller.new)) }
+{
+    let answered = caller.make(&turn.kept)?;
+    let Some(response) = answered else {
+        return Ok(put_again(caller, turn, false));
+    };
+    match read_put(alloc, &response, &turn.kept.claim)? {
+        Some(place) => finish(caller, turn, place.line, order),
+        None => look_at_refusal(alloc, caller, turn, response, order),
+    }
+}
+
+/// The message was not put now.
+fn look_at_refusal<C: Caller>(
+    alloc: Global,
+    caller: &mut C,
+    turn: PutTurn,
+    response: Response,
+    order: &Order,
+) -> Result<AfterPut, CallFault>
+    requires { C.saved caller.old ≡ kept_text turn.kept }
+    ensures { IfOk result (HasPut order.now (C.saved caller.new)) }
+{
+    match response.status {
+        408 | 503 => Ok(put_again(caller, turn, true)),
+        409 => look_at_conflict(alloc, caller, turn, response, order),
+        410 => look_back(alloc, caller, turn, order),
+        _ => Ok(AfterPut::Told(PutTold::Refused(response))),
+    }
+}
+
+/// The call is made again, where there is time; else it is told that no answer came, or that there is no room.
+fn put_again<C: Caller>(caller: &mut C, turn: PutTurn, is_full: bool) -> AfterPut
+    requires { C.saved caller.old ≡ kept_text turn.kept }
+    ensures { (order : Order) → HasPut order (C.saved caller.new) result }
+{
+    if caller.pause() {
+        AfterPut::Turn(PutTurn {
+            kept: turn.kept,
+            is_first: false,
+        })
+    } else if is_full {
+        AfterPut::Told(PutTold::Full)
+    } else {
+        AfterPut::Told(PutTold::NoAnswer)
+    }
+}
+
+/// The message was put: the file has that.
+fn finish<C: Caller>(
+    caller: &mut C,
+    turn: PutTurn,
+    line: u64,
+    order: &Order,
+) -> Result<AfterPut, CallFault>
+    ensures { IfOk result (HasPut order.now (C.saved caller.new)) }
+{
+    let message = order.message.clone()?;
+    let Kept {
+        claim,
+        progress: _progress,
+    } = turn.kept;
+    let kept = Kept {
+        claim,
+        progress: Progress::Put { line, message },
+    };
+    caller.save(&kept)?;
+    let Kept {
+        claim,
+        progress: _progress,
+    } = kept;
+    Ok(AfterPut::Told(PutTold::Put { claim, line }))
+}
+
+/// Another program puts on the stream. Where that has the number of the call, or the call was made once, it put nothing: the message gets another number.
+fn look_at_conflict<C: Caller>(
+    alloc: Global,
+    caller: &mut C,
+    turn: PutTurn,
+    response: Response,
+    order: &Order,
+) -> Result<AfterPut, CallFault>
+    ensures { IfOk result (HasPut order.now (C.saved caller.new)) }
+{
+    let last = match read_conflict(alloc, &response, &turn.kept.claim, true)? {
+        Some(conflict) => conflict.last,
+        None => return Ok(AfterPut::Told(PutTold::Refused(response))),
+    };
+    if turn.is_first || last == turn.kept.claim.number {
+        begin(alloc, caller, order)
+    } else {
+        Ok(AfterPut::Told(PutTold::Doubtful))
+    }
+}
+
+/// The host lives another life. Where the message was never put in the one of the call, it is put now; else what became of it is told.
+fn look_back<C: Caller>(
+    alloc: Global,
+    caller: &mut C,
+    turn: PutTurn,
+    order: &Order,
+) -> Result<AfterPut, CallFault>
+    ensures { IfOk result (HasPut order.now (C.saved caller.new)) }
+{
+    if turn.is_first {
+        return begin(alloc, caller, order);
+    }
+    let request = Request::outcome(alloc, &turn.kept.claim)?;
+    let Some(response) = ask_until(caller, &request)? else {
+        return Ok(AfterPut::Told(PutTold::NoAnswer));
+    };
+    match read_fate(alloc, &response, &turn.kept.claim)? {
+        Some(Fate::Never) => begin(alloc, caller, order),
+        Some(fate) => Ok(AfterPut::Told(PutTold::Became(fate))),
+        None => Ok(AfterPut::Told(PutTold::Refused(response))),
+    }
+}

@@ -1,0 +1,291 @@
+//! Takes, of which each message comes again until it is done.
+ghost use Rattle.std.specs.Prelude.{◌≡◌, IfOk, IfSome};
+ghost use Rattle.amo_call.specs.Kept.{done_of, kept_text};
+ghost use Rattle.amo_call.specs.Turns.{HasTake, HasToldTake};
+
+use crate::answer::{Response, read_state};
+use crate::caller::{ask_until, copied};
+use crate::pages::{read_next_line, read_page};
+use crate::{CallFault, Caller, Kept, Progress, Request};
+use amo_door::{Claim, Word};
+use amo_packet::Message;
+use std::alloc::Global;
+
+/// What is told of the next message of a stream.
+#[derive(Debug, Drop)]
+pub enum TakeTold {
+    /// It was taken for this claim, by this line of the host's journal, and is not done.
+    Taken {
+        claim: Claim,
+        line: u64,
+        message: Message,
+    },
+    /// None came.
+    Nothing,
+    /// Another program takes on the stream, or the host does not know any more what was taken: whether this call took a message is not known.
+    Doubtful,
+    /// No answer came. What was taken comes at the next call.
+    NoAnswer,
+    /// The file is that of another call. Nothing was asked.
+    OtherCall,
+    /// The door refuses it so.
+    Refused(Response),
+}
+
+/// What comes of a turn: the take is over, or the call that the file has is made.
+#[derive(Drop)]
+pub(crate) enum AfterTake {
+    Told(TakeTold),
+    Turn(Kept),
+}
+
+/// Takes the next message of a stream, for this caller where it was not begun before. Where its file was found, the call that it has is gone on with: a
+/// message that was taken comes again until it is done. The file has each call before it is made, and each message before it is told.
+pub fn take<C: Caller>(
+    alloc: Global,
+    caller: &mut C,
+    found: Option<Kept>,
+    stream: u32,
+    by: &Word,
+) -> Result<TakeTold, CallFault>
+    requires { IfSome found (λ kept. C.saved caller.old ≡ kept_text kept) }
+    // A message that is told is in the file: so the same call again asks nothing, and tells the same.
+    ensures { IfOk result (HasToldTake (C.saved caller.new)) }
+{
+    let mut after = match found {
+        Some(kept) => resume(caller, kept, stream)?,
+        None => start(alloc, caller, stream, by)?,
+    };
+    'turns: for _turn in 0..u64::MAX {
+        match after {
+            AfterTake::Told(told) => return Ok(told),
+            AfterTake::Turn(kept) => after = make(alloc, caller, kept, by)?,
+        }
+    }
+    Ok(TakeTold::NoAnswer)
+}
+
+/// The call whose message is done, where the file has one that was taken, or is done already. None where none was taken.
+pub fn done(kept: Kept) -> Option<Kept>
+    ensures { result ≡ done_of kept }
+{
+    let line = match kept.progress {
+        Progress::Taken { line, .. } | Progress::Done { line } => line,
+        Progress::Taking { .. } | Progress::Putting { .. } | Progress::Put { .. } => return None,
+    };
+    Some(Kept {
+        claim: kept.claim,
+        progress: Progress::Done { line },
+    })
+}
+
+/// Goes on with the call of a file, where it is a take of this stream. Behind a message that is done the next one is taken.
+fn resume<C: Caller>(caller: &mut C, kept: Kept, stream: u32) -> Result<AfterTake, CallFault>
+    requires { C.saved caller.old ≡ kept_text kept }
+    ensures { IfOk result (HasTake (C.saved caller.new)) }
+{
+    if kept.claim.stream != stream {
+        return Ok(AfterTake::Told(TakeTold::OtherCall));
+    }
+    match kept.progress {
+        Progress::Done { line } => take_next(caller, kept.claim, line),
+        _ => Ok(go_on(kept)),
+    }
+}
+
+/// What comes of the call of a file now: what it took is told, or it is made.
+fn go_on(kept: Kept) -> AfterTake
+    ensures { HasTake (kept_text kept) result }
+{
+    let Kept { claim, progress } = kept;
+    match progress {
+        Progress::Taken { line, message } => AfterTake::Told(TakeTold::Taken {
+            claim,
+            line,
+            message,
+        }),
+        Progress::Taking { from } => AfterTake::Turn(Kept {
+            claim,
+            progress: Progress::Taking { from },
+        }),
+        Progress::Putting { .. } | Progress::Put { .. } | Progress::Done { .. } => {
+            AfterTake::Told(TakeTold::OtherCall)
+        }
+    }
+}
+
+/// Names the call behind that of a message that is done, which was taken by this line.
+fn take_next<C: Caller>(caller: &mut C, claim: Claim, line: u64) -> Result<AfterTake, CallFault>
+    ensures { IfOk result (HasTake (C.saved caller.new)) }
+{
+    let kept = Kept {
+        claim: Claim {
+            stream: claim.stream,
+            number: claim.number.saturating_add(1),
+            life: claim.life,
+            by: claim.by,
+        },
+        progress: Progress::Taking {
+            from: line.saturating_add(1),
+        },
+    };
+    caller.save(&kept)?;
+    Ok(AfterTake::Turn(kept))
+}
+
+/// Names the first call of a file: what was taken before is none of its business.
+fn start<C: Caller>(
+    alloc: Global,
+    caller: &mut C,
+    stream: u32,
+    by: &Word,
+) -> Result<AfterTake, CallFault>
+    ensures { IfOk result (HasTake (C.saved caller.new)) }
+{
+    let request = Request::counts(alloc)?;
+    let Some(response) = ask_until(caller, &request)? else {
+        return Ok(AfterTake::Told(TakeTold::NoAnswer));
+    };
+    match read_next_line(&response) {
+        Some(from) => begin(alloc, caller, stream, from, by),
+        None => Ok(AfterTake::Told(TakeTold::Refused(response))),
+    }
+}
+
+/// Names a call anew: the next number of the stream, in the life that the host lives. Nothing of it was taken by lines in front of this one.
+fn begin<C: Caller>(
+    alloc: Global,
+    caller: &mut C,
+    stream: u32,
+    from: u64,
+    by: &Word,
+) -> Result<AfterTake, CallFault>
+    ensures { IfOk result (HasTake (C.saved caller.new)) }
+{
+    let request = Request::state(alloc, stream, 0)?;
+    let Some(response) = ask_until(caller, &request)? else {
+        return Ok(AfterTake::Told(TakeTold::NoAnswer));
+    };
+    let Some(state) = read_state(alloc, &response, stream, false)? else {
+        return Ok(AfterTake::Told(TakeTold::Refused(response)));
+    };
+    let kept = Kept {
+        claim: Claim {
+            stream,
+            number: state.last.saturating_add(1),
+            life: state.life,
+            by: copied(by),
+        },
+        progress: Progress::Taking { from },
+    };
+    caller.save(&kept)?;
+    Ok(AfterTake::Turn(kept))
+}
+
+/// Makes the call that the file has.
+fn make<C: Caller>(
+    alloc: Global,
+    caller: &mut C,
+    kept: Kept,
+    by: &Word,
+) -> Result<AfterTake, CallFault>
+    requires { C.saved caller.old ≡ kept_text kept }
+    ensures { IfOk result (HasTake (C.saved caller.new)) }
+{
+    let Some(response) = caller.make(&kept)? else {
+        return Ok(take_again(caller, kept, false));
+    };
+    match response.status {
+        200 => finish(alloc, caller, kept.claim, response),
+        204 | 408 | 503 => Ok(take_again(caller, kept, true)),
+        409 => Ok(AfterTake::Told(TakeTold::Doubtful)),
+        410 => look_back(alloc, caller, kept, by),
+        _ => Ok(AfterTake::Told(TakeTold::Refused(response))),
+    }
+}
+
+/// The call is made again, where there is time; else it is told that no answer or no message came.
+fn take_again<C: Caller>(caller: &mut C, kept: Kept, is_answered: bool) -> AfterTake
+    requires { C.saved caller.old ≡ kept_text kept }
+    ensures { HasTake (C.saved caller.new) result }
+{
+    if caller.pause() {
+        AfterTake::Turn(kept)
+    } else if is_answered {
+        AfterTake::Told(TakeTold::Nothing)
+    } else {
+        AfterTake::Told(TakeTold::NoAnswer)
+    }
+}
+
+/// A message was taken for a claim: the file has it.
+fn finish<C: Caller>(
+    alloc: Global,
+    caller: &mut C,
+    claim: Claim,
+    response: Response,
+) -> Result<AfterTake, CallFault>
+    ensures { IfOk result (HasTake (C.saved caller.new)) }
+{
+    let Some(line) = response.line else {
+        return Err(CallFault::Strange);
+    };
+    let message = match Message::copy(alloc, response.body.as_slice()) {
+        Ok(message) => message,
+        Err(fault) => return Err(CallFault::from(fault)),
+    };
+    keep(caller, claim, line, message)
+}
+
+/// This message was taken for a claim, by this line: the file has it.
+fn keep<C: Caller>(
+    caller: &mut C,
+    claim: Claim,
+    line: u64,
+    message: Message,
+) -> Result<AfterTake, CallFault>
+    ensures { IfOk result (HasTake (C.saved caller.new)) }
+{
+    let kept = Kept {
+        claim,
+        progress: Progress::Taken { line, message },
+    };
+    caller.save(&kept)?;
+    Ok(go_on(kept))
+}
+
+/// The host lives another life. What the call took in its own life comes first, as the journal tells it; where it took nothing there, another one is made.
+fn look_back<C: Caller>(
+    alloc: Global,
+    caller: &mut C,
+    kept: Kept,
+    by: &Word,
+) -> Result<AfterTake, CallFault>
+    ensures { IfOk result (HasTake (C.saved caller.new)) }
+{
+    let stream = kept.claim.stream;
+    let Progress::Taking { from } = kept.progress else {
+        return Ok(AfterTake::Told(TakeTold::OtherCall));
+    };
+    let mut from = from;
+    'pages: for _page in 0..u64::MAX {
+        let request = Request::got(alloc, stream, from)?;
+        let Some(response) = ask_until(caller, &request)? else {
+            return Ok(AfterTake::Told(TakeTold::NoAnswer));
+        };
+        let Some(page) = read_page(alloc, &response, stream, from)? else {
+            return Ok(AfterTake::Told(TakeTold::Refused(response)));
+        };
+        if page.lines.from > from {
+            return Ok(AfterTake::Told(TakeTold::Doubtful));
+        }
+        if let Some(first) = page.first {
+            return keep(caller, kept.claim, first.line, first.message);
+        }
+        from = page.lines.behind;
+        if !page.lines.more {
+            break;
+        }
+    }
+    begin(alloc, caller, stream, from, by)
+}

@@ -1,0 +1,142 @@
+//! The file of a call, which one process has at a time.
+use crate::failure::Failure;
+use amo_disk::Cause;
+use std::alloc::{AllocError, Global};
+use std::fs::{self, File, OpenOptions, TryLockError};
+use std::io::{self, ErrorKind, Read, Write};
+use std::os::unix::fs::{MetadataExt, OpenOptionsExt};
+use std::path::Path;
+use std::rt::Files;
+
+/// Messages stand there in clear: its owner alone reads and writes a new one.
+const MODE: u32 = 0o600;
+
+/// What the name of a lock has behind that of the file.
+const LOCK: &str = ".lock";
+
+/// The same of what is to take the file's place.
+const NEW: &str = ".new";
+
+/// How often a lock is looked for again where another process took it away meanwhile.
+const MOST_LOOKS: u32 = 100;
+
+/// How many bytes of the file are read at most: a longer one keeps no call.
+const MOST_BYTES: u64 = 8192;
+
+/// The file of a call is this process's alone until it is dropped or left.
+#[derive(Drop)]
+pub(crate) struct Held {
+    lock: File,
+    path: String,
+}
+
+impl Held {
+    /// Takes hold of the file of this path, which need not be there.
+    pub(crate) fn take<R: AllocGlobal + Files<File = File>>(
+        rt: &R,
+        path: &str,
+    ) -> Result<Held, Failure> {
+        let alloc = rt.alloc();
+        let name = behind(alloc, path, LOCK)?;
+        'looks: for _look in 0..MOST_LOOKS {
+            match lock_at(rt, name.as_str()) {
+                Ok(Some(lock)) => return Ok(Held { lock, path: name }),
+                Ok(None) => {}
+                Err(TryLockError::WouldBlock) => break,
+                Err(TryLockError::Error(error)) => {
+                    return Err(Failure::of_disk(alloc, name.as_str(), Cause::from(error)));
+                }
+            }
+        }
+        Err(Failure::InUse(String::from_str(alloc, path)?))
+    }
+
+    /// Leaves it to others. The lock is taken away while it is held: who opened it meanwhile sees that, and looks again.
+    pub(crate) fn leave<R: Files<File = File>>(self, rt: &R) {
+        let _ = fs::remove_file(rt, self.path.as_str());
+        let _ = self.lock.unlock();
+    }
+}
+
+/// Takes the lock of this path. None where it was taken away meanwhile.
+fn lock_at<R: Files<File = File>>(rt: &R, path: &str) -> Result<Option<File>, TryLockError> {
+    let opened: io::Result<File> = OpenOptions::new()
+        .read(true)
+        .append(true)
+        .create(true)
+        .mode(MODE)
+        .open(rt, path);
+    let file = match opened {
+        Ok(file) => file,
+        Err(error) => return Err(TryLockError::Error(error)),
+    };
+    file.try_lock()?;
+    match is_named(rt, &file, path) {
+        Ok(true) => Ok(Some(file)),
+        Ok(false) => Ok(None),
+        Err(error) => Err(TryLockError::Error(error)),
+    }
+}
+
+/// Whether this file has this name still.
+fn is_named<R: Files<File = File>>(rt: &R, file: &File, path: &str) -> io::Result<bool> {
+    let own = file.metadata()?;
+    match fs::metadata(rt, path) {
+        Ok(named) => Ok(named.dev() == own.dev() && named.ino() == own.ino()),
+        Err(error) if error.kind() == ErrorKind::NotFound => Ok(false),
+        Err(error) => Err(error),
+    }
+}
+
+/// What the file of this path has; none where there is no such file.
+pub(crate) fn read_file<R: AllocGlobal + Files<File = File>>(
+    rt: &R,
+    path: &str,
+) -> Result<Option<Vec<u8>>, Failure> {
+    let alloc = rt.alloc();
+    let file = match fs::open(rt, path) {
+        Ok(file) => file,
+        Err(error) if error.kind() == ErrorKind::NotFound => return Ok(None),
+        Err(error) => return Err(Failure::of_disk(alloc, path, Cause::from(error))),
+    };
+    let mut bytes = Vec::new(alloc);
+    match file.take(MOST_BYTES).read_to_end(&mut bytes) {
+        Ok(_) => Ok(Some(bytes)),
+        Err(error) => Err(Failure::of_disk(alloc, path, Cause::from(error))),
+    }
+}
+
+/// Puts a text into the place of what the file of this path has, whole or not at all, and on its disk.
+pub(crate) fn write_anew<R: Files<File = File>>(
+    rt: &R,
+    alloc: Global,
+    path: &str,
+    text: &[u8],
+) -> io::Result<()> {
+    let name = behind(alloc, path, NEW)?;
+    let mut file: File = OpenOptions::new()
+        .write(true)
+        .create(true)
+        .truncate(true)
+        .mode(MODE)
+        .open(rt, name.as_str())?;
+    file.write_all(text)?;
+    file.sync_all()?;
+    fs::rename(rt, name.as_str(), path)?;
+    fs::open(rt, directory_of(path))?.sync_all()
+}
+
+/// The directory in which the file of this path stands.
+fn directory_of(path: &str) -> &str {
+    match Path::new(path).parent() {
+        Some(parent) if !parent.as_str().is_empty() => parent.as_str(),
+        _ => ".",
+    }
+}
+
+/// A path with this behind it.
+fn behind(alloc: Global, path: &str, end: &str) -> Result<String, AllocError> {
+    let mut name = String::from_str(alloc, path)?;
+    name.push_str(end)?;
+    Ok(name)
+}

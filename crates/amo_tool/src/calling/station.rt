@@ -1,0 +1,158 @@
+//! From where a call is made: its file, the way to the door, and the time that it has.
+ghost use Rattle.std.specs.Prelude.{◌≡◌, IfOk, OnOk};
+ghost use Rattle.amo_call.specs.Kept.{kept_text};
+
+use crate::calling::held::write_anew;
+use crate::failure::Failure;
+use amo_call::{Asker, CallFault, Caller, Kept, Request, Response, exchange, push_kept};
+use amo_disk::Cause;
+use std::alloc::Global;
+use std::fs::File;
+use std::net::{Net, TcpStream};
+use std::rt::{Clock, Files};
+use std::time::{Duration, Instant};
+use std::{io, thread};
+
+/// The longest that a door is asked to wait, in seconds.
+pub(crate) const MOST_WAIT: u64 = 30;
+
+/// How long an answer may take behind that, in seconds.
+const ANSWER_TIME: u64 = 30;
+
+/// How long it rests before it tries again, in milliseconds.
+const REST: u64 = 100;
+
+/// Who asks where, and for how long.
+#[derive(Debug, Drop)]
+pub(crate) struct Place {
+    pub(crate) who: Asker,
+    /// For how many seconds it is tried again.
+    pub(crate) wait: u64,
+}
+
+/// Who makes a call.
+#[derive(Drop)]
+pub(crate) struct Station<'a, R> {
+    rt: &'a R,
+    alloc: Global,
+    place: &'a Place,
+    /// The path of the call's file.
+    path: &'a str,
+    /// What that has.
+    text: Vec<u8>,
+    since: Instant,
+    /// Why the last call came to nothing.
+    pub(crate) why: Option<Cause>,
+}
+
+impl<'a, R: AllocGlobal + Clock + Files<File = File> + Net<Stream = TcpStream>> Station<'a, R> {
+    /// One whose file has these bytes, which are none where it is not there.
+    pub(crate) fn new(
+        rt: &'a R,
+        place: &'a Place,
+        path: &'a str,
+        text: Vec<u8>,
+    ) -> Result<Station<'a, R>, Failure>
+        ensures { IfOk result (λ station. station.text ≡ text) }
+    {
+        let alloc = rt.alloc();
+        let since = match Instant::now(rt) {
+            Ok(since) => since,
+            Err(error) => return Err(Failure::Clock(Cause::from(error))),
+        };
+        Ok(Station {
+            rt,
+            alloc,
+            place,
+            path,
+            text,
+            since,
+            why: None,
+        })
+    }
+
+    /// Keeps a call in the file.
+    pub(crate) fn keep(&mut self, kept: &Kept) -> Result<(), CallFault>
+        ensures { OnOk result (self.new.text.items ≡ kept_text kept.now) }
+    {
+        let mut text = Vec::new(self.alloc);
+        push_kept(&mut text, kept)?;
+        match write_anew(self.rt, self.alloc, self.path, text.as_slice()) {
+            Ok(()) => {
+                self.text = text;
+                Ok(())
+            }
+            Err(error) => {
+                self.why = Some(Cause::from(error));
+                Err(CallFault::File)
+            }
+        }
+    }
+
+    /// Asks once.
+    pub(crate) fn inquire(&mut self, request: &Request) -> Result<Option<Response>, CallFault>
+        ensures { self.new.text ≡ self.old.text }
+    {
+        match self.reach() {
+            Some(mut stream) => exchange(self.alloc, &mut stream, &self.place.who, request),
+            None => Ok(None),
+        }
+    }
+
+    /// A way to the door. None where there is none, and why is kept.
+    pub(crate) fn reach(&mut self) -> Option<TcpStream>
+        ensures { self.new.text ≡ self.old.text }
+    {
+        match self.connect() {
+            Ok(stream) => Some(stream),
+            Err(error) => {
+                self.why = Some(Cause::from(error));
+                None
+            }
+        }
+    }
+
+    /// A way to the door.
+    fn connect(&self) -> io::Result<TcpStream> {
+        let stream: TcpStream = TcpStream::connect(self.rt, self.place.who.host.as_str())?;
+        let longest = Duration::from_secs(MOST_WAIT + ANSWER_TIME);
+        stream.set_read_timeout(Some(longest))?;
+        stream.set_write_timeout(Some(longest))?;
+        Ok(stream)
+    }
+
+    /// How many seconds are left.
+    fn left(&self) -> u64 {
+        match self.since.elapsed(self.rt) {
+            Ok(passed) => self.place.wait.saturating_sub(passed.as_secs()),
+            Err(_) => 0,
+        }
+    }
+}
+
+impl<R: AllocGlobal + Clock + Files<File = File> + Net<Stream = TcpStream>> Caller
+    for Station<'_, R> {
+    ghost saved = { λ s. s.text.items };
+
+    fn save(&mut self, kept: &Kept) -> Result<(), CallFault> {
+        self.keep(kept)
+    }
+
+    fn make(&mut self, kept: &Kept) -> Result<Option<Response>, CallFault> {
+        let wait = self.left().min(MOST_WAIT);
+        let request = Request::of_call(self.alloc, kept, wait)?;
+        self.inquire(&request)
+    }
+
+    fn ask(&mut self, request: &Request) -> Result<Option<Response>, CallFault> {
+        self.inquire(request)
+    }
+
+    fn pause(&mut self) -> bool {
+        if self.left() == 0 {
+            return false;
+        }
+        thread::sleep(self.rt, Duration::from_millis(REST));
+        true
+    }
+}
