@@ -6,15 +6,19 @@ use std::alloc::Global;
 use std::fs::File;
 use std::io::{self, ErrorKind, Write};
 use std::os::unix::fs::MetadataExt;
-use std::rt::Files;
+use std::rt::{Clock, Files};
+use std::time::{Duration, Instant};
 use std::{fs, mem};
 
 /// How many numbers are tried for a piece, where files have them.
 const MOST_NUMBERS: u32 = 1000;
 
+/// How long the name of a piece is not looked up again, in microseconds: the system takes longer for that than to write a line.
+const LOOKS_APART: u64 = 10_000;
+
 /// Pieces of a journal in files of one directory: the newest has the journal's name, and those before it have numbers behind that.
 #[derive(Drop)]
-pub struct Directory<'r, R: Files<File = File>> {
+pub struct Directory<'r, R: Clock + Files<File = File>> {
     rt: &'r R,
     alloc: Global,
     path: String,
@@ -22,6 +26,8 @@ pub struct Directory<'r, R: Files<File = File>> {
     highest: u64,
     newest: File,
     written: Written,
+    // When its name was looked up last.
+    looked: Option<Instant>,
 }
 
 /// The file that was written, and how long it is, if nobody else changed it.
@@ -43,6 +49,12 @@ impl Written {
         })
     }
 
+    /// Whether this, which is that file, is as long, and has some name.
+    fn is_whole(self, file: &File) -> io::Result<bool> {
+        let found = file.metadata()?;
+        Ok(found.nlink() > 0 && found.len() == self.length)
+    }
+
     /// Whether what has this name is that file, and as long.
     fn is_at<R: Files<File = File>>(self, rt: &R, path: &str) -> io::Result<bool> {
         match fs::metadata(rt, path) {
@@ -57,7 +69,7 @@ impl Written {
     }
 }
 
-impl<'r, R: Files<File = File>> Directory<'r, R> {
+impl<'r, R: Clock + Files<File = File>> Directory<'r, R> {
     /// The journal of this name, of which these are the highest number of a piece, and the newest one, which is locked and has so many bytes.
     pub(crate) fn new(
         rt: &'r R,
@@ -75,19 +87,35 @@ impl<'r, R: Files<File = File>> Directory<'r, R> {
             highest,
             newest,
             written,
+            looked: None,
         })
+    }
+
+    /// Whether the newest piece is as it was written: nobody cut it, added to it or took it away, and it had its name a moment ago.
+    fn is_as_written(&mut self) -> io::Result<bool> {
+        let now = Instant::now(self.rt)?;
+        let apart = Duration::from_micros(LOOKS_APART);
+        match self.looked {
+            Some(looked) if now.duration_since(looked) < apart => {
+                self.written.is_whole(&self.newest)
+            }
+            _ => {
+                self.looked = Some(now);
+                self.written.is_at(self.rt, self.path.as_str())
+            }
+        }
     }
 }
 
-impl<R: Files<File = File>> Folder for Directory<'_, R> {
+impl<R: Clock + Files<File = File>> Folder for Directory<'_, R> {
     ghost use Rattle.std.specs.Prelude.{None};
 
     ghost pieces = { λ _. None };
 
-    /// Where somebody else cut the piece, added to it or moved it, as a rotation of logs does, the next host would not find there what was written: nothing
-    /// more is appended.
+    /// Where somebody else cut the piece, added to it, removed or moved it, as a rotation of logs does, the next host would not find there what was written:
+    /// nothing more is appended. A move under load is noticed some milliseconds later, all else at once.
     fn append(&mut self, bytes: &[u8]) -> io::Result<usize> {
-        if !self.written.is_at(self.rt, self.path.as_str())? {
+        if !self.is_as_written()? {
             return Err(io::Error::from(ErrorKind::InvalidData));
         }
         let count = self.newest.write(bytes)?;
@@ -108,6 +136,7 @@ impl<R: Files<File = File>> Folder for Directory<'_, R> {
     fn begin(&mut self) -> io::Result<()> {
         let newest = begin_behind(self.rt, self.path.as_str())?;
         self.written = Written::of(&newest, 0)?;
+        self.looked = None;
         let _closed = mem::replace(&mut self.newest, newest);
         Ok(())
     }

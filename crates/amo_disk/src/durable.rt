@@ -4,7 +4,7 @@ ghost use Rattle.std.specs.Prelude.{◌≡◌, ◌+◌, OnOk, OnErr};
 use crate::{Cause, Directory, Disk, Roll};
 use amo_text::{Sink, SinkFault};
 use std::fs::File;
-use std::rt::Files;
+use std::rt::{Clock, Files};
 use std::sync::ledger::Ledger;
 
 /// A sink that can be put on its disk.
@@ -39,7 +39,7 @@ pub trait Durable: Sink {
 }
 
 /// What is left of files nobody tells.
-impl<R: Files<File = File>, L: Ledger> Durable for Disk<'_, Roll<Directory<'_, R>>, L> {
+impl<R: Clock + Files<File = File>, L: Ledger> Durable for Disk<'_, Roll<Directory<'_, R>>, L> {
     ghost use Rattle.std.specs.Prelude.{None};
 
     ghost flushed = { λ _. None };

@@ -13,7 +13,7 @@ use std::cell::Cell;
 use std::fs::File;
 use std::io::Write;
 use std::os::unix::fs::FileExt;
-use std::rt::Files;
+use std::rt::{Clock, Files};
 use std::sync::ledger::{Blank, Ledger};
 use std::{fs, io};
 
@@ -41,7 +41,7 @@ pub struct Wanted {
 
 /// A journal that was opened.
 #[derive(Drop)]
-pub struct Opened<'a, 'r, R: Files<File = File>, L: Ledger> {
+pub struct Opened<'a, 'r, R: Clock + Files<File = File>, L: Ledger> {
     /// Its pieces. What they are handed is gathered in front of them.
     pub disk: Gathered<Disk<'a, Roll<Directory<'r, R>>, L>>,
     /// Where it goes on.
@@ -54,7 +54,7 @@ pub struct Opened<'a, 'r, R: Files<File = File>, L: Ledger> {
 /// entry of its directory are on the disk then. It is refused, and left as it is, where it is none for this host.
 ///
 /// The blank becomes the ledger in which contracts count failures. It takes no bytes.
-pub fn open<'a, 'r, R: Files<File = File>, L: Ledger>(
+pub fn open<'a, 'r, R: Clock + Files<File = File>, L: Ledger>(
     rt: &'r R,
     alloc: Global,
     path: &str,
