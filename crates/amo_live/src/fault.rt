@@ -142,10 +142,10 @@ pub enum ServeFault {
     Host(LiveFault),
     /// Where the clients' lines come from failed so.
     #[error("standard input failed: {0}")]
-    Input(ErrorKind),
+    Input(Cause),
     /// Where answers and messages go failed so.
     #[error("standard output failed: {0}")]
-    Output(ErrorKind),
+    Output(Cause),
     /// Nobody reads the messages any more.
     #[error("nobody reads standard output any more")]
     Gone,
@@ -156,10 +156,10 @@ pub enum ServeFault {
 
 impl ServeFault {
     /// The fault of an output that failed so.
-    pub(crate) fn output(error: &io::Error) -> ServeFault {
+    pub(crate) fn output(error: io::Error) -> ServeFault {
         match error.kind() {
             ErrorKind::OutOfMemory => ServeFault::Host(LiveFault::NoMemory),
-            kind => ServeFault::Output(kind),
+            _ => ServeFault::Output(Cause::from(error)),
         }
     }
 }
@@ -181,7 +181,7 @@ impl From<io::Error> for ServeFault {
     fn from(error: io::Error) -> ServeFault {
         match error.kind() {
             ErrorKind::OutOfMemory => ServeFault::Host(LiveFault::NoMemory),
-            kind => ServeFault::Input(kind),
+            _ => ServeFault::Input(Cause::from(error)),
         }
     }
 }

@@ -78,7 +78,7 @@ pub use lives_file::OpenedLives;
 pub use notices::{Notices, Silence};
 pub use plan::Plan;
 pub use process::{run_process, start};
-pub use service::{EventAt, SenderLane, Service, Settled, Setup};
+pub use service::{EventAt, MOST_DATAGRAMS, SenderLane, Service, Settled, Setup};
 pub use socket::Socket;
 pub use turns::{Desk, Ended, Limits, serve};
 pub use words::Lineage;

@@ -31,6 +31,10 @@ pub struct Waited {
 pub struct Ready {
     /// Lines may have come, or their end.
     pub lines: bool,
+    /// Datagrams may have come.
+    pub socket: bool,
+    /// There was something before it waited.
+    pub at_once: bool,
     /// The output is gone.
     pub is_gone: bool,
     /// Somebody may ask the host to come to its end.
@@ -45,10 +49,11 @@ pub fn wait<C: Clock>(rt: &C, what: Waited, limit: i32) -> Ready {
         watched(what.output, if what.takes { net::POLLOUT } else { 0 }),
         watched(what.bell, net::POLLIN),
     ];
-    if limit == 0 || !comes_soon(rt, &mut waited) {
+    let at_once = net::poll(&mut waited, 0) != 0;
+    if !at_once && limit != 0 && !comes_soon(rt, &mut waited) {
         net::poll(&mut waited, limit);
     }
-    found_in(&waited)
+    found_in(&waited, at_once)
 }
 
 /// Whether something comes while the host looks.
@@ -58,12 +63,12 @@ fn comes_soon<C: Clock>(rt: &C, waited: &mut [pollfd; 4]) -> bool {
     };
     let limit = Duration::from_micros(LOOKING);
     for _look in 0..LOOKS {
-        if net::poll(waited, 0) != 0 {
-            return true;
-        }
         match since.elapsed(rt) {
             Ok(looked) if looked < limit => thread::yield_now(),
             _ => return false,
+        }
+        if net::poll(waited, 0) != 0 {
+            return true;
         }
     }
     false
@@ -78,9 +83,11 @@ fn watched(number: i32, events: i16) -> pollfd {
     }
 }
 
-fn found_in(waited: &[pollfd; 4]) -> Ready {
+fn found_in(waited: &[pollfd; 4], at_once: bool) -> Ready {
     Ready {
         lines: waited[0].revents != 0,
+        socket: waited[1].revents != 0,
+        at_once,
         is_gone: waited[2].revents & !net::POLLOUT != 0,
         bell: waited[3].revents != 0,
     }

@@ -29,7 +29,7 @@ pub use door::{EventAt, SenderLane, Settled};
 use std::alloc::{AllocError, Global};
 
 /// How many datagrams a turn takes at most.
-const MOST_DATAGRAMS: u32 = 64;
+pub const MOST_DATAGRAMS: u32 = 64;
 
 /// After how many first intervals a peer that was not heard counts as away.
 const INTERVALS_AWAY: u64 = 64;
@@ -486,10 +486,16 @@ impl<L: Link, S: Sink, W: Lineage> Service<L, S, W> {
         }
     }
 
-    /// Takes the datagrams that have come, up to a bound. So many bytes of messages may be shown in this turn, those that waited for room first. A host
-    /// that comes to its end accepts no more messages.
+    /// Takes so many of the datagrams that have come, and no more than `MOST_DATAGRAMS`. So many bytes of messages may be shown in this turn, those that
+    /// waited for room first. A host that comes to its end accepts no more messages.
     #[tactic(auto, using(crate::proofs::Fresh::bears_none))]
-    pub fn hear(&mut self, now: u64, room: usize, closes: bool) -> Result<(), LiveFault>
+    pub fn hear(
+        &mut self,
+        now: u64,
+        room: usize,
+        datagrams: u32,
+        closes: bool,
+    ) -> Result<(), LiveFault>
         requires { IsNoted S.written self.old.host }
         ensures noted { OnOk result (IsNoted S.written self.new.host) }
         ensures none_put { OnOk result (PutsNone self.old.host.pass self.new.host.pass) }
@@ -502,14 +508,14 @@ impl<L: Link, S: Sink, W: Lineage> Service<L, S, W> {
         self.closes = closes;
         self.heard = false;
         self.get_unread(now)?;
-        self.take_datagrams(now)?;
+        self.take_datagrams(datagrams.min(MOST_DATAGRAMS), now)?;
         self.hear_peer(now);
         self.catch_up(now)
     }
 
-    /// Takes the datagrams that have come, up to a bound.
+    /// Takes so many of the datagrams that have come.
     #[tactic(auto, using(crate::proofs::Fresh::bears_none))]
-    fn take_datagrams(&mut self, now: u64) -> Result<(), LiveFault>
+    fn take_datagrams(&mut self, datagrams: u32, now: u64) -> Result<(), LiveFault>
         requires { IsNoted S.written self.old.host }
         ensures noted { OnOk result (IsNoted S.written self.new.host) }
         ensures none_put { OnOk result (PutsNone self.old.host.pass self.new.host.pass) }
@@ -519,7 +525,7 @@ impl<L: Link, S: Sink, W: Lineage> Service<L, S, W> {
         ensures words { OnOk result (BearsNew W.is_drawn (words_of self.old) (words_of self.new) self.old.host.pass self.new.host.pass) }
     {
         let mut buffer = [0; MAX_DATAGRAM];
-        'datagrams: for _datagram in 0..MOST_DATAGRAMS {
+        'datagrams: for _datagram in 0..datagrams {
             let Some(length) = self.host.hear(&mut buffer) else {
                 break;
             };

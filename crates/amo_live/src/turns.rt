@@ -10,10 +10,11 @@ ghost use Rattle.amo_live.specs.declared.turns.Ended.TheVariants.{AtRest};
 
 use crate::lines::LineFault;
 use crate::notices::Notices;
-use crate::ready::{Waited, takes_more, wait};
+use crate::ready::{Ready, Waited, takes_more, wait};
 use crate::stats::Stats;
 use crate::{
-    Backlog, Bell, Durable, Figures, Input, Line, Lineage, LiveFault, ServeFault, Service, Spelling,
+    Backlog, Bell, Durable, Figures, Input, Line, Lineage, LiveFault, MOST_DATAGRAMS, ServeFault,
+    Service, Spelling,
 };
 use amo_net::Link;
 use amo_packet::Message;
@@ -167,17 +168,45 @@ fn turn<C: Clock + Eprint, L: Link, S: Durable, W: Lineage, I: Read, O: Write>(
     ensures puts { desk.new.puts ≡ desk.old.puts }
     ensures unread { OnOk result (desk.old.puts ≡ false → desk.new.reader ≡ desk.old.reader) }
 {
-    desk.wait(rt, limit, service.has_unread())?;
+    let datagrams = desk.wait(rt, limit, service.has_unread())?;
     let now = microseconds(rt, start)?;
     let room = desk.room();
-    service.hear(now, room, desk.bell.was_rung())?;
+    service.hear(now, room, datagrams, desk.bell.was_rung())?;
     service.resend(now)?;
+    let text_first = !desk.puts || !service.shown().is_empty();
     // After the datagrams: what they made room for is put before the host waits again.
     take_lines(rt, service, desk, now)?;
     service.host.write_down(sync)?;
+    hand_out(service, desk, text_first)?;
+    Ok(())
+}
+
+/// Shows what is to be shown, and hands the packets that are to leave to the link. Text goes first where it has messages or what became of them: no ack
+/// leaves before its message was shown. That lines were taken is shown behind their packets, which others wait for.
+fn hand_out<L: Link, S: Durable, W: Lineage, I: Read, O: Write>(
+    service: &mut Service<L, S, W>,
+    desk: &mut Desk<I, O>,
+    text_first: bool,
+) -> Result<(), ServeFault>
+    requires noted { IsNoted S.written service.old.host }
+    requires flushed { S.flushed service.old.host.journal.sink ≡ S.written service.old.host.journal.sink }
+    ensures noted { IsNoted S.written service.new.host }
+    ensures pass { service.new.host.pass ≡ service.old.host.pass }
+    ensures streams { streams_of service.new ≡ streams_of service.old }
+    ensures words { words_of service.new ≡ words_of service.old }
+    ensures spells { spelling_of service.new ≡ spelling_of service.old }
+    ensures shown { OnOk result (Appends (O.contents desk.old.output) (O.contents desk.new.output) (shown_by service.old)) }
+    ensures cleared { OnOk result (shown_by service.new ≡ []) }
+    ensures same { desk.new ≡ record desk.old { output = desk.new.output; takes_more = desk.new.takes_more } }
+{
+    if !text_first {
+        service.host.send();
+    }
     desk.show(service.shown())?;
     service.clear_shown();
-    service.host.send();
+    if text_first {
+        service.host.send();
+    }
     Ok(())
 }
 
@@ -424,22 +453,23 @@ impl<I: Read, O: Write> Desk<I, O> {
         let kept = self.kept.len();
         let _ = if self.puts {
             eprintln!(rt;
-                "amo: {open} handshakes are open, {waiting} messages wait behind them, and {kept} lines were not put"
+                "amo: not finished: handshakes {open}, messages behind them {waiting}, lines not put {kept}"
             )
         } else {
-            eprintln!(rt; "amo: {open} handshakes are open, and {held} messages were not got")
+            eprintln!(rt; "amo: not finished: handshakes {open}, messages not got {held}")
         };
     }
 
     /// Waits, also until messages that wait to be shown can be, and reads lines once where some have come, unless as many messages wait to be put as
-    /// may. A host that puts none reads nothing, and ends where nobody reads its messages any more.
-    fn wait<C: Clock>(&mut self, rt: &C, limit: i32, takes: bool) -> Result<(), ServeFault>
+    /// may. A host that puts none reads nothing, and ends where nobody reads its messages any more. Answers how many datagrams are to be taken.
+    fn wait<C: Clock>(&mut self, rt: &C, limit: i32, takes: bool) -> Result<u32, ServeFault>
         ensures unread { OnOk result (self.old.puts ≡ false → self.new.reader ≡ self.old.reader) }
         ensures waits { OnOk result ((bytes : List ℕ) × Consumes (I.remaining self.old.reader) (I.remaining self.new.reader) bytes × Waits self.old.input self.new.input bytes) }
         ensures same { self.new ≡ record self.old { reader = self.new.reader; input = self.new.input; bell = self.new.bell } }
     {
         let reads = self.reads();
         let ready = wait(rt, self.waited(reads, takes), limit);
+        let datagrams = datagrams_in(&ready);
         if ready.is_gone {
             return Err(ServeFault::Gone);
         }
@@ -449,7 +479,7 @@ impl<I: Read, O: Write> Desk<I, O> {
         if ready.lines && reads {
             self.input.fill(&mut self.reader)?;
         }
-        Ok(())
+        Ok(datagrams)
     }
 
     /// Whether lines are read now.
@@ -517,11 +547,11 @@ impl<I: Read, O: Write> Desk<I, O> {
         self.takes_more = false;
         match self.output.write_all(shown) {
             Ok(()) => (),
-            Err(error) => return Err(ServeFault::output(&error)),
+            Err(error) => return Err(ServeFault::output(error)),
         }
         match self.output.flush() {
             Ok(()) => Ok(()),
-            Err(error) => Err(ServeFault::output(&error)),
+            Err(error) => Err(ServeFault::output(error)),
         }
     }
 
@@ -536,6 +566,16 @@ impl<I: Read, O: Write> Desk<I, O> {
                 _ => eprintln!(rt; "amo: line {line}: {fault}"),
             };
         }
+    }
+}
+
+/// How many datagrams a turn takes that began so. The first one that a host waited for is mostly alone, and to ask for another costs a call of the system:
+/// one that came all the same begins the next turn.
+fn datagrams_in(ready: &Ready) -> u32 {
+    match (ready.socket, ready.at_once) {
+        (false, _) => 0,
+        (true, false) => 1,
+        (true, true) => MOST_DATAGRAMS,
     }
 }
 

@@ -3,6 +3,7 @@ use crate::DoorFault;
 use crate::client::Client;
 use crate::waiting::Waiter;
 use amo_door::{Guard, Routes, Served};
+use amo_live::MOST_DATAGRAMS;
 use libc::net;
 use libc::types::pollfd;
 use std::alloc::{AllocError, AllocFailed, Global};
@@ -121,6 +122,14 @@ impl Door {
         match self.waited.get(2) {
             Some(bell) => bell.revents != 0,
             None => false,
+        }
+    }
+
+    /// How many datagrams are to be taken: none where none has come.
+    pub(crate) fn datagrams(&self) -> u32 {
+        match self.waited.get(1) {
+            Some(socket) if socket.revents != 0 => MOST_DATAGRAMS,
+            _ => 0,
         }
     }
 

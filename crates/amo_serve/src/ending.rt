@@ -94,10 +94,10 @@ impl<L: Link, S: Sink, W: Lineage> Responder<L, S, W> {
         let (open, waiting, held) = (figures.open, figures.waiting, figures.held);
         let _ = match self.identity.side {
             End::Sender => eprintln!(rt;
-                "amo: {open} handshakes are open, and {waiting} messages wait behind them"
+                "amo: not finished: handshakes {open}, messages behind them {waiting}"
             ),
             End::Receiver => {
-                eprintln!(rt; "amo: {open} handshakes are open, and {held} messages were not taken")
+                eprintln!(rt; "amo: not finished: handshakes {open}, messages not taken {held}")
             }
         };
     }

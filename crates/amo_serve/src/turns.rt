@@ -116,7 +116,7 @@ fn turn<C: Files<File = File>, L: Link, S: Durable, W: Lineage>(
     ensures serves { OnOk result (Serves responder.old.numbers responder.new.numbers responder.old.service.host.pass responder.new.service.host.pass) }
     ensures words { OnOk result (BearsNew W.is_drawn (words_of responder.old.service) (words_of responder.new.service) responder.old.service.host.pass responder.new.service.host.pass) }
 {
-    responder.hear(now)?;
+    responder.hear(door.datagrams(), now)?;
     door.hear(now)?;
     responder.serve_waiters(door, now)?;
     responder.ask_clients(door, now)?;
@@ -174,14 +174,14 @@ fn tell_news(news: &News, client: &mut Client, next: u64) {
 }
 
 impl<L: Link, S: Durable, W: Lineage> Responder<L, S, W> {
-    /// Hears the other host, and sends it again what is due.
-    fn hear(&mut self, now: u64) -> Result<(), LiveFault>
+    /// Takes so many datagrams of the other host, and sends it again what is due.
+    fn hear(&mut self, datagrams: u32, now: u64) -> Result<(), LiveFault>
         requires { IsNoted S.written self.old.service.host }
         ensures noted { OnOk result (IsNoted S.written self.new.service.host) }
         ensures serves { OnOk result (Serves self.old.numbers self.new.numbers self.old.service.host.pass self.new.service.host.pass) }
         ensures words { OnOk result (BearsNew W.is_drawn (words_of self.old.service) (words_of self.new.service) self.old.service.host.pass self.new.service.host.pass) }
     {
-        self.service.hear(now, NO_ROOM, self.ends)?;
+        self.service.hear(now, NO_ROOM, datagrams, self.ends)?;
         self.service.resend(now)?;
         self.tell_peer(now)?;
         self.tell_settled()?;

@@ -10,23 +10,23 @@ use Rattle.amo_live.proofs.turns.turn.Goals as goal
 
 pub returns-clause-serves : goal.returns-clause-serves
 returns-clause-serves g c =
-    let waits = c.in_ok-wait.ensures.waits in
+    let waits = c.in_ok-datagrams.ensures.waits in
     let synced : c.write_down.new.self.pass ≡ c.take_lines.new.service.host.pass = ap (λ (t : HostState g.row.L.Denot g.row.S.Denot). t.pass) c.in_ok-write_down.ensures.same in
-    let cleared : c.send.new.self.pass ≡ c.write_down.new.self.pass = search rules in
+    let cleared : c.hand_out.new.service.host.pass ≡ c.write_down.new.self.pass = search rules in
     let spelling : c.room-room.new.self.spelling ≡ c.args.desk.now.spelling = search rules in
     let puts : c.room-room.new.self.puts ≡ c.args.desk.now.puts = search rules in
     let kept : c.room-room.new.self.kept ≡ c.args.desk.now.kept = search rules in
     let waiting : Waits c.args.desk.now.input c.room-room.new.self.input waits.0 = search rules in
-    let reader : c.show.new.self.reader ≡ c.wait.new.self.reader = search rules in
-    let input : c.show.new.self.input ≡ c.take_lines.new.desk.input = search rules in
-    let keeps : c.show.new.self.kept ≡ c.take_lines.new.desk.kept = search rules in
+    let reader : c.hand_out.new.desk.reader ≡ c.wait.new.self.reader = search rules in
+    let input : c.hand_out.new.desk.input ≡ c.take_lines.new.desk.input = search rules in
+    let keeps : c.hand_out.new.desk.kept ≡ c.take_lines.new.desk.kept = search rules in
     let streams : streams_of c.resend.new.self ≡ streams_of c.args.service.now = c.in_ok-resend.ensures.streams ∙ c.in_ok-hear.ensures.streams in
     let lines = serves_as c.args.desk.now.spelling c.args.desk.now.puts (streams_of c.args.service.now) c.room-room.new.self.spelling c.room-room.new.self.puts (streams_of c.resend.new.self) []
     (moment c.room-room.new.self.input c.room-room.new.self.kept c.resend.new.self.host.pass) (moment c.take_lines.new.desk.input c.take_lines.new.desk.kept c.take_lines.new.service.host.pass) spelling puts streams c.in_ok-take_lines.ensures.serves in (
       waits.0,
       rw reader waits.1,
-      turn_over c.args.desk.now.spelling c.args.desk.now.puts (streams_of c.args.service.now) waits.0 c.args.desk.now.input c.room-room.new.self.input c.take_lines.new.desk.input c.show.new.self.input
-          c.args.desk.now.kept c.room-room.new.self.kept c.take_lines.new.desk.kept c.show.new.self.kept c.args.service.now.host.pass c.resend.new.self.host.pass c.take_lines.new.service.host.pass c.send.new.self.pass
+      turn_over c.args.desk.now.spelling c.args.desk.now.puts (streams_of c.args.service.now) waits.0 c.args.desk.now.input c.room-room.new.self.input c.take_lines.new.desk.input c.hand_out.new.desk.input
+          c.args.desk.now.kept c.room-room.new.self.kept c.take_lines.new.desk.kept c.hand_out.new.desk.kept c.args.service.now.host.pass c.resend.new.self.host.pass c.take_lines.new.service.host.pass c.hand_out.new.service.host.pass
           waiting kept (c.in_ok-resend.ensures.none_put ∙ c.in_ok-hear.ensures.none_put) lines input keeps (cleared ∙ synced),
     )
 
@@ -42,10 +42,10 @@ returns-clause-shown g c =
     let to_resend = shows_after spelling (spelling_of c.hear.new.self) v c.hear.new.self.host.pass c.resend.new.self.host.pass old heard resent c.in_ok-hear.ensures.spelling c.in_ok-hear.ensures.shown c.in_ok-resend.ensures.shown in
     let to_lines = shows_after spelling (spelling_of c.resend.new.self) v c.resend.new.self.host.pass c.take_lines.new.service.host.pass old resent taken spells to_resend c.in_ok-take_lines.ensures.shown in
     let synced : c.write_down.new.self.pass ≡ c.take_lines.new.service.host.pass = ap (λ (t : HostState g.row.L.Denot g.row.S.Denot). t.pass) c.in_ok-write_down.ensures.same in
-    let sent : c.send.new.self.pass ≡ c.write_down.new.self.pass = search rules in
-    let appends : Appends (g.O.Write.contents c.args.desk.now.output) (g.O.Write.contents c.show.new.self.output) taken = search rules in
-    shown_whole spelling v c.take_lines.new.service.host.pass c.send.new.self.pass old taken (shown_by c.clear_shown.new.self) (g.O.Write.contents c.args.desk.now.output) (g.O.Write.contents c.show.new.self.output)
-    (sent ∙ synced) to_lines appends c.clear_shown.ensures.shown
+    let sent : c.hand_out.new.service.host.pass ≡ c.write_down.new.self.pass = search rules in
+    let appends : Appends (g.O.Write.contents c.args.desk.now.output) (g.O.Write.contents c.hand_out.new.desk.output) taken = search rules in
+    shown_whole spelling v c.take_lines.new.service.host.pass c.hand_out.new.service.host.pass old taken (shown_by c.hand_out.new.service) (g.O.Write.contents c.args.desk.now.output) (g.O.Write.contents c.hand_out.new.desk.output)
+    (sent ∙ synced) to_lines appends c.in_ok-hand_out.ensures.cleared
 
 pub returns-clause-words : goal.returns-clause-words
 returns-clause-words g c =
@@ -54,10 +54,10 @@ returns-clause-words g c =
     let to_resend = bears_on first heard resent v c.hear.new.self.host.pass c.resend.new.self.host.pass c.in_ok-hear.ensures.words c.in_ok-resend.ensures.words in
     let to_lines = bears_on first resent taken v c.resend.new.self.host.pass c.take_lines.new.service.host.pass to_resend c.in_ok-take_lines.ensures.words in
     let synced : c.write_down.new.self.pass ≡ c.take_lines.new.service.host.pass = ap (λ (t : HostState g.row.L.Denot g.row.S.Denot). t.pass) c.in_ok-write_down.ensures.same in
-    let sent : c.send.new.self.pass ≡ c.write_down.new.self.pass = search rules in
-    bears_as first taken first (words_of c.clear_shown.new.self) v c.take_lines.new.service.host.pass v c.send.new.self.pass refl c.clear_shown.ensures.words refl (sent ∙ synced) to_lines
+    let sent : c.hand_out.new.service.host.pass ≡ c.write_down.new.self.pass = search rules in
+    bears_as first taken first (words_of c.hand_out.new.service) v c.take_lines.new.service.host.pass v c.hand_out.new.service.host.pass refl c.hand_out.ensures.words refl (sent ∙ synced) to_lines
 
 pub returns-clause-unread : goal.returns-clause-unread
 returns-clause-unread g c =
-    let reader : c.show.new.self.reader ≡ c.wait.new.self.reader = search rules in
-    λ shut. reader ∙ c.in_ok-wait.ensures.unread shut
+    let reader : c.hand_out.new.desk.reader ≡ c.wait.new.self.reader = search rules in
+    λ shut. reader ∙ c.in_ok-datagrams.ensures.unread shut
