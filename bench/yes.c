@@ -1,0 +1,220 @@
+/* Times messages from their put to their yes, with one of each stream on its way, and prints the times in nanoseconds, the shortest first:
+
+     yes lines STREAMS COUNT COMMAND..                 by a sender that this program starts, over its standard input and output
+     yes doors STREAMS COUNT PORT LIFE PORT LIFE       by the doors of a sender and of a receiver that are there, the sender's first
+
+   At a door a put, and the question what became of it, leave together; at the other one a take waits for the message. */
+#define _GNU_SOURCE
+#include <arpa/inet.h>
+#include <errno.h>
+#include <fcntl.h>
+#include <netinet/tcp.h>
+#include <poll.h>
+#include <signal.h>
+#include <stdio.h>
+#include <stdlib.h>
+#include <string.h>
+#include <strings.h>
+#include <sys/socket.h>
+#include <sys/wait.h>
+#include <time.h>
+#include <unistd.h>
+
+enum { MOST_STREAMS = 256, ROOM = 65536, LONGEST_WAIT = 10000 };
+
+struct door {
+    const char *port, *life;
+};
+
+struct connection {
+    int socket;
+    long messages;
+    size_t filled;
+    char answer[ROOM];
+};
+
+static long began[MOST_STREAMS + 1], *times;
+static size_t streams, count, done;
+static struct door doors[2];
+/* Of each stream the one at the sender, and behind it the one at the receiver. */
+static struct connection connections[2 * MOST_STREAMS];
+static struct pollfd looked_at[2 * MOST_STREAMS];
+
+static void stop(const char *why) {
+    fprintf(stderr, "yes: %s: %s\n", why, strerror(errno));
+    exit(1);
+}
+
+static long now(void) {
+    struct timespec it;
+    clock_gettime(CLOCK_MONOTONIC, &it);
+    return it.tv_sec * 1000000000L + it.tv_nsec;
+}
+
+static int by_length(const void *one, const void *other) {
+    long a = *(const long *)one, b = *(const long *)other;
+    return (a > b) - (a < b);
+}
+
+static void has_answer(size_t stream) {
+    if (done < count)
+        times[done++] = now() - began[stream];
+}
+
+/* Writes all of a text that fits. */
+static void hand(int to, const char *text, size_t length) {
+    if (write(to, text, length) != (ssize_t)length)
+        stop("write");
+}
+
+/* Starts a command, and answers the ends of its standard input and output. */
+static void start(char **command, int *input, int *output) {
+    int in[2], out[2];
+    if (pipe2(in, O_CLOEXEC) || pipe2(out, O_CLOEXEC))
+        stop("pipe");
+    pid_t child = fork();
+    if (child < 0)
+        stop("fork");
+    if (!child) {
+        dup2(in[0], 0);
+        dup2(out[1], 1);
+        execvp(command[0], command);
+        stop(command[0]);
+    }
+    close(in[0]);
+    close(out[1]);
+    *input = in[1];
+    *output = out[0];
+}
+
+static void put_line(int input, size_t stream) {
+    static long put;
+    char line[64];
+    int length = sprintf(line, "%zu %08ld\n", stream, put++);
+    began[stream] = now();
+    hand(input, line, length);
+}
+
+static void by_lines(char **command) {
+    static char told[ROOM];
+    size_t filled = 0;
+    int input, output;
+    start(command, &input, &output);
+    for (size_t stream = 1; stream <= streams; stream++)
+        put_line(input, stream);
+    while (done < count) {
+        ssize_t more = read(output, told + filled, ROOM - filled);
+        if (more <= 0)
+            stop("the sender ended");
+        filled += more;
+        char *line = told, *end;
+        for (; (end = memchr(line, '\n', told + filled - line)); line = end + 1)
+            if (end - line > 4 && !memcmp(end - 4, " yes", 4) && done < count) {
+                size_t stream = strtoul(line, NULL, 10);
+                has_answer(stream);
+                put_line(input, stream);
+            }
+        filled -= line - told;
+        memmove(told, line, filled);
+    }
+    close(input);
+    while (read(output, told, ROOM) > 0)
+        ;
+    wait(NULL);
+}
+
+static int connected(int port) {
+    struct sockaddr_in place = {.sin_family = AF_INET, .sin_port = htons(port), .sin_addr.s_addr = htonl(INADDR_LOOPBACK)};
+    int one = 1, it = socket(AF_INET, SOCK_STREAM, 0);
+    if (it < 0 || connect(it, (struct sockaddr *)&place, sizeof place) || setsockopt(it, IPPROTO_TCP, TCP_NODELAY, &one, sizeof one))
+        stop("connect");
+    return it;
+}
+
+/* Puts the next message of a stream, or takes it. */
+static void ask(size_t at) {
+    struct connection *it = &connections[at];
+    struct door *door = &doors[at % 2];
+    size_t stream = at / 2 + 1;
+    char text[1024];
+    int length;
+    it->messages++;
+    if (at % 2)
+        length = sprintf(text, "POST /v1/streams/%zu/take?life=%s&by=bench&number=%ld&wait=30 HTTP/1.1\r\nHost: 127.0.0.1:%s\r\nContent-Length: 0\r\n\r\n",
+                         stream, door->life, it->messages, door->port);
+    else
+        length = sprintf(text,
+                         "PUT /v1/streams/%zu/messages/%ld?life=%s&by=bench HTTP/1.1\r\nHost: 127.0.0.1:%s\r\nContent-Length: 8\r\n\r\n%08ld"
+                         "GET /v1/streams/%zu?wait=30 HTTP/1.1\r\nHost: 127.0.0.1:%s\r\n\r\n",
+                         stream, it->messages, door->life, door->port, it->messages, stream, door->port);
+    if (!(at % 2))
+        began[stream] = now();
+    hand(it->socket, text, length);
+}
+
+/* How long the first answer that has come is, if it is there whole. */
+static size_t length_of_answer(struct connection *it) {
+    char *end = strstr(it->answer, "\r\n\r\n"), *length = strcasestr(it->answer, "\r\ncontent-length:");
+    if (!end || !length || length > end)
+        return 0;
+    size_t whole = end + 4 - it->answer + strtoul(length + 17, NULL, 10);
+    return it->filled >= whole ? whole : 0;
+}
+
+static void hear(size_t at) {
+    struct connection *it = &connections[at];
+    ssize_t more = recv(it->socket, it->answer + it->filled, ROOM - 1 - it->filled, 0);
+    size_t length;
+    if (more <= 0)
+        stop("a door closed");
+    it->answer[it->filled += more] = 0;
+    while ((length = length_of_answer(it))) {
+        int status = atoi(it->answer + 9);
+        if (status != 200 && status != 201)
+            stop("a call was refused");
+        char *yes = strstr(it->answer, "\"last\":\"yes\"");
+        int is_over = at % 2 || (yes && yes < it->answer + length);
+        memmove(it->answer, it->answer + length, it->filled - length + 1);
+        it->filled -= length;
+        if (is_over && !(at % 2))
+            has_answer(at / 2 + 1);
+        if (is_over)
+            ask(at);
+    }
+}
+
+static void by_doors(void) {
+    for (size_t at = 0; at < 2 * streams; at++) {
+        connections[at].socket = connected(atoi(doors[at % 2].port));
+        looked_at[at] = (struct pollfd){connections[at].socket, POLLIN, 0};
+    }
+    /* Takes first: a message is waited for. */
+    for (size_t at = 2 * streams; at-- > 0;)
+        ask(at);
+    while (done < count) {
+        if (poll(looked_at, 2 * streams, LONGEST_WAIT) < 1)
+            stop("an answer does not come");
+        for (size_t at = 0; at < 2 * streams; at++)
+            if (looked_at[at].revents)
+                hear(at);
+    }
+}
+
+int main(int words, char **word) {
+    int is_lines = words > 4 && !strcmp(word[1], "lines"), is_doors = words == 8 && !strcmp(word[1], "doors");
+    streams = words > 3 ? strtoul(word[2], NULL, 10) : 0;
+    count = words > 3 ? strtoul(word[3], NULL, 10) : 0;
+    if (!(is_lines || is_doors) || streams < 1 || streams > MOST_STREAMS || !(times = malloc((count + 1) * sizeof *times)))
+        return fputs("usage: yes lines STREAMS COUNT COMMAND.. | yes doors STREAMS COUNT PORT LIFE PORT LIFE\n", stderr), 2;
+    signal(SIGPIPE, SIG_IGN);
+    for (int at = 0; is_doors && at < 2; at++)
+        doors[at] = (struct door){word[4 + 2 * at], word[5 + 2 * at]};
+    if (is_doors)
+        by_doors();
+    else
+        by_lines(word + 4);
+    qsort(times, done, sizeof *times, by_length);
+    for (size_t at = 0; at < done; at++)
+        printf("%ld\n", times[at]);
+    return 0;
+}
