@@ -77,7 +77,7 @@ calls_puts number (e ∷ past) = more (number == e.stream) (calls_puts number pa
         omega (arith, both, before, one)
     more false before = omega (arith, before)
 
-puts_append : (number : ℕ) (xs ys : List Event) → puts_in number (xs ++ ys) ≡ puts_in number xs + puts_in number ys
+pub puts_append : (number : ℕ) (xs ys : List Event) → puts_in number (xs ++ ys) ≡ puts_in number xs + puts_in number ys
 puts_append number [] ys = omega arith
 puts_append number (e ∷ xs) ys = let rest = puts_append number xs ys in omega (arith, rest)
 

@@ -3,3 +3,5 @@ pub mod PutLines
 pub mod SoFar
 pub mod Journals
 pub mod LineByLine
+pub mod GoingOn
+pub mod Pairs

@@ -1,5 +1,5 @@
 -- The lines of a journal, told of one by one. Those that put nothing are not read.
-use Rattle.std.proofs.Common.{◌≡◌, ◌∙◌, ℕ, ◌+◌, ◌≤◌, ◌<◌, ◌⊎◌, Bool, true, false, Option, None, Some, List, [], ◌∷◌, ◌++◌, length, length-append, take, refl, sym, ap, subst, arith, append_assoc, inl, inr, codes}
+use Rattle.std.proofs.Common.{◌≡◌, ◌∙◌, ℕ, ◌+◌, ◌≤◌, ◌<◌, ◌⊎◌, true, false, Option, None, Some, List, [], ◌∷◌, ◌++◌, length, length-append, take, refl, sym, ap, subst, arith, append_assoc, inl, inr, codes}
 use Rattle.std.specs.Prelude.{◌==◌}
 use Rattle.std.specs.Fmt.{decimal}
 use Rattle.std.specs.List.{flat_map}
@@ -18,13 +18,11 @@ use Rattle.amo_world.specs.declared.event.Event.{Event}
 use Rattle.amo_journal.specs.declared.numbered.Numbered.{Numbered}
 use Rattle.amo_journal.specs.declared.version.Version.{Version}
 use Rattle.amo_journal.specs.Journal.{AreEvents, SpellsLines, act_fields, fields_of, line_text, numbered}
-use Rattle.amo_journal.specs.Version.{lines_before}
 use Rattle.amo_journal.proofs.Fields.{IsLine-fields_of}
 use Rattle.amo_journal.proofs.Unambiguous.{same_text}
 use Rattle.amo_telling.specs.declared.listing.Listing.{Listing}
 use Rattle.amo_telling.specs.Outcomes.{Manner, is_put}
 use Rattle.amo_telling.specs.Told.{HasTold, IsLineOf, StandsBehind, end_of, front_of, told_text}
-use Rattle.amo_telling.proofs.PutLines.{nothing_told}
 
 -- the line of an event
 abbrev line_at : ℕ → Event → Numbered

@@ -6,7 +6,9 @@ use Rattle.amo_core.specs.declared.act.Act.TheVariants as act
 use Rattle.amo_core.specs.declared.reply.Reply.{Reply}
 use Rattle.amo_core.specs.declared.reply.Reply.TheVariants as reply
 use Rattle.amo_world.specs.declared.event.Event.{Event}
-use Rattle.amo_outcomes.specs.declared.outcome.Outcome.TheVariants.{Gone, Open}
+use Rattle.amo_outcomes.specs.declared.outcome.Outcome.{Outcome}
+use Rattle.amo_outcomes.specs.declared.outcome.Outcome.TheVariants.{Got, Gone, Open}
+use Rattle.amo_outcomes.specs.declared.sender_outcome.SenderOutcome.{SenderOutcome}
 use Rattle.amo_outcomes.specs.declared.sender_outcome.SenderOutcome.TheVariants as told
 use Rattle.amo_outcomes.specs.Outcome.{HasOutcome}
 use Rattle.amo_outcomes.specs.SenderOutcome.{HasSenderOutcome}
@@ -14,6 +16,7 @@ use Rattle.amo_journal.specs.declared.lines.Lines.{Lines}
 use Rattle.amo_journal.specs.Lines.{Tell}
 use Rattle.amo_audit.specs.Audit.{AreOf, IsSound}
 use Rattle.amo_audit.specs.declared.reach.Reach.{Reach}
+use Rattle.amo_audit.specs.declared.reach.Reach.TheVariants.{First, Second}
 use Rattle.amo_audit.specs.Judgement.{AreApart, judgement_status}
 use Rattle.amo_audit.specs.Outcomes.{FindsBoth, GoesOnSoundly}
 use Rattle.amo_audit.specs.Reach.{AreBeginnings, Reaches, counted}
@@ -86,6 +89,30 @@ abbrev pub IsKnown : List Event → ℕ → ℕ → PutOutcome → Type 0
 IsKnown history stream put (ByBoth outcome) = HasOutcome stream history put outcome
 IsKnown history stream put _ = ⊥
 
+-- what is told where the other side lacks lines, by a history of both sides as far as they merge and by all of the sender's own events: what an
+-- ack says was got, was got; and of what was sent, the lines that are lacking may tell that it was got, so it is not gone
+abbrev pub told_further : Outcome → SenderOutcome → PutOutcome
+told_further Got alone = ByBoth Got
+told_further outcome told.Got = BySender told.Got
+told_further Gone (told.Unknown settled) = InDoubt
+told_further outcome alone = ByBoth outcome
+
+-- what is told of a put there, which became this of in such a history, by the sender's own history
+abbrev pub IsToldFurther : List Event → ℕ → ℕ → Outcome → PutOutcome → Type 0
+IsToldFurther own stream put outcome known = (alone : SenderOutcome) × HasSenderOutcome stream own put alone × (known ≡ told_further outcome alone)
+
+abbrev pub IsKnownFurther : List Event → List Event → ℕ → ℕ → PutOutcome → Type 0
+IsKnownFurther history own stream put known = (outcome : Outcome) × HasOutcome stream history put outcome × IsToldFurther own stream put outcome known
+
+-- what is known of the puts of each of two journals, where this is how far they merge, and these are its events: of one that goes on, more
+abbrev pub IsKnownOfFirst : Reach → List Event → List Event → ℕ → ℕ → PutOutcome → Type 0
+IsKnownOfFirst (First at) history events = IsKnownFurther history (reverse events)
+IsKnownOfFirst _ history events = IsKnown history
+
+abbrev pub IsKnownOfSecond : Reach → List Event → List Event → ℕ → ℕ → PutOutcome → Type 0
+IsKnownOfSecond (Second at) history events = IsKnownFurther history (reverse events)
+IsKnownOfSecond _ history events = IsKnown history
+
 -- what a sender's own events tell of it
 abbrev pub IsKnownAlone : List Event → ℕ → ℕ → PutOutcome → Type 0
 IsKnownAlone history stream put (BySender outcome) = HasSenderOutcome stream history put outcome
@@ -125,7 +152,8 @@ pub record IsTelling (reach : Reach) (choice : Choice) (first second : List ℕ)
   pub sound : IsSound (reverse merged)
   pub of_first : List ℕ
   pub of_second : List ℕ
-  pub puts : Tells (IsKnown (reverse merged)) (by choice doubts) [] our_front of_first × Tells (IsKnown (reverse merged)) (by choice doubts') [] their_front of_second
+  pub puts : Tells (IsKnownOfFirst found (reverse merged) x) (by choice doubts) [] our_front of_first
+      × Tells (IsKnownOfSecond found (reverse merged) y) (by choice doubts') [] their_front of_second
   pub is : text ≡ of_first ++ of_second
 
 -- what is written where this is told

@@ -6,17 +6,22 @@ use Rattle.amo_core.specs.declared.act.Act.TheVariants as act
 use Rattle.amo_core.specs.declared.reply.Reply.{Reply}
 use Rattle.amo_core.specs.declared.reply.Reply.TheVariants as reply
 use Rattle.amo_world.specs.declared.event.Event.{Event}
+use Rattle.amo_world.specs.History.{IsRight}
+use Rattle.amo_outcomes.specs.declared.outcome.Outcome.{Outcome}
+use Rattle.amo_outcomes.specs.Puts.{puts_after}
+use Rattle.amo_journal.specs.declared.lines.Lines.{Lines}
 use Rattle.amo_journal.specs.declared.version.Version.{Version}
 use Rattle.amo_journal.specs.Journal.{InRange, fields_of}
+use Rattle.amo_journal.specs.Lines.{Tell}
 use Rattle.amo_journal.specs.Version.{lines_before}
 use Rattle.amo_text.specs.Line.{Lacks, text_of}
 use Rattle.amo_audit.specs.declared.reach.Reach.{Reach}
 use Rattle.amo_audit.specs.declared.reach.Reach.TheVariants.{First, Second}
 use Rattle.amo_telling.specs.declared.listing.Listing.{Listing}
-use Rattle.amo_telling.specs.declared.listing.Listing.TheVariants.{OfBoth, OfSender}
+use Rattle.amo_telling.specs.declared.listing.Listing.TheVariants.{OfBoth, OfSender, Known}
 use Rattle.amo_telling.specs.declared.put_outcome.PutOutcome.{PutOutcome}
 use Rattle.amo_telling.specs.declared.put_outcome.PutOutcome.TheVariants.{ByBoth, BySender}
-use Rattle.amo_telling.specs.Outcomes.{Manner, line_if, puts_in}
+use Rattle.amo_telling.specs.Outcomes.{IsToldFurther, Manner, line_if, puts_in}
 
 -- what is listed of a put of a stream, if it is
 abbrev pub in_list : {A : Type 0} → Option (List A) → ℕ → Option A
@@ -27,6 +32,7 @@ in_list (Some told) put = slice_get told put
 abbrev pub at_place : Listing → ℕ → ℕ → Option PutOutcome
 at_place (OfBoth all) place put = option_map ByBoth (in_list (slice_get (map (λ told. told.items) all.now) place) put)
 at_place (OfSender all) place put = option_map BySender (in_list (slice_get (map (λ told. told.items) all.now) place) put)
+at_place (Known all) place put = in_list (slice_get (map (λ told. told.items) all.now) place) put
 
 -- the line of a put, if something is told of it
 abbrev pub listed_line : Manner → ℕ → ℕ → List ℕ → Option PutOutcome → List ℕ
@@ -83,3 +89,26 @@ first_ends _ = None
 abbrev pub second_ends : Reach → Option ℕ
 second_ends (Second line) = Some line
 second_ends _ = None
+
+-- by the sender's own history, this is told of the first so many puts of a stream, which became this of by both sides
+pub record AreToldFurther (own : List Event) (stream : ℕ) (outcomes : List Outcome) (many : ℕ) (told : List PutOutcome) : Type 0 where
+  pub count : length told ≡ many
+  pub each : (put : ℕ) (known : PutOutcome) → slice_get told put ≡ Some known
+      → (outcome : Outcome) × (slice_get outcomes put ≡ Some outcome) × (put < (puts_after stream own).count → IsToldFurther own stream put outcome known)
+
+-- and of all those of the first so many streams, that of stream 1 first
+pub record StreamsToldFurther (own : List Event) (all : List (List Outcome)) (many : ℕ) (listed : List (List PutOutcome)) : Type 0 where
+  pub count : length listed ≡ many
+  pub each : (place : ℕ) (told : List PutOutcome) → slice_get listed place ≡ Some told
+      → (outcomes : List Outcome) × (slice_get all place ≡ Some outcomes) × AreToldFurther own (place + 1) outcomes (length outcomes) told
+
+-- what is listed of the puts of a journal of these events: of one that goes on behind the line where what was judged ends, more
+abbrev pub Lists : Option ℕ → List (List Outcome) → List Event → Listing → Type 0
+Lists None all events (OfBoth listed) = map (λ told. told.items) listed.now ≡ all
+Lists (Some line) all events (Known listed) = IsRight (reverse events) → StreamsToldFurther (reverse events) all 256 (map (λ told. told.items) listed.now)
+Lists _ all events _ = ⊥
+
+-- the text tells of the puts of a journal as they are listed, to that line
+abbrev pub TellsOne : Option ℕ → Manner → List (List Outcome) → Lines → List ℕ → Type 0
+TellsOne ends manner all lines text = (events : List Event) × (listing : Listing) × Tell events lines × Lists ends all events listing
+    × (text ≡ told_text manner listing [] (front_of ends lines.version events))

@@ -9,6 +9,7 @@
 //! - [`tell_got`] writes, of a receiver's journal, a line for each message that a get answered, as far as it reads; [`Reading`] is how far
 //!   that was. [`Gets`] tells the same of a journal that grows, part by part.
 //!
+//! Where one of two journals goes on, the other may be a copy that lacks lines, and no put is told to be gone that may have been got there.
 //! What a loss of power may have changed is told of no put: of journals of which [`Asked`] names doubtful lines, what would be gone there is unknown.
 //!
 //! The number is that of the line in its journal, as it stands there in front. So it stays the same while a journal goes on, and an
@@ -22,6 +23,7 @@
 mod alone;
 mod asked;
 mod choice;
+mod further;
 mod gets;
 mod got;
 mod listing;

@@ -10,6 +10,8 @@ use amo_outcomes::{Outcome, SenderOutcome};
 pub(crate) enum Listing<'a> {
     OfBoth(&'a [Vec<Outcome>]),
     OfSender(&'a [Vec<SenderOutcome>]),
+    /// By both, and by the sender's where it goes on.
+    Known(&'a [Vec<PutOutcome>]),
 }
 
 impl Listing<'_> {
@@ -26,6 +28,7 @@ impl Listing<'_> {
                 let outcome = listed(all, place, put)?;
                 Some(PutOutcome::BySender(outcome))
             }
+            Listing::Known(all) => listed(all, place, put),
         }
     }
 }

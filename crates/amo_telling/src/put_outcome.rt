@@ -11,12 +11,25 @@ use amo_outcomes::{Outcome, SenderOutcome};
 pub(crate) enum PutOutcome {
     ByBoth(Outcome),
     BySender(SenderOutcome),
-    /// It was not got by the journals of both sides, but a loss of power may have taken lines of theirs.
+    /// It was not got by the journals of both sides, but they lack lines, or a loss of power may have taken some.
     InDoubt,
 }
 
 impl PutOutcome {
-    ghost use Rattle.amo_telling.specs.Outcomes.{as_told, doubted};
+    ghost use Rattle.amo_telling.specs.Outcomes.{as_told, doubted, told_further};
+
+    /// What is told of a put where the other side lacks lines, by both sides as far as they merge and by its sender alone: what an ack says was
+    /// got, was got; and of what was sent, the lines that are lacking may tell so.
+    pub(crate) fn further(outcome: Outcome, alone: SenderOutcome) -> PutOutcome
+        ensures { result ≡ told_further outcome alone }
+    {
+        match (outcome, alone) {
+            (Outcome::Got, _) => PutOutcome::ByBoth(Outcome::Got),
+            (_, SenderOutcome::Got) => PutOutcome::BySender(SenderOutcome::Got),
+            (Outcome::Gone, SenderOutcome::Unknown { settled: _ }) => PutOutcome::InDoubt,
+            _ => PutOutcome::ByBoth(outcome),
+        }
+    }
 
     /// What is told of a put on a doubtful line: what a loss of power may have changed is not known.
     fn doubted(self) -> PutOutcome

@@ -1,4 +1,4 @@
-use Rattle.std.proofs.Common.{◌∷◌, ◌++◌, [], List, subst}
+use Rattle.std.proofs.Common.{◌∷◌, ◌++◌, [], subst}
 use Rattle.std.proofs.lemmas.Result.{on_ok_weaker}
 use Rattle.amo_world.specs.declared.event.Event.{Event}
 use Rattle.amo_telling.specs.Outcomes.{by}
