@@ -1,5 +1,5 @@
 -- How far a receiver's journal was read.
-use Rattle.std.proofs.Common.{◌≡◌, ◌∙◌, ℕ, ◌+◌, Bool, true, false, Option, List, [], ◌∷◌, ◌++◌, length, length-append, refl, sym, ap, arith, append_assoc, subst, eqb, inl, inr, ◌⊎◌, ◌≤◌}
+use Rattle.std.proofs.Common.{◌≡◌, ◌∙◌, ℕ, ◌+◌, Bool, true, false, Option, List, [], ◌∷◌, ◌++◌, length, length-append, refl, sym, ap, arith, append_assoc, subst, eqb, inl, inr, ◌⊎◌}
 use Rattle.std.specs.Prelude.{◌==◌, ◌||◌, if◌then◌else◌}
 use Rattle.std.proofs.lemmas.Bool.Decides.{eqb_tells}
 use Rattle.std.specs.List.{flat_map}
@@ -12,14 +12,12 @@ use Rattle.amo_journal.specs.declared.numbered.Numbered.{Numbered}
 use Rattle.amo_journal.specs.declared.version.Version.{Version}
 use Rattle.amo_journal.specs.Journal.{InRange, fields_of, line_text, numbered}
 use Rattle.amo_journal.proofs.Fields.{IsLine-fields_of}
-use Rattle.amo_journal.proofs.Gaps.{length-numbered}
 use Rattle.amo_text.proofs.Readings.{IsReadTo}
 use Rattle.amo_text.proofs.Readings as readings
 use Rattle.amo_telling.specs.declared.gets.Gets.{Gets}
 use Rattle.amo_telling.specs.declared.reading.Reading.{Reading}
 use Rattle.amo_telling.specs.declared.reading.Reading.TheVariants.{Whole, Malformed, Gap, OfSender, TooLong}
-use Rattle.amo_journal.proofs.Further.{lines_within}
-use Rattle.amo_telling.specs.Got.{line_named, IsGotLines, Stops, event_line, got_text, has_receivers, is_receivers, whole_of}
+use Rattle.amo_telling.specs.Got.{Stops, event_line, got_text, has_receivers, is_receivers, whole_of}
 use Rattle.amo_telling.specs.Gets.{AreGotFurther, HaveRead, if_receives}
 
 -- one event more
@@ -127,19 +125,6 @@ module _ (after : Option ℕ) (json : Bool) (past : List Event) (lines : Lines) 
       },
     )
 
--- of a journal of which nothing was read
-pub from_the_first : (after : Option ℕ) (json : Bool) (lines : Lines) (rest : List ℕ) (reading : Reading) (events : List Event) (more text : List ℕ) → AreGotFurther after json [] lines rest reading events more → text ≡ more
-    → IsGotLines after json lines reading text
-from_the_first after json lines rest reading events more text got is = record {
-  events = events;
-  front = got.front;
-  rest = rest;
-  whole = got.whole;
-  read = got.read;
-  stops = got.stops;
-  written = is ∙ got.written;
-}
-
 -- it stops at the end, or in a line without its end
 pub at_end : (after : Option ℕ) (json : Bool) (version : Version) (gets : Gets) (rest : List ℕ) (reading : Reading) → Lacks 10 rest → reading ≡ if_receives gets.receives gets.lines
     → (events : List Event) → HaveRead after json gets events → Stops version events rest reading
@@ -179,21 +164,3 @@ at_end after json version gets rest reading lacks is events have =
     by_kind (Malformed at) is_kind = absurd (not_malformed events at is_kind)
     by_kind (Gap at) is_kind = absurd (not_gap events at is_kind)
     by_kind TooLong is_kind = absurd (not_long events is_kind)
-
--- the line that is named is not far behind the text
-pub named_within : (after : Option ℕ) (json : Bool) (lines : Lines) (reading : Reading) (text : List ℕ) → IsGotLines after json lines reading text → line_named reading ≤ length lines.text.now + 1
-named_within after json lines reading text got = by_reading reading got.stops
-  where
-    few : length got.events ≤ length lines.text.now
-    few =
-        let within = lines_within lines.version got.front (numbered 0 got.events) got.read in
-        let long = length-numbered 0 got.events in
-        let both = ap length got.whole ∙ length-append got.front got.rest in
-        omega (arith, within, long, both)
-
-    by_reading : (r : Reading) → Stops lines.version got.events got.rest r → line_named r ≤ length lines.text.now + 1
-    by_reading Whole stops = omega arith
-    by_reading OfSender stops = omega arith
-    by_reading (Malformed at) stops = omega (arith, few, stops.2)
-    by_reading (Gap at) stops = omega (arith, few, stops.5)
-    by_reading TooLong stops = omega arith

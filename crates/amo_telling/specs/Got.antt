@@ -9,11 +9,9 @@ use Rattle.amo_core.specs.declared.reply.Reply.{Reply}
 use Rattle.amo_core.specs.declared.reply.Reply.TheVariants as reply
 use Rattle.amo_text.specs.Line.{Lacks}
 use Rattle.amo_world.specs.declared.event.Event.{Event}
-use Rattle.amo_journal.specs.declared.lines.Lines.{Lines}
 use Rattle.amo_journal.specs.declared.numbered.Numbered.{Numbered}
 use Rattle.amo_journal.specs.declared.version.Version.{Version}
-use Rattle.amo_journal.specs.Journal.{InRange, SpellsLines, line_text, numbered}
-use Rattle.amo_journal.specs.Version.{lines_before, Opens}
+use Rattle.amo_journal.specs.Journal.{InRange, line_text}
 use Rattle.amo_telling.specs.declared.reading.Reading.{Reading}
 use Rattle.amo_telling.specs.declared.reading.Reading.TheVariants.{Whole, Malformed, Gap, OfSender, TooLong}
 use Rattle.amo_telling.specs.Shown.{got_line}
@@ -57,33 +55,3 @@ Stops version events rest OfSender = Lacks 10 rest × (whole_of events ≡ OfSen
 Stops version events rest (Malformed at) = (¬ (Lacks 10 rest)) × ((line : Numbered) (more : List ℕ) → InRange version line → rest ≢ line_text line ++ more) × (at ≡ length events + 1)
 Stops version events rest (Gap at) = (line : Numbered) × (more : List ℕ) × InRange version line × (rest ≡ line_text line ++ more) × (line.number ≢ length events) × (at ≡ length events + 1)
 Stops version events rest TooLong = 2 ^ 64 ≤ length events + 3
-
--- the lines begin with those of these events, numbered from 0, and are read no further; and this is written of them
-pub record IsGotLines (after : Option ℕ) (json : Bool) (lines : Lines) (reading : Reading) (text : List ℕ) : Type 0 where
-  pub events : List Event
-  pub front : List ℕ
-  pub rest : List ℕ
-  pub whole : lines.text.now ≡ front ++ rest
-  pub read : SpellsLines lines.version front (numbered 0 events)
-  pub stops : Stops lines.version events rest reading
-  pub written : text ≡ got_text after json 0 events
-
--- the line that is named, or 0
-abbrev pub line_named : Reading → ℕ
-line_named (Malformed at) = at
-line_named (Gap at) = at
-line_named _ = 0
-
--- the same, so many lines further on
-abbrev pub further : ℕ → Reading → Reading
-further more (Malformed at) = Malformed (at + more)
-further more (Gap at) = Gap (at + more)
-further more reading = reading
-
--- the same of a file, where the line that is named is counted from the file's first
-pub record IsGot (after : Option ℕ) (json : Bool) (bytes : List ℕ) (reading : Reading) (text : List ℕ) : Type 0 where
-  pub lines : Lines
-  pub opens : Opens lines.version lines.text.now bytes
-  pub found : Reading
-  pub got : IsGotLines after json lines found text
-  pub is : reading ≡ further (lines_before lines.version) found

@@ -6,8 +6,8 @@
 //!   beginnings reach, or what is found of journals of which nothing is told.
 //! - [`tell_outcomes_of_sender`] writes the same of a sender's journal alone, as far as that tells it: what was sent and not acknowledged is
 //!   unknown, and settled where it is final all the same.
-//! - [`tell_got`] writes, of a receiver's journal, a line for each message that a get answered, as far as it reads; [`Reading`] is how far
-//!   that was. [`Gets`] tells the same of a journal that grows, part by part.
+//! - [`Gets`] reads a receiver's journal part by part, whole or as it grows, and writes a line for each message that a get answered, as far as
+//!   it reads; [`Reading`] is how far that was.
 //!
 //! Where one of two journals goes on, the other may be a copy that lacks lines, and no put is told to be gone that may have been got there.
 //! What a loss of power may have changed is told of no put: of journals of which [`Asked`] names doubtful lines, what would be gone there is unknown.
@@ -15,7 +15,7 @@
 //! The number is that of the line in its journal, as it stands there in front. So it stays the same while a journal goes on, and an
 //! application may keep it beside its own work. A message is spelt as `amo receive` shows it, or as a member of a JSON object.
 //!
-//! A text is made whole, and then written. Of two journals no events lie in memory, of one alone all of them.
+//! What became of puts is made a text, which is then written. Of two journals no events lie in memory, of one alone all of them.
 //!
 //! Lines are defined in `specs/Shown.antt`, what is told of puts in `specs/Outcomes.antt` and `specs/Alone.antt`, and of gets in `specs/Got.antt`.
 #![tactic(auto)]
@@ -25,7 +25,6 @@ mod asked;
 mod choice;
 mod further;
 mod gets;
-mod got;
 mod listing;
 mod outcomes;
 mod put_outcome;
@@ -39,7 +38,6 @@ pub use alone::tell_outcomes_of_sender;
 pub use asked::Asked;
 pub use choice::Choice;
 pub use gets::Gets;
-pub use got::tell_got;
 pub use outcomes::tell_outcomes;
 pub use reading::Reading;
 pub use telling::Telling;

@@ -14,20 +14,3 @@ pub enum Reading {
     /// As far as lines are counted, and more are left.
     TooLong,
 }
-
-impl Reading {
-    ghost use Rattle.std.specs.Prelude.{◌≡◌, ◌+◌, ◌<◌, ◌^◌};
-    ghost use Rattle.amo_telling.specs.Got.{further, line_named};
-
-    /// The same, where so many lines more stand in front of the line that it names.
-    pub(crate) fn further(self, lines: usize) -> Reading
-        requires { line_named self + lines < 2 ^ 64 }
-        ensures { result ≡ further lines self }
-    {
-        match self {
-            Reading::Malformed(line) => Reading::Malformed(line + lines),
-            Reading::Gap(line) => Reading::Gap(line + lines),
-            other => other,
-        }
-    }
-}

@@ -3,7 +3,7 @@
 //! and audits and explains journals, and tells by them what became of messages.
 //!
 //! `amo_arguments` reads the program's arguments, and answers as `amo_settings` what they choose. `replaying`, `running`, `live`,
-//! `serving`, `calling`, `judging`, `telling` and `following` do it, `pieces` reads the journals that are judged, and `followed` one that grows;
+//! `serving`, `calling`, `judging`, `telling`, `got` and `following` do it, `pieces` reads the journals that are judged, and `followed` one that grows;
 //! `progress` shows how far a run is, `failure` is why they cannot, and `watched` keeps why a write failed.
 #![tactic(auto)]
 
@@ -15,6 +15,7 @@ mod doubts;
 mod failure;
 mod followed;
 mod following;
+mod got;
 mod judging;
 mod live;
 mod pieces;

@@ -11,48 +11,41 @@ use thiserror::Error;
 /// How many bytes of names a directory is asked for at once. A name has 255 at most.
 const NAMES: usize = 4096;
 
-/// A journal that was read.
+/// The files of a journal.
 #[derive(Drop)]
-pub(crate) struct Journal {
-    pieces: Pieces,
+pub(crate) struct Names {
     /// Its name, or that of the last piece that it lists.
     name: String,
-    /// The names of the files of its pieces.
-    names: Vec<String>,
+    /// The names of its pieces, in their order.
+    pieces: Vec<String>,
     /// The name of the first piece that is missing between the others.
     missing: Option<String>,
 }
 
-impl Journal {
-    /// Reads the journal of this name: where commas stand in it, and neither a file nor a numbered piece has it, the pieces that it lists; else
-    /// the file of this name and the numbered pieces before it.
-    pub(crate) fn read<R: AllocGlobal + Files>(rt: &R, name: &str) -> Result<Journal, Failure> {
+impl Names {
+    /// Finds the files of the journal of this name: where commas stand in it, and neither a file nor a numbered piece has it, the pieces that it
+    /// lists; else the numbered pieces of this name, and the file of the name itself.
+    pub(crate) fn find<R: AllocGlobal + Files>(rt: &R, name: &str) -> Result<Names, Failure> {
         let numbers = numbers_of(rt, name)?;
         let is_list = name.contains(',') && numbers.is_empty() && !is_there(rt, name);
         let last = if is_list { last_of(name) } else { name };
-        let mut journal = Journal {
-            pieces: Pieces::new(rt.alloc()),
+        let mut names = Names {
             name: String::from_str(rt.alloc(), last)?,
-            names: Vec::new(rt.alloc()),
+            pieces: Vec::new(rt.alloc()),
             missing: None,
         };
         if is_list {
-            journal.add_listed(rt, name)?;
+            names.add_listed(rt.alloc(), name)?;
         } else {
-            journal.add_numbered(rt, name, numbers.as_slice())?;
+            names.add_numbered(rt, name, numbers.as_slice())?;
         }
-        Ok(journal)
+        Ok(names)
     }
 
-    /// Its text, as of one file.
-    pub(crate) fn text(&self) -> &[u8] {
-        self.pieces.text()
-    }
-
-    /// Adds the files of a list, with commas between their names. A comma at its end ends the last name.
-    fn add_listed<R: AllocGlobal + Files>(&mut self, rt: &R, list: &str) -> Result<(), Failure> {
+    /// Adds those of a list, with commas between them. A comma at its end ends the last name.
+    fn add_listed(&mut self, alloc: Global, list: &str) -> Result<(), AllocError> {
         for name in without_end(list).split(',') {
-            self.add(rt, String::from_str(rt.alloc(), name)?)?;
+            self.pieces.push(String::from_str(alloc, name)?)?;
         }
         Ok(())
     }
@@ -64,53 +57,28 @@ impl Journal {
         rt: &R,
         name: &str,
         numbers: &[u64],
-    ) -> Result<(), Failure> {
+    ) -> Result<(), AllocError> {
         for place in 0..numbers.len() {
-            self.add(rt, piece_name(rt.alloc(), name, numbers[place])?)?;
+            self.pieces
+                .push(piece_name(rt.alloc(), name, numbers[place])?)?;
         }
         if let Some(number) = first_missing(numbers) {
             self.missing = Some(piece_name(rt.alloc(), name, number)?);
         }
         if numbers.is_empty() || is_there(rt, name) {
-            self.add(rt, String::from_str(rt.alloc(), name)?)?;
+            self.pieces.push(String::from_str(rt.alloc(), name)?)?;
         }
         Ok(())
     }
 
-    /// Adds the piece in the file of this name.
-    fn add<R: AllocGlobal + Files>(&mut self, rt: &R, name: String) -> Result<(), Failure> {
-        if let Err(error) = self.add_file(rt, name.as_str()) {
-            return Err(Failure::of_file(rt.alloc(), name.as_str(), error));
-        }
-        match self.names.push(name) {
-            Ok(()) => Ok(()),
-            Err(_) => Err(Failure::NoMemory),
-        }
-    }
-
-    fn add_file<R: Files>(&mut self, rt: &R, name: &str) -> io::Result<()> {
-        let mut file = fs::open(rt, name)?;
-        self.pieces.add(&mut file)
-    }
-
-    /// The name beside which its file of lives stands: of a list that of the last piece, else its own.
-    pub(crate) fn name_of_lives(&self) -> &str {
-        self.name.as_str()
+    /// The names of its pieces, in their order.
+    pub(crate) fn pieces(&self) -> &[String] {
+        self.pieces.as_slice()
     }
 
     /// Whether it is in more files than one.
-    pub(crate) fn is_in_pieces(&self) -> bool {
-        self.names.len() > 1
-    }
-
-    /// Tells on standard error in which piece this line of its text stands, if it is a line, and which line of the piece that is.
-    pub(crate) fn tell_place<R: Eprint>(&self, rt: &R, line: usize) {
-        let Some(place) = self.pieces.place(line) else {
-            return;
-        };
-        if let Some(name) = self.names.as_slice().get(place.piece) {
-            let _ = rt.eprintln(Told::Line(name.as_str(), place.line));
-        }
+    pub(crate) fn are_several(&self) -> bool {
+        self.pieces.len() > 1
     }
 
     /// Tells on standard error which piece is missing between the others, if one is.
@@ -119,6 +87,68 @@ impl Journal {
             let _ = rt.eprintln(Told::Missing(name.as_str()));
         }
     }
+}
+
+/// A journal that was read.
+#[derive(Drop)]
+pub(crate) struct Journal {
+    names: Names,
+    pieces: Pieces,
+}
+
+impl Journal {
+    /// Reads the journal of this name.
+    pub(crate) fn read<R: AllocGlobal + Files>(rt: &R, name: &str) -> Result<Journal, Failure> {
+        let names = Names::find(rt, name)?;
+        let mut pieces = Pieces::new(rt.alloc());
+        for piece in names.pieces() {
+            if let Err(error) = add_file(rt, &mut pieces, piece.as_str()) {
+                return Err(Failure::of_file(rt.alloc(), piece.as_str(), error));
+            }
+        }
+        Ok(Journal { names, pieces })
+    }
+
+    /// Its text, as of one file.
+    pub(crate) fn text(&self) -> &[u8] {
+        self.pieces.text()
+    }
+
+    /// The name beside which its file of lives stands: of a list that of the last piece, else its own.
+    pub(crate) fn name_of_lives(&self) -> &str {
+        self.names.name.as_str()
+    }
+
+    /// Whether it is in more files than one.
+    pub(crate) fn is_in_pieces(&self) -> bool {
+        self.names.are_several()
+    }
+
+    /// Tells on standard error in which piece this line of its text stands, if it is a line, and which line of the piece that is.
+    pub(crate) fn tell_place<R: Eprint>(&self, rt: &R, line: usize) {
+        let Some(place) = self.pieces.place(line) else {
+            return;
+        };
+        if let Some(name) = self.names.pieces().get(place.piece) {
+            tell_line(rt, name.as_str(), place.line);
+        }
+    }
+
+    /// Tells on standard error which piece is missing between the others, if one is.
+    pub(crate) fn tell_missing<R: Eprint>(&self, rt: &R) {
+        self.names.tell_missing(rt);
+    }
+}
+
+/// Adds the piece in the file of this name.
+fn add_file<R: Files>(rt: &R, pieces: &mut Pieces, name: &str) -> io::Result<()> {
+    let mut file = fs::open(rt, name)?;
+    pieces.add(&mut file)
+}
+
+/// Tells on standard error of this line of the file of this name.
+pub(crate) fn tell_line<R: Eprint>(rt: &R, name: &str, line: usize) {
+    let _ = rt.eprintln(Told::Line(name, line));
 }
 
 /// A list of names without the comma at its end.

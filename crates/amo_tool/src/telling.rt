@@ -8,10 +8,8 @@ use crate::pieces::Journal;
 use crate::watched::Watched;
 use amo_audit::{Judgement, Reach, SenderFound, Verdict, audit};
 use amo_lives::Span;
-use amo_settings::{GotSettings, OutcomesSettings};
-use amo_telling::{
-    Asked, Choice, Reading, Telling, tell_got, tell_outcomes, tell_outcomes_of_sender, whole_lines,
-};
+use amo_settings::OutcomesSettings;
+use amo_telling::{Asked, Choice, Telling, tell_outcomes, tell_outcomes_of_sender, whole_lines};
 use amo_text::Out;
 use std::cell::Cell;
 use std::fs::File;
@@ -240,72 +238,9 @@ fn write_outcomes_alone<R: AllocGlobal + Print, L: Ledger>(
     told.map_err(|fault| Failure::of_report(fault, cause.get()))
 }
 
-/// Tells which messages a receiver's journal says were got, and answers the status to end with.
-pub(crate) fn tell_got_of<R: AllocGlobal + Eprint + Files + Print>(
-    rt: &R,
-    settings: &GotSettings,
-) -> Result<u8, Failure> {
-    let journal = Journal::read(rt, settings.file.as_str())?;
-    let reading = write_got::<R, Brand>(rt, &journal, settings, Blank::new(1))?;
-    let status = tell_reading(rt, &journal, settings.file.as_str(), reading);
-    journal.tell_missing(rt);
-    Ok(status)
-}
-
-/// Tells which messages were got, and answers how far the journal reads. What was written has left when it answers.
-fn write_got<R: AllocGlobal + Print, L: Ledger>(
-    rt: &R,
-    journal: &Journal,
-    settings: &GotSettings,
-    blank: Blank,
-) -> Result<Reading, Failure>
-    requires name { blank.name ≡ L.name }
-    requires parts { blank.parts ≡ L.parts }
-    requires some { 0 < L.parts }
-{
-    let cause = Cell::new(None);
-    let watched = Watched::new(io::writer(rt), &cause);
-    let mut out = Out::<Watched<'_, Printer<'_, R>>, L>::new(watched, blank);
-    let told = tell_got(
-        rt.alloc(),
-        journal.text(),
-        settings.after,
-        settings.json,
-        &mut out,
-    );
-    out.into_inner().flush().map_err(Failure::of_output)?;
-    told.map_err(|fault| Failure::of_report(fault, cause.get()))
-}
-
-/// Tells on standard error why a journal was read no further, if it was not, and answers the status to end with.
-fn tell_reading<R: Eprint>(rt: &R, journal: &Journal, file: &str, reading: Reading) -> u8 {
-    let (told, line) = match reading {
-        Reading::Whole => return 0,
-        Reading::Malformed(line) => (Told::Malformed(line), line),
-        Reading::Gap(line) => (Told::Gap(line), line),
-        Reading::OfSender => (Told::OfSender(file), 0),
-        Reading::TooLong => (Told::TooLong(file), 0),
-    };
-    let _ = rt.eprintln(told);
-    tell_piece(rt, journal, line);
-    NO_JOURNAL
-}
-
 /// What is told of a journal on a line of its own.
 #[derive(Debug, Drop, Error)]
 enum Told<'a> {
-    /// This line is none.
-    #[error("malformed at line {0}")]
-    Malformed(usize),
-    /// This line has another number.
-    #[error("gap at line {0}")]
-    Gap(usize),
-    /// Each line of the file of this name is a sender's.
-    #[error("amo: {0}: a sender's journal: a receiver's is needed")]
-    OfSender(&'a str),
-    /// The journal in the file of this name has more lines than are counted.
-    #[error("amo: {0}: it has more lines than are counted")]
-    TooLong(&'a str),
     /// Each line of the file of this name is a receiver's.
     #[error("amo: {0}: a receiver's journal: the sender's is needed; amo got tells what was got")]
     OfReceiver(&'a str),
