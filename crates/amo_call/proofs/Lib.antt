@@ -1,0 +1,5 @@
+pub mod Ends
+pub mod Steps
+pub mod Told
+pub mod Calls
+pub mod Words

@@ -1,13 +1,16 @@
 //! What the answers of a door tell.
-ghost use Rattle.std.specs.Prelude.{◌≡◌, ℕ, ◌++◌, ◌∷◌, List, IfOk, IfSome, IsTrue, OnOk, codes, length, take};
+ghost use Rattle.std.specs.Prelude.{◌≡◌, ◌≢◌, ℕ, ◌<◌, ◌^◌, ◌++◌, ◌∷◌, List, IfNone, IfSome, codes};
 ghost use Rattle.std.specs.Fmt.{decimal};
-ghost use Rattle.amo_door.specs.Answer.{life_member, outcome_body, place_members, stream_members};
-ghost use Rattle.amo_call.specs.Answer.{event_members, last_member, last_name, TellsConflict, TellsPut, TellsState};
+ghost use Rattle.amo_door.specs.Answer.{fate_word, place_members};
+ghost use Rattle.amo_door.specs.declared.answer.Fate.{Fate};
+ghost use Rattle.amo_door.specs.declared.claim.EventPlace.{EventPlace};
+ghost use Rattle.amo_door.specs.Word.{IsWord};
+ghost use Rattle.amo_call.specs.declared.answer.StreamState.{StreamState};
+ghost use Rattle.amo_call.specs.Answer.{IsEventPlace, event_members, last_name, TellsConflict, TellsFate, TellsPut, TellsRefusal, TellsState};
+ghost use Rattle.amo_text.specs.Line.{Lacks};
 
-use crate::scan::{number_in_front, quoted_in_front, word_in_front};
-use amo_door::{Answer, Claim, EventPlace, Fate, Word};
-use amo_text::push_decimal;
-use std::alloc::{AllocError, Global};
+use crate::scan::{behind, behind_number, number_before, quoted_in_front, word_before};
+use amo_door::{Claim, EventPlace, Fate, Word};
 
 /// What a door answers.
 #[derive(Debug, Drop)]
@@ -27,240 +30,168 @@ pub struct StreamState {
     pub last: u64,
 }
 
-/// That nothing happened, as a number is not the next one.
-#[derive(Clone, Copy, Debug, PartialEq, Eq)]
-pub struct Conflict<'a> {
-    /// What people are told of it.
-    pub sentence: &'a [u8],
-    /// The number of the last message that was put or taken on the stream.
-    pub last: u64,
-}
-
-/// What stands in front of the sentence of an answer that tells of a conflict.
-const CONFLICT: &[u8] = b"{\"error\":\"conflict\",\"text\":\"";
-
-/// What became of a message, in the order in which an answer is compared with them.
-const FATES: [Fate; 6] = [
-    Fate::Got,
-    Fate::Gone,
-    Fate::Open,
-    Fate::Unknown,
-    Fate::Settled,
-    Fate::Never,
-];
-
 /// Where the put of the message of a claim stands, where an answer tells that it was put.
-pub fn read_put(
-    alloc: Global,
-    response: &Response,
-    claim: &Claim,
-) -> Result<Option<EventPlace>, AllocError>
-    ensures { IfOk result (λ read. IfSome read (λ place. TellsPut claim.now place response.now)) }
+pub fn read_put(response: &Response, claim: &Claim) -> Option<EventPlace>
+    ensures found { IfSome result (λ place. TellsPut claim.now place response.now) }
+    ensures none { IfNone result ((place : EventPlace) → ¬ (TellsPut claim.now place response.now)) }
 {
     if response.status != 200 && response.status != 201 {
-        return Ok(None);
+        return None;
     }
-    let body = response.body.as_slice();
-    let mut text = Vec::new(alloc);
-    push_place(&mut text, claim)?;
-    let Some(place) = place_behind(body, text.as_slice()) else {
-        return Ok(None);
-    };
-    push_event_place(&mut text, place)?;
-    if text.as_slice() == body {
-        Ok(Some(place))
-    } else {
-        Ok(None)
-    }
+    let rest = behind_place(response.body.as_slice(), claim)?;
+    place_in(rest)
 }
 
-/// Where a put stands, in an answer of which this is what stands in front of it.
-fn place_behind(body: &[u8], front: &[u8]) -> Option<EventPlace> {
-    let rest = body.strip_prefix(front)?.strip_prefix(b",\"position\":")?;
-    let (position, rest) = number_in_front(rest)?;
-    let (line, _rest) = number_in_front(rest.strip_prefix(b",\"line\":")?)?;
+/// Where a put stands, in what is behind the place of its message.
+fn place_in(text: &[u8]) -> Option<EventPlace>
+    ensures found { IfSome result (λ place. IsEventPlace place × (44 ∷ text.now ≡ event_members place)) }
+    ensures none { IfNone result ((place : EventPlace) → IsEventPlace place → 44 ∷ text.now ≢ event_members place) }
+{
+    let digits = behind(text, b"\"position\":")?;
+    let (position, rest) = number_before(digits, b',')?;
+    let line = line_in(rest)?;
     Some(EventPlace { position, line })
 }
 
+/// The number of a line, in what is behind a position.
+fn line_in(text: &[u8]) -> Option<u64>
+    ensures found { IfSome result (λ line. (line < 2 ^ 64) × (text.now ≡ codes "\"line\":" ++ (decimal line ++ codes "}"))) }
+    ensures none { IfNone result ((line : ℕ) → line < 2 ^ 64 → text.now ≢ codes "\"line\":" ++ (decimal line ++ codes "}")) }
+{
+    let digits = behind(text, b"\"line\":")?;
+    let (line, rest) = number_before(digits, b'}')?;
+    if rest.is_empty() { Some(line) } else { None }
+}
+
 /// What became of the message of a claim, where an answer tells it.
-pub fn read_fate(
-    alloc: Global,
-    response: &Response,
-    claim: &Claim,
-) -> Result<Option<Fate>, AllocError>
-    ensures { IfOk result (λ read. IfSome read (λ what. (response.now.status ≡ 200) × (response.now.body.items ≡ outcome_body claim.now.life claim.now.stream claim.now.number what))) }
+pub fn read_fate(response: &Response, claim: &Claim) -> Option<Fate>
+    ensures found { IfSome result (λ what. TellsFate claim.now what response.now) }
+    ensures none { IfNone result ((what : Fate) → ¬ (TellsFate claim.now what response.now)) }
 {
     if response.status != 200 {
-        return Ok(None);
+        return None;
     }
-    for fate in FATES {
-        let told = Answer::outcome(alloc, &claim.life, claim.stream, claim.number, fate)?;
-        if told.body.as_slice() == response.body.as_slice() {
-            return Ok(Some(fate));
-        }
+    let rest = behind_place(response.body.as_slice(), claim)?;
+    fate_in(rest)
+}
+
+/// What became of a message, in what is behind its place.
+fn fate_in(text: &[u8]) -> Option<Fate>
+    ensures found { IfSome result (λ what. text.now ≡ codes "\"outcome\":\"" ++ fate_word what ++ codes "\"}") }
+    ensures none { IfNone result ((what : Fate) → text.now ≢ codes "\"outcome\":\"" ++ fate_word what ++ codes "\"}") }
+{
+    match text {
+        b"\"outcome\":\"got\"}" => Some(Fate::Got),
+        b"\"outcome\":\"gone\"}" => Some(Fate::Gone),
+        b"\"outcome\":\"open\"}" => Some(Fate::Open),
+        b"\"outcome\":\"unknown\"}" => Some(Fate::Unknown),
+        b"\"outcome\":\"settled\"}" => Some(Fate::Settled),
+        b"\"outcome\":\"never\"}" => Some(Fate::Never),
+        _ => None,
     }
-    Ok(None)
 }
 
 /// How a stream is, where an answer tells it: its side puts, or takes.
-pub fn read_state(
-    alloc: Global,
-    response: &Response,
-    stream: u32,
-    puts: bool,
-) -> Result<Option<StreamState>, AllocError>
-    ensures { IfOk result (λ read. IfSome read (λ state. TellsState stream puts state response.now)) }
+pub fn read_state(response: &Response, stream: u32, puts: bool) -> Option<StreamState>
+    ensures found { IfSome result (λ state. TellsState stream puts state response.now) }
+    ensures none { IfNone result ((state : StreamState) → ¬ (TellsState stream puts state response.now)) }
 {
-    let body = response.body.as_slice();
     if response.status != 200 {
-        return Ok(None);
+        return None;
     }
-    let Some(state) = state_behind(body, b"{", puts) else {
-        return Ok(None);
-    };
-    let mut text = Vec::from_slice(alloc, b"{")?;
-    push_stream(&mut text, &state.life, stream)?;
-    push_last(&mut text, puts, state.last)?;
-    if begins(body, text.as_slice()) {
-        Ok(Some(state))
-    } else {
-        Ok(None)
-    }
+    let (life, rest) = life_in_front(response.body.as_slice())?;
+    let last = last_behind(rest, stream, puts)?;
+    Some(StreamState { life, last })
 }
 
-/// That nothing happened, as the last number of the stream of a claim, in its life, is not the one before its own; where an answer tells that.
-pub fn read_conflict<'a>(
-    alloc: Global,
-    response: &'a Response,
-    claim: &Claim,
-    puts: bool,
-) -> Result<Option<Conflict<'a>>, AllocError>
-    ensures { IfOk result (λ read. IfSome read (λ conflict. TellsConflict claim.now puts conflict response.now)) }
+/// The number of the last message that was put, or taken, on the stream of a claim in its life; where an answer tells that nothing happened, as that is not
+/// the one before the claim's.
+pub fn read_conflict(response: &Response, claim: &Claim, puts: bool) -> Option<u64>
+    ensures found { IfSome result (λ last. TellsConflict claim.now puts last response.now) }
+    ensures none { IfNone result ((last : ℕ) → ¬ (TellsConflict claim.now puts last response.now)) }
 {
-    let body = response.body.as_slice();
     if response.status != 409 {
-        return Ok(None);
+        return None;
     }
-    let Some(conflict) = conflict_in(body, puts) else {
-        return Ok(None);
-    };
-    let mut text = Vec::from_slice(alloc, CONFLICT)?;
-    push_sentence(&mut text, conflict.sentence)?;
-    push_stream(&mut text, &claim.life, claim.stream)?;
-    push_last(&mut text, puts, conflict.last)?;
-    if begins(body, text.as_slice()) {
-        Ok(Some(conflict))
-    } else {
-        Ok(None)
-    }
-}
-
-/// What an answer tells of a conflict.
-fn conflict_in(body: &[u8], puts: bool) -> Option<Conflict<'_>> {
-    let (sentence, rest) = quoted_in_front(body.strip_prefix(CONFLICT)?)?;
-    let state = state_behind(rest, b",", puts)?;
-    Some(Conflict {
-        sentence,
-        last: state.last,
-    })
+    let state = behind_sentence(response.body.as_slice())?;
+    let after_life = behind_life(state, b",\"life\":\"", &claim.life)?;
+    last_behind(after_life, claim.stream, puts)
 }
 
 /// The word for programs of an answer that refuses a request.
 pub fn read_refusal(response: &Response) -> Option<Word>
-    ensures { IfSome result (λ word. (rest : List ℕ) × (response.now.body.items ≡ codes "{\"error\":\"" ++ word ++ 34 ∷ rest)) }
+    ensures found { IfSome result (λ word. TellsRefusal word response.now) }
+    ensures none { IfNone result ((word : List ℕ) → ¬ (TellsRefusal word response.now)) }
 {
-    let (word, _) = word_in_front(response.body.as_slice().strip_prefix(b"{\"error\":\"")?)?;
+    let word = behind(response.body.as_slice(), b"{\"error\":\"")?;
+    let (word, _rest) = word_before(word, b'"')?;
     Some(word)
 }
 
-/// How a stream is, by the members of an object that stand behind this text.
-fn state_behind(body: &[u8], front: &[u8], puts: bool) -> Option<StreamState> {
-    let rest = body.strip_prefix(front)?.strip_prefix(b"\"life\":\"")?;
-    let (life, rest) = word_in_front(rest)?;
-    let (_stream, rest) = number_in_front(rest.strip_prefix(b",\"stream\":")?)?;
-    let (last, _rest) = number_in_front(rest.strip_prefix(last_name(puts).as_bytes())?)?;
-    Some(StreamState { life, last })
+/// What stands behind the sentence of an answer that tells of a conflict: a sentence has no quote.
+fn behind_sentence(body: &[u8]) -> Option<&[u8]>
+    ensures found { IfSome result (λ rest. (sentence : List ℕ) × Lacks 34 sentence × (body.now ≡ codes "{\"error\":\"conflict\",\"text\":\"" ++ (sentence ++ 34 ∷ rest.now))) }
+    ensures none { IfNone result ((sentence rest : List ℕ) → Lacks 34 sentence → body.now ≢ codes "{\"error\":\"conflict\",\"text\":\"" ++ (sentence ++ 34 ∷ rest)) }
+{
+    let sentence = behind(body, b"{\"error\":\"conflict\",\"text\":\"")?;
+    let (_sentence, rest) = quoted_in_front(sentence)?;
+    Some(rest)
+}
+
+/// The life in front of an object, and what stands behind that.
+fn life_in_front(body: &[u8]) -> Option<(Word, &[u8])>
+    ensures found { IfSome result (λ parts. IsWord parts.0 × (body.now ≡ codes "{\"life\":\"" ++ (parts.0 ++ 34 ∷ parts.1.now))) }
+    ensures none { IfNone result ((life rest : List ℕ) → IsWord life → body.now ≢ codes "{\"life\":\"" ++ (life ++ 34 ∷ rest)) }
+{
+    let word = behind(body, b"{\"life\":\"")?;
+    word_before(word, b'"')
+}
+
+/// The number of the last message that was put, or taken, behind the life of this stream.
+fn last_behind(text: &[u8], stream: u32, puts: bool) -> Option<u64>
+    ensures found { IfSome result (λ last. (last < 2 ^ 64) × ((rest : List ℕ) × (text.now ≡ codes ",\"stream\":" ++ (decimal stream ++ (last_name puts ++ (decimal last ++ 44 ∷ rest)))))) }
+    ensures none { IfNone result ((last : ℕ) (rest : List ℕ) → last < 2 ^ 64 → text.now ≢ codes ",\"stream\":" ++ (decimal stream ++ (last_name puts ++ (decimal last ++ 44 ∷ rest)))) }
+{
+    let rest = behind_stream(text, stream)?;
+    let digits = behind(rest, last_front(puts))?;
+    let (last, _rest) = number_before(digits, b',')?;
+    Some(last)
 }
 
 /// What stands in front of the number of the last message that was put, or taken.
-fn last_name(puts: bool) -> &'static str
-    ensures { result.now ≡ last_name puts }
+fn last_front(puts: bool) -> &'static [u8]
+    ensures { 44 ∷ result.now ≡ last_name puts }
 {
-    if puts { ",\"put\":" } else { ",\"taken\":" }
+    if puts { b"\"put\":" } else { b"\"taken\":" }
 }
 
-/// Whether a text begins so.
-fn begins(text: &[u8], front: &[u8]) -> bool
-    ensures { IsTrue result → take (length front.now) text.now ≡ front.now }
+/// What stands behind the place of the message of a claim, and the comma there.
+fn behind_place<'a>(body: &'a [u8], claim: &Claim) -> Option<&'a [u8]>
+    ensures found { IfSome result (λ rest. body.now ≡ place_members claim.now.life claim.now.stream claim.now.number ++ 44 ∷ rest.now) }
+    ensures none { IfNone result ((rest : List ℕ) → body.now ≢ place_members claim.now.life claim.now.stream claim.now.number ++ 44 ∷ rest) }
 {
-    front.len() <= text.len() && &text[..front.len()] == front
+    let after_life = behind_life(body, b"{\"life\":\"", &claim.life)?;
+    let member = behind_stream(after_life, claim.stream)?;
+    let digits = behind(member, b"\"number\":")?;
+    behind_number(digits, claim.number, b',')
 }
 
-/// Appends a sentence, the quote behind it, and a comma.
-fn push_sentence(text: &mut Vec<u8>, sentence: &[u8]) -> Result<(), AllocError>
-    ensures { OnOk result (text.new.items ≡ text.old.items ++ sentence.now ++ codes "\",") }
+/// What stands behind this front, this life and a quote.
+fn behind_life<'a>(text: &'a [u8], front: &[u8], life: &Word) -> Option<&'a [u8]>
+    ensures found { IfSome result (λ rest. text.now ≡ front.now ++ (life.now ++ 34 ∷ rest.now)) }
+    ensures none { IfNone result ((rest : List ℕ) → text.now ≢ front.now ++ (life.now ++ 34 ∷ rest)) }
 {
-    text.extend_from_slice(sentence)?;
-    text.extend_from_slice(b"\",")
+    let word = behind(text, front)?;
+    let quote = behind(word, life.bytes())?;
+    let rest = behind(quote, b"\"")?;
+    Some(rest)
 }
 
-/// Appends a life and a stream.
-fn push_stream(text: &mut Vec<u8>, life: &Word, stream: u32) -> Result<(), AllocError>
-    ensures { OnOk result (text.new.items ≡ text.old.items ++ stream_members life.now stream) }
+/// What stands behind the member of this stream, and the comma there.
+fn behind_stream(text: &[u8], stream: u32) -> Option<&[u8]>
+    ensures found { IfSome result (λ rest. text.now ≡ codes ",\"stream\":" ++ (decimal stream ++ 44 ∷ rest.now)) }
+    ensures none { IfNone result ((rest : List ℕ) → text.now ≢ codes ",\"stream\":" ++ (decimal stream ++ 44 ∷ rest)) }
 {
-    push_life(text, life)?;
-    text.extend_from_slice(b",\"stream\":")?;
-    push_decimal(text, stream as u64)
-}
-
-/// Appends a life.
-fn push_life(text: &mut Vec<u8>, life: &Word) -> Result<(), AllocError>
-    ensures { OnOk result (text.new.items ≡ text.old.items ++ life_member life.now) }
-{
-    text.extend_from_slice(b"\"life\":\"")?;
-    text.extend_from_slice(life.bytes())?;
-    text.extend_from_slice(b"\"")
-}
-
-/// Appends the number of the last message that was put, or taken.
-fn push_last(text: &mut Vec<u8>, puts: bool, last: u64) -> Result<(), AllocError>
-    ensures { OnOk result (text.new.items ≡ text.old.items ++ last_member puts last) }
-{
-    text.extend_from_slice(last_name(puts).as_bytes())?;
-    push_decimal(text, last)
-}
-
-/// Appends where a put stands, and the end of the object.
-fn push_event_place(text: &mut Vec<u8>, place: EventPlace) -> Result<(), AllocError>
-    ensures { OnOk result (text.new.items ≡ text.old.items ++ event_members place) }
-{
-    push_position(text, place.position)?;
-    push_line(text, place.line)
-}
-
-/// Appends a position.
-fn push_position(text: &mut Vec<u8>, position: u64) -> Result<(), AllocError>
-    ensures { OnOk result (text.new.items ≡ text.old.items ++ codes ",\"position\":" ++ decimal position) }
-{
-    text.extend_from_slice(b",\"position\":")?;
-    push_decimal(text, position)
-}
-
-/// Appends the number of a line, and the end of the object.
-fn push_line(text: &mut Vec<u8>, line: u64) -> Result<(), AllocError>
-    ensures { OnOk result (text.new.items ≡ text.old.items ++ codes ",\"line\":" ++ decimal line ++ codes "}") }
-{
-    text.extend_from_slice(b",\"line\":")?;
-    push_decimal(text, line)?;
-    text.extend_from_slice(b"}")
-}
-
-/// Appends what stands in front of an object about the message of a claim.
-fn push_place(text: &mut Vec<u8>, claim: &Claim) -> Result<(), AllocError>
-    ensures { OnOk result (text.new.items ≡ text.old.items ++ place_members claim.now.life claim.now.stream claim.now.number) }
-{
-    text.extend_from_slice(b"{")?;
-    push_stream(text, &claim.life, claim.stream)?;
-    text.extend_from_slice(b",\"number\":")?;
-    push_decimal(text, claim.number)
+    let digits = behind(text, b",\"stream\":")?;
+    behind_number(digits, stream as u64, b',')
 }

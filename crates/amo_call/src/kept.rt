@@ -1,10 +1,20 @@
 //! What the file of a call tells: which call it is, and how far it is.
-ghost use Rattle.std.specs.Prelude.{◌≡◌, ◌++◌, IfOk, OnOk};
-ghost use Rattle.amo_call.specs.Kept.{claim_text, kept_end, kept_front, kept_text, line_and_message, progress_name, progress_tail};
+ghost use Rattle.std.specs.Prelude.{◌≡◌, ◌≢◌, ℕ, ◌<◌, ◌^◌, ◌++◌, ◌∷◌, List, IfErr, IfNone, IfOk, IfSome, OnOk, codes};
+ghost use Rattle.amo_text.specs.Line.{Lacks};
+ghost use Rattle.amo_text.specs.Message.{IsMessage};
+ghost use Rattle.amo_door.specs.declared.claim.Claim.{Claim};
+ghost use Rattle.amo_call.specs.declared.kept.Kept.{Kept};
+ghost use Rattle.amo_call.specs.declared.kept.KeptFault.TheVariants.{Malformed};
+ghost use Rattle.amo_call.specs.declared.kept.Progress.{Progress};
+ghost use Rattle.amo_call.specs.declared.kept.Step.{Step};
+ghost use Rattle.amo_call.specs.Kept.{IsClaim, IsKept, IsProgress, claim_text, kept_end, kept_front, kept_text, line_and_message, progress_name, progress_tail, step_name, step_of};
 
-use amo_door::{Claim, Word};
+use crate::scan::{before, behind, word_before};
+use amo_door::Claim;
 use amo_packet::Message;
-use amo_text::{next_field, push_decimal, push_hex, read_decimal, read_message, read_stream};
+use amo_text::{
+    next_decimal, next_field, next_stream, push_decimal, push_hex, read_decimal, read_message,
+};
 use std::alloc::{AllocError, Global};
 use thiserror::Error;
 
@@ -24,6 +34,16 @@ pub enum Progress {
     Taken { line: u64, message: Message },
     /// The message that was taken by this line is done.
     Done { line: u64 },
+}
+
+/// How far a call is, by its word alone.
+#[derive(Clone, Copy)]
+enum Step {
+    Putting,
+    Put,
+    Taking,
+    Taken,
+    Done,
 }
 
 /// A call, as its file keeps it.
@@ -86,17 +106,15 @@ fn push_end(text: &mut Vec<u8>, progress: &Progress) -> Result<(), AllocError>
 
 /// The call whose file has exactly these bytes.
 pub fn read_kept(alloc: Global, bytes: &[u8]) -> Result<Kept, KeptFault>
-    ensures { IfOk result (λ kept. bytes.now ≡ kept_text kept) }
+    ensures found { IfOk result (λ kept. IsKept kept × (bytes.now ≡ kept_text kept)) }
+    ensures fault { IfErr result (λ fault. fault ≡ Malformed → (kept : Kept) → IsKept kept → bytes.now ≢ kept_text kept) }
 {
-    let Some(kept) = parse(alloc, bytes)? else {
+    let Some((name, claim, tail)) = parse_front(bytes) else {
         return Err(KeptFault::Malformed);
     };
-    let mut text = Vec::new(alloc);
-    push_kept(&mut text, &kept)?;
-    if text.as_slice() == bytes {
-        Ok(kept)
-    } else {
-        Err(KeptFault::Malformed)
+    match parse_progress(alloc, name, tail)? {
+        Some(progress) => Ok(Kept { claim, progress }),
+        None => Err(KeptFault::Malformed),
     }
 }
 
@@ -149,49 +167,90 @@ fn push_line_and_message(text: &mut Vec<u8>, line: u64, message: &Message) -> Re
     push_hex(text, message.bytes())
 }
 
-/// The call that the fields of these bytes tell, if they tell one.
-fn parse(alloc: Global, bytes: &[u8]) -> Result<Option<Kept>, AllocError> {
-    let Some((name, claim, tail)) = parse_front(bytes) else {
-        return Ok(None);
-    };
-    match parse_progress(alloc, name, tail)? {
-        Some(progress) => Ok(Some(Kept { claim, progress })),
-        None => Ok(None),
-    }
-}
-
 /// The word for how far a call is, what it names, and the fields behind that.
-fn parse_front(bytes: &[u8]) -> Option<(&[u8], Claim, &[u8])> {
-    let fields = bytes.strip_prefix(FRONT)?.strip_suffix(b"\n")?;
-    let (name, fields) = next_field(fields)?;
-    let (stream, fields) = next_field(fields)?;
-    let (number, fields) = next_field(fields)?;
-    let (life, fields) = next_field(fields)?;
-    let (by, tail) = next_field(fields)?;
-    let claim = Claim {
-        stream: read_stream(stream)?,
-        number: read_decimal(number)?,
-        life: Word::read(life)?,
-        by: Word::read(by)?,
-    };
+fn parse_front(bytes: &[u8]) -> Option<(&[u8], Claim, &[u8])>
+    ensures found { IfSome result (λ parts. Lacks 32 parts.0.now × IsClaim parts.1
+        × (bytes.now ≡ codes "amo call 1 " ++ (parts.0.now ++ 32 ∷ (claim_text parts.1 ++ 32 ∷ (parts.2.now ++ codes "\n"))))) }
+    ensures none { IfNone result ((name tail : List ℕ) (claim : Claim) → Lacks 32 name → IsClaim claim
+        → bytes.now ≢ codes "amo call 1 " ++ (name ++ 32 ∷ (claim_text claim ++ 32 ∷ (tail ++ codes "\n")))) }
+{
+    let text = behind(bytes, FRONT)?;
+    let fields = before(text, b"\n")?;
+    let (name, behind_name) = next_field(fields)?;
+    let (claim, tail) = parse_claim(behind_name)?;
     Some((name, claim, tail))
 }
 
+/// What a call names, and the fields behind that.
+fn parse_claim(fields: &[u8]) -> Option<(Claim, &[u8])>
+    ensures found { IfSome result (λ parts. IsClaim parts.0 × (fields.now ≡ claim_text parts.0 ++ 32 ∷ parts.1.now)) }
+    ensures none { IfNone result ((claim : Claim) (tail : List ℕ) → IsClaim claim → fields.now ≢ claim_text claim ++ 32 ∷ tail) }
+{
+    let (stream, rest) = next_stream(fields)?;
+    let (number, words) = next_decimal(rest)?;
+    let (life, caller) = word_before(words, b' ')?;
+    let (by, tail) = word_before(caller, b' ')?;
+    let claim = Claim {
+        stream,
+        number,
+        life,
+        by,
+    };
+    Some((claim, tail))
+}
+
 /// How far a call is.
-fn parse_progress(alloc: Global, name: &[u8], tail: &[u8]) -> Result<Option<Progress>, AllocError> {
+fn parse_progress(alloc: Global, name: &[u8], tail: &[u8]) -> Result<Option<Progress>, AllocError>
+    ensures found { IfOk result (λ read. IfSome read (λ progress. IsProgress progress × (name.now ≡ progress_name progress) × (tail.now ≡ progress_tail progress))) }
+    ensures none { IfOk result (λ read. IfNone read ((progress : Progress) → IsProgress progress → name.now ≡ progress_name progress → tail.now ≢ progress_tail progress)) }
+{
+    let Some(step) = parse_step(name) else {
+        return Ok(None);
+    };
+    parse_tail(alloc, step, tail)
+}
+
+/// The step of which this is the word.
+fn parse_step(name: &[u8]) -> Option<Step>
+    ensures found { IfSome result (λ step. name.now ≡ step_name step) }
+    ensures none { IfNone result ((step : Step) → name.now ≢ step_name step) }
+{
     match name {
-        b"putting" => Ok(read_message(alloc, tail)?.map(|message| Progress::Putting { message })),
-        b"put" => Ok(parse_line_and_message(alloc, tail)?.map(|(line, message)| Progress::Put {
-            line,
-            message,
-        })),
-        b"taken" => Ok(parse_line_and_message(alloc, tail)?.map(|(line, message)| Progress::Taken {
-            line,
-            message,
-        })),
-        b"taking" => Ok(read_decimal(tail).map(|from| Progress::Taking { from })),
-        b"done" => Ok(read_decimal(tail).map(|line| Progress::Done { line })),
-        _ => Ok(None),
+        b"putting" => Some(Step::Putting),
+        b"put" => Some(Step::Put),
+        b"taking" => Some(Step::Taking),
+        b"taken" => Some(Step::Taken),
+        b"done" => Some(Step::Done),
+        _ => None,
+    }
+}
+
+/// How far a call of this step is.
+fn parse_tail(alloc: Global, step: Step, tail: &[u8]) -> Result<Option<Progress>, AllocError>
+    ensures found { IfOk result (λ read. IfSome read (λ progress. IsProgress progress × (step_of progress ≡ step) × (tail.now ≡ progress_tail progress))) }
+    ensures none { IfOk result (λ read. IfNone read ((progress : Progress) → IsProgress progress → step_of progress ≡ step → tail.now ≢ progress_tail progress)) }
+{
+    match step {
+        Step::Putting => match read_message(alloc, tail)? {
+            Some(message) => Ok(Some(Progress::Putting { message })),
+            None => Ok(None),
+        },
+        Step::Put => match parse_line_and_message(alloc, tail)? {
+            Some((line, message)) => Ok(Some(Progress::Put { line, message })),
+            None => Ok(None),
+        },
+        Step::Taken => match parse_line_and_message(alloc, tail)? {
+            Some((line, message)) => Ok(Some(Progress::Taken { line, message })),
+            None => Ok(None),
+        },
+        Step::Taking => match read_decimal(tail) {
+            Some(from) => Ok(Some(Progress::Taking { from })),
+            None => Ok(None),
+        },
+        Step::Done => match read_decimal(tail) {
+            Some(line) => Ok(Some(Progress::Done { line })),
+            None => Ok(None),
+        },
     }
 }
 
@@ -199,12 +258,15 @@ fn parse_progress(alloc: Global, name: &[u8], tail: &[u8]) -> Result<Option<Prog
 fn parse_line_and_message(
     alloc: Global,
     fields: &[u8],
-) -> Result<Option<(u64, Message)>, AllocError> {
-    let Some((line, digits)) = next_field(fields) else {
+) -> Result<Option<(u64, Message)>, AllocError>
+    ensures found { IfOk result (λ read. IfSome read (λ parts. (parts.0 < 2 ^ 64) × IsMessage parts.1 × (fields.now ≡ line_and_message parts.0 parts.1))) }
+    ensures none { IfOk result (λ read. IfNone read ((line : ℕ) (message : List ℕ) → line < 2 ^ 64 → IsMessage message → fields.now ≢ line_and_message line message)) }
+{
+    let Some((line, digits)) = next_decimal(fields) else {
         return Ok(None);
     };
-    let Some(line) = read_decimal(line) else {
-        return Ok(None);
-    };
-    Ok(read_message(alloc, digits)?.map(|message| (line, message)))
+    match read_message(alloc, digits)? {
+        Some(message) => Ok(Some((line, message))),
+        None => Ok(None),
+    }
 }

@@ -7,6 +7,7 @@ mod caller;
 mod connection;
 mod following;
 mod kept;
+pub mod laws;
 mod pages;
 mod putting;
 mod request;
@@ -14,7 +15,7 @@ mod scan;
 mod taking;
 
 pub use answer::{
-    Conflict, Response, StreamState, read_conflict, read_fate, read_put, read_refusal, read_state,
+    Response, StreamState, read_conflict, read_fate, read_put, read_refusal, read_state,
 };
 pub use caller::{CallFault, Caller};
 pub use connection::{Asker, exchange};

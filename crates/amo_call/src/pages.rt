@@ -1,6 +1,6 @@
 //! What a door tells of its journal.
 use crate::answer::Response;
-use crate::scan::{number_in_front, quoted_in_front};
+use crate::scan::{behind, behind_number, number_before, quoted_in_front};
 use amo_door::{Answer, GotMessage, GotPage};
 use amo_packet::{MAX_MESSAGE, Message, MessageFault};
 use amo_text::{next_line, read_decimal, read_hex};
@@ -105,20 +105,17 @@ fn as_told(
 
 /// What stands behind the front of a page of this stream.
 fn behind_front(body: &[u8], stream: u32) -> Option<&[u8]> {
-    let (found, rest) = number_in_front(body.strip_prefix(b"{\"stream\":")?)?;
-    if found != stream as u64 {
-        return None;
-    }
-    rest.strip_prefix(b",\"got\":[")
+    let rest = behind_number(behind(body, b"{\"stream\":")?, stream as u64, b',')?;
+    behind(rest, b"\"got\":[")
 }
 
 /// Which lines a page tells of, to who asked from this one on: no bracket stands behind its messages.
 fn read_lines(body: &[u8], from: u64) -> Option<PageLines> {
-    let (first, rest) = line_in_front(behind_last(body, b']')?.strip_prefix(b",\"from\":")?)?;
-    let (last, rest) = line_in_front(rest.strip_prefix(b",\"next\":")?)?;
+    let (first, rest) = line_before(behind(behind_last(body, b']')?, b",\"from\":")?)?;
+    let (last, rest) = line_before(behind(rest, b"\"next\":")?)?;
     let more = match rest {
-        b",\"more\":true}" => true,
-        b",\"more\":false}" => false,
+        b"\"more\":true}" => true,
+        b"\"more\":false}" => false,
         _ => return None,
     };
     Some(PageLines {
@@ -142,12 +139,12 @@ fn behind_last(text: &[u8], byte: u8) -> Option<&[u8]> {
     found
 }
 
-/// The number of a line in front of a text, or null, and what stands behind it.
-fn line_in_front(text: &[u8]) -> Option<(Option<u64>, &[u8])> {
-    if let Some(rest) = text.strip_prefix(b"null") {
+/// The number of a line, or null, in front of a text up to a comma, and what stands behind that.
+fn line_before(text: &[u8]) -> Option<(Option<u64>, &[u8])> {
+    if let Some(rest) = behind(text, b"null,") {
         return Some((None, rest));
     }
-    let (line, rest) = number_in_front(text)?;
+    let (line, rest) = number_before(text, b',')?;
     Some((Some(line), rest))
 }
 
@@ -175,8 +172,7 @@ fn read_first(alloc: Global, got: &[u8]) -> Result<Option<GotMessage>, AllocErro
 
 /// The number of a message's line, and what stands behind it.
 fn read_line(got: &[u8]) -> Option<(u64, &[u8])> {
-    let (line, rest) = number_in_front(got.strip_prefix(b"{\"line\":")?)?;
-    Some((line, rest.strip_prefix(b",")?))
+    number_before(behind(got, b"{\"line\":")?, b',')
 }
 
 /// The bytes that HEX in front of a quote spells.

@@ -113,7 +113,7 @@ fn begin<C: Caller>(alloc: Global, caller: &mut C, order: &Order) -> Result<Afte
     let Some(response) = ask_until(caller, &request)? else {
         return Ok(AfterPut::Told(PutTold::NoAnswer));
     };
-    let Some(state) = read_state(alloc, &response, order.stream, true)? else {
+    let Some(state) = read_state(&response, order.stream, true) else {
         return Ok(AfterPut::Told(PutTold::Refused(response)));
     };
     let Some(number) = state.last.checked_add(1) else {
@@ -151,7 +151,7 @@ fn make<C: Caller>(
     let Some(response) = answered else {
         return Ok(put_again(caller, turn, false));
     };
-    match read_put(alloc, &response, &turn.kept.claim)? {
+    match read_put(&response, &turn.kept.claim) {
         Some(place) => finish(caller, turn, place.line, order),
         None => look_at_refusal(alloc, caller, turn, response, order),
     }
@@ -229,9 +229,8 @@ fn look_at_conflict<C: Caller>(
 ) -> Result<AfterPut, CallFault>
     ensures { IfOk result (HasPut order.now (C.saved caller.new)) }
 {
-    let last = match read_conflict(alloc, &response, &turn.kept.claim, true)? {
-        Some(conflict) => conflict.last,
-        None => return Ok(AfterPut::Told(PutTold::Refused(response))),
+    let Some(last) = read_conflict(&response, &turn.kept.claim, true) else {
+        return Ok(AfterPut::Told(PutTold::Refused(response)));
     };
     if turn.is_first || last == turn.kept.claim.number {
         begin(alloc, caller, order)
@@ -256,7 +255,7 @@ fn look_back<C: Caller>(
     let Some(response) = ask_until(caller, &request)? else {
         return Ok(AfterPut::Told(PutTold::NoAnswer));
     };
-    match read_fate(alloc, &response, &turn.kept.claim)? {
+    match read_fate(&response, &turn.kept.claim) {
         Some(Fate::Never) => begin(alloc, caller, order),
         Some(fate) => Ok(AfterPut::Told(PutTold::Became(fate))),
         None => Ok(AfterPut::Told(PutTold::Refused(response))),

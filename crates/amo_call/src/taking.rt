@@ -166,7 +166,7 @@ fn begin<C: Caller>(
     let Some(response) = ask_until(caller, &request)? else {
         return Ok(AfterTake::Told(TakeTold::NoAnswer));
     };
-    let Some(state) = read_state(alloc, &response, stream, false)? else {
+    let Some(state) = read_state(&response, stream, false) else {
         return Ok(AfterTake::Told(TakeTold::Refused(response)));
     };
     let kept = Kept {
