@@ -68,9 +68,9 @@ pub moves_on : (u v w : PassState) (some more : List Addressed) (first second th
 moves_on u v w some more first second third one two = record {
   put = one.put ++ two.put;
   mine_is =
-      let first = map unnamed one.put in let then = map unnamed two.put in
-      two.mine_is ∙ (ap (λ (l : List (ℕ × List ℕ)). reverse then ++ l) one.mine_is ∙ (sym (append_assoc (reverse then) (reverse first) (puts_in (mine u)))
-      ∙ (ap (λ (l : List (ℕ × List ℕ)). l ++ puts_in (mine u)) (sym (reverse-append first then)) ∙ ap (λ (l : List (ℕ × List ℕ)). reverse l ++ puts_in (mine u)) (sym (unnamed_append one.put two.put)))));
+      let first = map unnamed one.put in let later = map unnamed two.put in
+      two.mine_is ∙ (ap (λ (l : List (ℕ × List ℕ)). reverse later ++ l) one.mine_is ∙ (sym (append_assoc (reverse later) (reverse first) (puts_in (mine u)))
+      ∙ (ap (λ (l : List (ℕ × List ℕ)). l ++ puts_in (mine u)) (sym (reverse-append first later)) ∙ ap (λ (l : List (ℕ × List ℕ)). reverse l ++ puts_in (mine u)) (sym (unnamed_append one.put two.put)))));
   order = λ at. ap (λ (l : List NamedMessage). kept_on at first ++ l) (on_append at some more) ∙ (sym (append_assoc (kept_on at first) (messages_on at some) (messages_on at more))
       ∙ (ap (λ (l : List NamedMessage). l ++ messages_on at more) (one.order at) ∙ (append_assoc (messages_on at one.put) (kept_on at second) (messages_on at more)
       ∙ (ap (λ (l : List NamedMessage). messages_on at one.put ++ l) (two.order at) ∙ (sym (append_assoc (messages_on at one.put) (messages_on at two.put) (kept_on at third))

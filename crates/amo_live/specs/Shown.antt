@@ -56,9 +56,13 @@ pub record Refused : Type 0 where
   pub input : ℕ
   pub reason : List ℕ
 
+-- the front of the object that tells so, up to what happened
+abbrev pub refused_front : ℕ → Name → List ℕ
+refused_front input id = codes "{\"input\":" ++ decimal input ++ id_member id
+
 -- the line that tells so
 abbrev pub refused_line : Refused → List ℕ
-refused_line refused = codes "{\"input\":" ++ decimal refused.input ++ id_member refused.id ++ codes ",\"event\":\"refused\",\"reason\":\"" ++ flat_map escaped refused.reason ++ codes "\"}\n"
+refused_line refused = refused_front refused.input refused.id ++ codes ",\"event\":\"refused\",\"reason\":\"" ++ flat_map escaped refused.reason ++ codes "\"}\n"
 
 -- the word about messages that were got, or of which that is not known
 abbrev pub word_of : Bool → Word

@@ -54,10 +54,10 @@ impl Ids {
         let Some(place) = self.place_of(stream) else {
             return Id::none();
         };
-        match self.streams[place].pop_front() {
-            Some(id) => id,
-            None => Id::none(),
-        }
+        let Some(id) = self.streams[place].pop_front() else {
+            return Id::none();
+        };
+        id
     }
 
     /// The place of a stream's ids, if it has one.

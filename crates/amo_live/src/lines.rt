@@ -3,7 +3,7 @@ ghost use Rattle.std.specs.Prelude.{◌≡◌, ◌++◌, IfOk, OnOk};
 ghost use Rattle.std.specs.List.{flat_map, list_any};
 ghost use Rattle.std.specs.Str.{chars};
 ghost use Rattle.amo_live.specs.Client.{BlamesField, NamesBy, ReadsAs, ReadsPlain};
-ghost use Rattle.amo_live.specs.Shown.{escaped, hex_line, id_member, is_hidden, is_text, message_line, object_front, ok_line, refused_line, text_line, word_line, word_of, word_text};
+ghost use Rattle.amo_live.specs.Shown.{escaped, hex_line, id_member, is_hidden, is_text, message_line, object_front, ok_line, refused_front, refused_line, text_line, word_line, word_of, word_text};
 
 use crate::id::Id;
 use crate::object::read_object;
@@ -207,12 +207,19 @@ pub(crate) fn push_refused(
 ) -> Result<(), AllocError>
     ensures { OnOk result (shown.new.items ≡ shown.old.items ++ refused_line (record { id = id.now; input = line; reason = reason.now })) }
 {
-    shown.extend_from_slice(b"{\"input\":")?;
-    push_decimal(shown, line)?;
-    push_id(shown, id)?;
+    push_refused_front(shown, id, line)?;
     shown.extend_from_slice(b",\"event\":\"refused\",\"reason\":\"")?;
     push_escaped(shown, reason)?;
     shown.extend_from_slice(b"\"}\n")
+}
+
+/// Appends the front of such an object, up to what happened.
+fn push_refused_front(shown: &mut Vec<u8>, id: &Id, line: u64) -> Result<(), AllocError>
+    ensures { OnOk result (shown.new.items ≡ shown.old.items ++ refused_front line id.now) }
+{
+    shown.extend_from_slice(b"{\"input\":")?;
+    push_decimal(shown, line)?;
+    push_id(shown, id)
 }
 
 /// Appends the line that shows a message which was got: its text, or its bytes in HEX where they are none, or one that a terminal would not just show.

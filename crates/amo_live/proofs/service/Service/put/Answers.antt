@@ -24,7 +24,7 @@ returns-in_ok-begin-in-Ok-clause-shown g c =
     let new = shown_by c.begin.new.self in
     let same : shown_by c.owe.new.self ≡ old = search rules in
     let spelt : spelling_of c.owe.new.self ≡ spelling = search rules in
-    let put : told ≡ told_put spelling c.args.stream c.args.named.id c.next_line-line.result old = rw (same, spelt) at c.in_ok-tell_put.ensures.told in
+    let put : told ≡ told_put spelling c.args.stream c.args.named.id c.next_line-line.result old = rw (same, spelt) at c.in_ok-tell_put-in-Ok.ensures.told in
     let one = put_shows spelling first c.put.new.self.pass c.args.stream c.args.named.message c.in-Ok.field-0 c.args.named.id c.next_line-line.result old told grown put in
     let last : spelling ≡ spelling_of c.tell_put.new.self = search rules in
     let pass : c.put.new.self.pass ≡ c.tell_put.new.self.host.pass = search rules in
@@ -39,7 +39,7 @@ returns-in_ok-begin-in-Ok-clause-told g c =
     let new = shown_by c.begin.new.self in
     let same : shown_by c.owe.new.self ≡ old = search rules in
     let spelt : spelling_of c.owe.new.self ≡ spelling = search rules in
-    let put : told ≡ told_put spelling c.args.stream c.args.named.id c.next_line-line.result old = rw (same, spelt) at c.in_ok-tell_put.ensures.told in
+    let put : told ≡ told_put spelling c.args.stream c.args.named.id c.next_line-line.result old = rw (same, spelt) at c.in_ok-tell_put-in-Ok.ensures.told in
     subst (λ (n : ℕ). BeginsWithPut spelling c.args.stream c.args.named.id n old new) c.next_line-line.ensures
     (begins_with spelling (spelling_of c.tell_put.new.self) c.args.stream c.args.named.id c.next_line-line.result c.tell_put.new.self.host.pass c.begin.new.self.host.pass old told new put c.in_ok-begin-in-Ok.ensures.shown)
 
