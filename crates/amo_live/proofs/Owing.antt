@@ -1,5 +1,5 @@
--- Ids of messages that have no answer, as they come and go.
-use Rattle.std.proofs.Common.{◌≡◌, ℕ, zero, suc, ◌<◌, List, [], ◌∷◌, ◌++◌, None, length, map, get_or, slice_set, refl, sym, ap, ◌∙◌}
+-- Ids of messages that have no answer, as they come and go, and what is told of them.
+use Rattle.std.proofs.Common.{◌≡◌, ℕ, zero, suc, ◌<◌, List, [], ◌∷◌, ◌++◌, None, length, map, get_or, slice_set, refl, sym, ap, ◌∙◌, append_assoc}
 use Rattle.std.proofs.Math.Seq.{map-set_same}
 use Rattle.std.proofs.lemmas.List.{get_or-map, map-set}
 use Rattle.amo_live.specs.Backlog.{kept_on}
@@ -35,3 +35,11 @@ module _ {A : Type 0} (f : A → List Name) (xs : List A) (place : ℕ) (old new
 
   pub rest_none : f old ≡ [] → f new ≡ f old → map f (slice_set xs place new) ≡ answered (suc place) (map f xs)
   rest_none none same = map-set_same f xs place new old (same ∙ ap f is) ∙ ap (without_first (map f xs) place) (sym none ∙ sym here)
+
+-- a text that was appended in two parts, and in four
+two_parts : (old one two first second : List ℕ) → one ≡ old ++ first → two ≡ one ++ second → two ≡ old ++ (first ++ second)
+two_parts old one two first second a b = b ∙ (ap (λ (l : List ℕ). l ++ second) a ∙ append_assoc old first second)
+
+pub four_parts : (old one two three four first second third fourth : List ℕ) → one ≡ old ++ first → two ≡ one ++ second → three ≡ two ++ third → four ≡ three ++ fourth → four ≡ old ++ (((first ++ second) ++ third) ++ fourth)
+four_parts old one two three four first second third fourth a b c d =
+    two_parts old three four ((first ++ second) ++ third) fourth (two_parts old two three (first ++ second) third (two_parts old one two first second a b) c) d

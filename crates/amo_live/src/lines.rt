@@ -210,7 +210,8 @@ pub(crate) fn push_refused(
     push_refused_front(shown, id, line)?;
     shown.extend_from_slice(b",\"event\":\"refused\",\"reason\":\"")?;
     push_escaped(shown, reason)?;
-    shown.extend_from_slice(b"\"}\n")
+    shown.extend_from_slice(b"\"}\n")?;
+    Ok(())
 }
 
 /// Appends the front of such an object, up to what happened.

@@ -1,5 +1,7 @@
 use Rattle.std.proofs.Common.{refl}
+use Rattle.amo_live.specs.Service.{shown_by, spelling_of}
 use Rattle.amo_live.proofs.Conserving.{one_kept, one_moved}
+use Rattle.amo_live.proofs.Showing.{shows_idle}
 use Rattle.amo_live.proofs.turns.put_or_keep.Goals as goal
 
 pub returns-then-has-clause-moves : goal.returns-then-has-clause-moves
@@ -14,3 +16,8 @@ returns-in_ok-keep-2-clause-moves g c =
 pub returns-in_default-clause-moves : goal.returns-in_default-clause-moves
 returns-in_default-clause-moves g c =
     one_moved c.args.service.now.host.pass c.put.new.self.host.pass c.args.stream c.args.named c.args.kept.now c.args.kept.now (c.has.ensures c.if-has.false) refl (rw c.in_default.is at c.in_ok-named.ensures.put)
+
+pub returns-then-has-clause-shown : goal.returns-then-has-clause-shown
+returns-then-has-clause-shown g c =
+    let service = c.args.service.now in
+    shows_idle (spelling_of service) service.host.pass service.host.pass (shown_by service) (shown_by service) refl refl

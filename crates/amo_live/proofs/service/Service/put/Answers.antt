@@ -1,7 +1,8 @@
-use Rattle.std.proofs.Common.{◌≡◌, ℕ, refl, rules, subst}
+use Rattle.std.proofs.Common.{◌≡◌, ℕ, refl, ap, ◌∙◌, rules, subst}
 use Rattle.amo_object.specs.declared.step.End.TheVariants.{Sender}
 use Rattle.amo_core.specs.declared.act.Act.TheVariants as act
 use Rattle.amo_book.specs.Calls.{put_answer}
+use Rattle.amo_live.specs.declared.lines.Spelling.{Spelling}
 use Rattle.amo_live.specs.Service.{shown_by, spelling_of, words_of}
 use Rattle.amo_live.proofs.Fresh.{bears_as, bears_none, bears_on, call_bears}
 use Rattle.amo_live.specs.Shown.{BeginsWithPut, told_put}
@@ -24,7 +25,8 @@ returns-in_ok-begin-in-Ok-clause-shown g c =
     let new = shown_by c.begin.new.self in
     let same : shown_by c.owe.new.self ≡ old = search rules in
     let spelt : spelling_of c.owe.new.self ≡ spelling = search rules in
-    let put : told ≡ told_put spelling c.args.stream c.args.named.id c.next_line-line.result old = rw (same, spelt) at c.in_ok-tell_put-in-Ok.ensures.told in
+    let put : told ≡ told_put spelling c.args.stream c.args.named.id c.next_line-line.result old =
+    c.in_ok-tell_put-in-Ok.ensures.told ∙ (ap (λ (s : Spelling). told_put s c.args.stream c.args.named.id c.next_line-line.result (shown_by c.owe.new.self)) spelt ∙ ap (told_put spelling c.args.stream c.args.named.id c.next_line-line.result) same) in
     let one = put_shows spelling first c.put.new.self.pass c.args.stream c.args.named.message c.in-Ok.field-0 c.args.named.id c.next_line-line.result old told grown put in
     let last : spelling ≡ spelling_of c.tell_put.new.self = search rules in
     let pass : c.put.new.self.pass ≡ c.tell_put.new.self.host.pass = search rules in
@@ -39,7 +41,8 @@ returns-in_ok-begin-in-Ok-clause-told g c =
     let new = shown_by c.begin.new.self in
     let same : shown_by c.owe.new.self ≡ old = search rules in
     let spelt : spelling_of c.owe.new.self ≡ spelling = search rules in
-    let put : told ≡ told_put spelling c.args.stream c.args.named.id c.next_line-line.result old = rw (same, spelt) at c.in_ok-tell_put-in-Ok.ensures.told in
+    let put : told ≡ told_put spelling c.args.stream c.args.named.id c.next_line-line.result old =
+    c.in_ok-tell_put-in-Ok.ensures.told ∙ (ap (λ (s : Spelling). told_put s c.args.stream c.args.named.id c.next_line-line.result (shown_by c.owe.new.self)) spelt ∙ ap (told_put spelling c.args.stream c.args.named.id c.next_line-line.result) same) in
     subst (λ (n : ℕ). BeginsWithPut spelling c.args.stream c.args.named.id n old new) c.next_line-line.ensures
     (begins_with spelling (spelling_of c.tell_put.new.self) c.args.stream c.args.named.id c.next_line-line.result c.tell_put.new.self.host.pass c.begin.new.self.host.pass old told new put c.in_ok-begin-in-Ok.ensures.shown)
 
