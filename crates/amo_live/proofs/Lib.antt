@@ -9,7 +9,6 @@ pub mod Onwards
 pub mod Performing
 pub mod OwnWords
 pub mod Opens
-pub mod Owing
 pub mod Suiting
 pub mod Readers
 pub mod Repeating

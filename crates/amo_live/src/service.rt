@@ -1,14 +1,14 @@
 //! What a live host does with datagrams, times and its clients' messages.
-ghost use Rattle.std.specs.Prelude.{◌≡◌, ◌≢◌, ◌↔◌, ℕ, [], Some, IfNone, IfOk, IsTrue, OnOk, is_some, length};
+ghost use Rattle.std.specs.Prelude.{◌≡◌, ◌≢◌, ◌↔◌, ℕ, [], Some, IfOk, IsTrue, OnOk, is_some, length};
 ghost use Rattle.amo_core.specs.declared.mode.Mode.TheVariants.{Quiet, Send};
 ghost use Rattle.amo_packet.specs.Packet.{body_of, packet_of};
 ghost use Rattle.amo_packet.specs.Grammar.{Spells, messages_of};
 ghost use Rattle.amo_journal.specs.Version.{newest};
 ghost use Rattle.amo_host.specs.AtStream.{IsNextDue};
-ghost use Rattle.amo_live.specs.Client.{PutsNamed, has};
-ghost use Rattle.amo_live.specs.Host.{Delivered, Did, IsNoted};
+ghost use Rattle.amo_live.specs.Client.{has};
+ghost use Rattle.amo_live.specs.Host.{Delivered, Did, IsNoted, Puts};
 ghost use Rattle.amo_live.specs.Service.{IsAtRest, PutsNone, got_by, new_version, shown_by, spelling_of, start_of, starts_batches, streams_of, words_of};
-ghost use Rattle.amo_live.specs.Shown.{BeginsWithPut, ShowsMore};
+ghost use Rattle.amo_live.specs.Shown.{ShowsMore};
 ghost use Rattle.amo_live.specs.Words.{BearsNew, IsNew, StaysDrawn};
 
 mod door;
@@ -16,14 +16,13 @@ mod getting;
 mod notes;
 
 use crate::acts::is_for;
-use crate::ids::Ids;
-use crate::lines::{Spelling, Word};
-use crate::{Dropped, Figures, Host, Lineage, LiveFault, NamedMessage, Times};
+use crate::lines::{Spelling, Word, push_word};
+use crate::{Dropped, Figures, Host, Lineage, LiveFault, Times};
 use amo_core::{MAX_WAITING, Mode};
 use amo_journal::Version;
 use amo_net::{Link, MAX_DATAGRAM};
 use amo_object::End;
-use amo_packet::{Body, MAX_BATCH, Packet, read};
+use amo_packet::{Body, MAX_BATCH, Message, Packet, read};
 use amo_text::Sink;
 use amo_window::Pace;
 pub use door::{EventAt, SenderLane, Settled};
@@ -78,8 +77,6 @@ pub struct Service<L, S, W> {
     lanes: Vec<Lane>,
     words: W,
     shown: Vec<u8>,
-    /// What messages are called that have no answer yet, where answers tell it.
-    ids: Ids,
     /// The handshakes that ended since what is shown was cleared.
     settled: Vec<Settled>,
     /// How many bytes may be shown in this turn.
@@ -157,18 +154,16 @@ impl<L: Link + Drop, S: Sink + Drop, W: Lineage + Drop> Service<L, S, W> {
         ensures host { IfOk result (λ service. service.host ≡ host) }
         ensures streams { IfOk result (λ service. streams_of service ≡ setup.streams) }
         ensures words { IfOk result (λ service. words_of service ≡ words) }
-        ensures shown { IfOk result (λ service. (shown_by service).text ≡ []) }
+        ensures shown { IfOk result (λ service. shown_by service ≡ []) }
         ensures spelling { IfOk result (λ service. spelling_of service ≡ setup.spelling) }
     {
         let lanes = lanes_of(alloc, setup.streams)?;
-        let ids = Ids::new(alloc, setup.streams)?;
         Ok(Service {
             host,
             setup,
             lanes,
             words,
             shown: Vec::new(alloc),
-            ids,
             settled: Vec::new(alloc),
             room: 0,
             unshown: None,
@@ -206,7 +201,7 @@ fn lanes_of(alloc: Global, streams: u32) -> Result<Vec<Lane>, AllocError>
 impl<L: Link, S: Sink, W: Lineage> Service<L, S, W> {
     /// What is to be shown to the clients.
     pub fn shown(&self) -> &[u8]
-        ensures { result.now ≡ (shown_by self.now).text }
+        ensures { result.now ≡ shown_by self.now }
     {
         self.shown.as_slice()
     }
@@ -215,7 +210,7 @@ impl<L: Link, S: Sink, W: Lineage> Service<L, S, W> {
     pub fn clear_shown(&mut self)
         ensures host { self.new.host ≡ self.old.host }
         ensures streams { streams_of self.new ≡ streams_of self.old }
-        ensures shown { shown_by self.new ≡ record { text = []; owed = (shown_by self.old).owed } }
+        ensures shown { shown_by self.new ≡ [] }
         ensures words { words_of self.new ≡ words_of self.old }
         ensures spelling { spelling_of self.new ≡ spelling_of self.old }
     {
@@ -327,34 +322,28 @@ impl<L: Link, S: Sink, W: Lineage> Service<L, S, W> {
     pub fn put(
         &mut self,
         stream: u32,
-        named: NamedMessage,
+        message: Message,
         now: u64,
-    ) -> Result<Option<NamedMessage>, LiveFault>
+    ) -> Result<Option<Message>, LiveFault>
         requires { IsNoted S.written self.old.host }
         ensures noted { OnOk result (IsNoted S.written self.new.host) }
-        ensures put { IfOk result (PutsNamed self.old.host.pass self.new.host.pass stream named) }
-        ensures told { IfOk result (λ back. IfNone back (BeginsWithPut (spelling_of self.old) stream named.id self.old.host.journal.next (shown_by self.old) (shown_by self.new))) }
+        ensures put { IfOk result (Puts self.old.host.pass self.new.host.pass stream message) }
         ensures streams { streams_of self.new ≡ streams_of self.old }
         ensures shown { OnOk result (ShowsMore (spelling_of self.old) self.old.host.pass self.new.host.pass (shown_by self.old) (shown_by self.new)) }
         ensures spelling { spelling_of self.new ≡ spelling_of self.old }
         ensures words { OnOk result (BearsNew W.is_drawn (words_of self.old) (words_of self.new) self.old.host.pass self.new.host.pass) }
     {
         let Some(lane) = self.lane(stream) else {
-            return Ok(Some(named));
+            return Ok(Some(message));
         };
         if (self.setup.each && lane.owed) || lane.waiting >= MAX_WAITING as u64 {
-            return Ok(Some(named));
+            return Ok(Some(message));
         }
-        let NamedMessage { message, id } = named;
-        let line = self.host.next_line();
         match self.host.put(stream, message)? {
-            Err(fault) => {
-                let message = fault.into_message();
-                Ok(Some(NamedMessage { message, id }))
-            }
+            Err(fault) => Ok(Some(fault.into_message())),
             Ok(_) => {
                 self.owe(stream, lane);
-                self.tell_put(stream, id, line)?;
+                push_word(&mut self.shown, stream, Word::Ok, self.setup.spelling)?;
                 self.begin(stream, now)?;
                 Ok(None)
             }
@@ -687,7 +676,8 @@ impl<L: Link, S: Sink, W: Lineage> Service<L, S, W> {
             line,
             ..end
         })?;
-        self.tell_answer(end.stream, Word::of(was_got))?;
+        let word = Word::of(was_got);
+        push_word(&mut self.shown, end.stream, word, self.setup.spelling)?;
         self.note_answer(end.stream, lane, was_got);
         Ok(())
     }
