@@ -2,17 +2,9 @@
 
    A connection has one request on its way, and takes the next one of all once its answer is there. Prints how many answers were 200 or 201, how many were
    others, how long all took, and the median and the 99th of 100 of one, in nanoseconds. */
-#define _GNU_SOURCE
-#include <arpa/inet.h>
-#include <errno.h>
-#include <netinet/tcp.h>
+#include "client.h"
 #include <poll.h>
-#include <stdio.h>
-#include <stdlib.h>
-#include <string.h>
 #include <strings.h>
-#include <sys/socket.h>
-#include <time.h>
 #include <unistd.h>
 
 enum { MOST_CONNECTIONS = 512, ROOM = 65536 };
@@ -31,22 +23,6 @@ struct connection {
 
 static struct connection connections[MOST_CONNECTIONS];
 static struct pollfd looked_at[MOST_CONNECTIONS];
-
-static void stop(const char *why) {
-    fprintf(stderr, "asks: %s: %s\n", why, strerror(errno));
-    exit(1);
-}
-
-static long now(void) {
-    struct timespec it;
-    clock_gettime(CLOCK_MONOTONIC, &it);
-    return it.tv_sec * 1000000000L + it.tv_nsec;
-}
-
-static int by_length(const void *one, const void *other) {
-    long a = *(const long *)one, b = *(const long *)other;
-    return (a > b) - (a < b);
-}
 
 /* All of standard input. */
 static char *read_all(size_t *length) {
@@ -77,14 +53,6 @@ static struct request *requests_of(char *text, size_t length, size_t *count) {
         at = behind + 1 + its;
     }
     return found;
-}
-
-static int connected(int port) {
-    struct sockaddr_in place = {.sin_family = AF_INET, .sin_port = htons(port), .sin_addr.s_addr = htonl(INADDR_LOOPBACK)};
-    int one = 1, it = socket(AF_INET, SOCK_STREAM, 0);
-    if (it < 0 || connect(it, (struct sockaddr *)&place, sizeof place) || setsockopt(it, IPPROTO_TCP, TCP_NODELAY, &one, sizeof one))
-        stop("connect");
-    return it;
 }
 
 static void ask(struct connection *it, const struct request *request) {

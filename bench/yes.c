@@ -4,20 +4,12 @@
      yes doors STREAMS COUNT PORT LIFE PORT LIFE       by the doors of a sender and of a receiver that are there, the sender's first
 
    At a door a put, and the question what became of it, leave together; at the other one a take waits for the message. */
-#define _GNU_SOURCE
-#include <arpa/inet.h>
-#include <errno.h>
+#include "client.h"
 #include <fcntl.h>
-#include <netinet/tcp.h>
 #include <poll.h>
 #include <signal.h>
-#include <stdio.h>
-#include <stdlib.h>
-#include <string.h>
 #include <strings.h>
-#include <sys/socket.h>
 #include <sys/wait.h>
-#include <time.h>
 #include <unistd.h>
 
 enum { MOST_STREAMS = 256, ROOM = 65536, LONGEST_WAIT = 10000 };
@@ -39,22 +31,6 @@ static struct door doors[2];
 /* Of each stream the one at the sender, and behind it the one at the receiver. */
 static struct connection connections[2 * MOST_STREAMS];
 static struct pollfd looked_at[2 * MOST_STREAMS];
-
-static void stop(const char *why) {
-    fprintf(stderr, "yes: %s: %s\n", why, strerror(errno));
-    exit(1);
-}
-
-static long now(void) {
-    struct timespec it;
-    clock_gettime(CLOCK_MONOTONIC, &it);
-    return it.tv_sec * 1000000000L + it.tv_nsec;
-}
-
-static int by_length(const void *one, const void *other) {
-    long a = *(const long *)one, b = *(const long *)other;
-    return (a > b) - (a < b);
-}
 
 static void has_answer(size_t stream) {
     if (done < count)
@@ -121,14 +97,6 @@ static void by_lines(char **command) {
     while (read(output, told, ROOM) > 0)
         ;
     wait(NULL);
-}
-
-static int connected(int port) {
-    struct sockaddr_in place = {.sin_family = AF_INET, .sin_port = htons(port), .sin_addr.s_addr = htonl(INADDR_LOOPBACK)};
-    int one = 1, it = socket(AF_INET, SOCK_STREAM, 0);
-    if (it < 0 || connect(it, (struct sockaddr *)&place, sizeof place) || setsockopt(it, IPPROTO_TCP, TCP_NODELAY, &one, sizeof one))
-        stop("connect");
-    return it;
 }
 
 /* Puts the next message of a stream, or takes it. */
