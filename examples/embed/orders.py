@@ -73,14 +73,15 @@ def start(command):
 def send(orders, journal, peer, command):
     """One life of a host. What an earlier one left is settled before anything is sent."""
     host = start(command)
-    sent = {}
+    sent = set()
 
     def hand_on(stream):
         if new := next(queue, None):
             # First the table: were the line first, and this program killed behind it, the order would be sent again.
             orders.mark(new[0], "sent")
-            sent[stream] = new[0]
-            print(stream, *new[:2], file=host.stdin, flush=True)
+            sent.add(new[0])
+            line = {"stream": stream, "id": str(new[0]), "text": f"{new[0]} {new[1]}"}
+            print(json.dumps(line), file=host.stdin, flush=True)
 
     try:
         # It notes the crash before it: what waited then is gone.
@@ -91,8 +92,11 @@ def send(orders, journal, peer, command):
             hand_on(stream)
         while sent and (line := host.stdout.readline()):
             told = json.loads(line)
+            if told["event"] == "refused":
+                sys.exit(f"order {told.get('id')}: {told['reason']}")
             if told["event"] in ("yes", "no"):
-                orders.mark(sent.pop(told["stream"]), "done" if told["event"] == "yes" else "doubt")
+                orders.mark(int(told["id"]), "done" if told["event"] == "yes" else "doubt")
+                sent.remove(int(told["id"]))
                 hand_on(told["stream"])
     except BrokenPipeError:
         pass

@@ -126,7 +126,12 @@ Output, a line for each message as it is put, and one more, in the same order of
   STREAM ok      it was put
   STREAM yes     it was got
   STREAM no      a host crashed: it may or may not have been got
-With --json: {\"stream\":1,\"event\":\"ok\"}, and so on.
+
+With --json lines come as objects, in any order of their members, and answers are objects:
+  {\"stream\":1,\"id\":\"a\",\"text\":\"TEXT\"}            or \"hex\":\"HEX\" in place of the text
+  {\"stream\":1,\"id\":\"a\",\"event\":\"ok\",\"line\":12}   it was put, by that line of the journal; or yes, no
+  {\"input\":3,\"id\":\"a\",\"event\":\"refused\",\"reason\":\"..\"}   line 3 was not put
+An id may be left out. It has at most 64 bytes, and stands in each answer to its line in this life.
 
 At the end of standard input, and once `amo stop FILE` asks it to, the host takes no more lines, and
 goes on until all is answered, or as long as --wait says. A line that had no `ok` by then was not put.

@@ -1,12 +1,13 @@
 -- Lines are taken, and their messages put, from one moment to a later one.
-use Rattle.std.proofs.Common.{◌≡◌, ◌==◌, if◌then◌else◌, ℕ, Bool, true, false, List, [], ◌∷◌, ◌++◌, Option, Some, None, reverse, refl, sym, ap, ◌∙◌, subst, append_assoc, append-nil}
+use Rattle.std.proofs.Common.{◌≡◌, ◌==◌, if◌then◌else◌, ℕ, Bool, true, false, List, [], ◌∷◌, ◌++◌, Option, Some, None, map, reverse, refl, sym, ap, ◌∙◌, subst, append_assoc, append-nil}
 use Rattle.std.proofs.lemmas.Bool.{eqb-true, true≢false}
 use Rattle.std.proofs.lemmas.List.{reverse-append}
 use Rattle.amo_book.specs.Pass.{PassState, mine}
 use Rattle.amo_live.specs.declared.input.Line.{Line}
 use Rattle.amo_live.specs.declared.lines.Spelling.{Spelling}
+use Rattle.amo_live.specs.declared.named.NamedMessage.{NamedMessage}
 use Rattle.amo_live.specs.Backlog.{Addressed, BacklogState, kept_on, message_on, messages_on}
-use Rattle.amo_live.specs.Client.{AreLines, Fills, InputState, IsPending, Moment, Moves, Serves, Takes, Waits, message_of, messages_of, moment}
+use Rattle.amo_live.specs.Client.{AreLines, Fills, InputState, IsPending, Moment, Moves, Serves, Takes, Waits, message_of, messages_of, moment, unnamed}
 use Rattle.amo_live.specs.Host.{puts_in}
 
 -- no message, and none was put
@@ -14,59 +15,66 @@ pub none_moved : (kept kept' : BacklogState) (v w : PassState) → kept' ≡ kep
 none_moved kept kept' v w still same = record { put = []; mine_is = same; order = λ at. append-nil (kept_on at kept) ∙ ap (kept_on at) (sym still) }
 
 -- one message, which is put where none is kept on its stream
-one_order : (at stream : ℕ) (message : List ℕ) (kept : BacklogState) (here : Bool) → (at == stream) ≡ here → kept_on stream kept ≡ []
+one_order : (at stream : ℕ) (message : NamedMessage) (kept : BacklogState) (here : Bool) → (at == stream) ≡ here → kept_on stream kept ≡ []
     → kept_on at kept ++ (if here then (message ∷ []) else []) ≡ (if here then (message ∷ []) else []) ++ kept_on at kept
 one_order at stream message kept true is none =
     let empty : kept_on at kept ≡ [] = ap (λ s. kept_on s kept) (eqb-true at stream is) ∙ none in
-    ap (λ (l : List (List ℕ)). l ++ message ∷ []) empty ∙ ap (λ (l : List (List ℕ)). message ∷ l) (sym empty)
+    ap (λ (l : List NamedMessage). l ++ message ∷ []) empty ∙ ap (λ (l : List NamedMessage). message ∷ l) (sym empty)
 one_order at stream message kept false is none = append-nil (kept_on at kept)
 
-pub one_moved : (v w : PassState) (stream : ℕ) (message : List ℕ) (kept kept' : BacklogState) → kept_on stream kept ≡ [] → kept' ≡ kept → puts_in (mine w) ≡ (stream, message) ∷ puts_in (mine v) → Moves ((stream, message) ∷ []) kept kept' v w
+pub one_moved : (v w : PassState) (stream : ℕ) (message : NamedMessage) (kept kept' : BacklogState) → kept_on stream kept ≡ [] → kept' ≡ kept → puts_in (mine w) ≡ (stream, message.message) ∷ puts_in (mine v) → Moves ((stream, message) ∷ []) kept kept' v w
 one_moved v w stream message kept kept' none still put = record {
   put = (stream, message) ∷ [];
   mine_is = put;
-  order = λ at. ap (λ (l : List (List ℕ)). kept_on at kept ++ l) (append-nil (message_on at (stream, message)))
-      ∙ (one_order at stream message kept (at == stream) refl none ∙ (ap (λ (l : List (List ℕ)). l ++ kept_on at kept) (sym (append-nil (message_on at (stream, message)))) ∙ ap (λ (k : BacklogState). messages_on at ((stream, message) ∷ []) ++ kept_on at k) (sym still)));
+  order = λ at. ap (λ (l : List NamedMessage). kept_on at kept ++ l) (append-nil (message_on at (stream, message)))
+      ∙ (one_order at stream message kept (at == stream) refl none ∙ (ap (λ (l : List NamedMessage). l ++ kept_on at kept) (sym (append-nil (message_on at (stream, message)))) ∙ ap (λ (k : BacklogState). messages_on at ((stream, message) ∷ []) ++ kept_on at k) (sym still)));
 }
 
 -- or is kept behind those that are
-pub one_kept : (v w : PassState) (stream : ℕ) (message back : List ℕ) (kept kept' : BacklogState) → back ≡ message → ((at : ℕ) → kept_on at kept' ≡ kept_on at kept ++ message_on at (stream, back)) → puts_in (mine w) ≡ puts_in (mine v) → Moves ((stream, message) ∷ []) kept kept' v w
+pub one_kept : (v w : PassState) (stream : ℕ) (message back : NamedMessage) (kept kept' : BacklogState) → back ≡ message → ((at : ℕ) → kept_on at kept' ≡ kept_on at kept ++ message_on at (stream, back)) → puts_in (mine w) ≡ puts_in (mine v) → Moves ((stream, message) ∷ []) kept kept' v w
 one_kept v w stream message back kept kept' is keeps same = record {
   put = [];
   mine_is = same;
-  order = λ at. ap (λ (l : List (List ℕ)). kept_on at kept ++ l) (append-nil (message_on at (stream, message))) ∙ (ap (λ (m : List ℕ). kept_on at kept ++ message_on at (stream, m)) (sym is) ∙ sym (keeps at));
+  order = λ at. ap (λ (l : List NamedMessage). kept_on at kept ++ l) (append-nil (message_on at (stream, message))) ∙ (ap (λ (m : NamedMessage). kept_on at kept ++ message_on at (stream, m)) (sym is) ∙ sym (keeps at));
 }
 
 -- the first that is kept on a stream is put
-pub first_moved : (v w : PassState) (stream : ℕ) (message : List ℕ) (kept kept' : BacklogState) → ((at : ℕ) → kept_on at kept ≡ message_on at (stream, message) ++ kept_on at kept') → puts_in (mine w) ≡ (stream, message) ∷ puts_in (mine v) → Moves [] kept kept' v w
+pub first_moved : (v w : PassState) (stream : ℕ) (message : NamedMessage) (kept kept' : BacklogState) → ((at : ℕ) → kept_on at kept ≡ message_on at (stream, message) ++ kept_on at kept') → puts_in (mine w) ≡ (stream, message.message) ∷ puts_in (mine v) → Moves [] kept kept' v w
 first_moved v w stream message kept kept' first put = record {
   put = (stream, message) ∷ [];
   mine_is = put;
-  order = λ at. append-nil (kept_on at kept) ∙ (first at ∙ ap (λ (l : List (List ℕ)). l ++ kept_on at kept') (sym (append-nil (message_on at (stream, message)))));
+  order = λ at. append-nil (kept_on at kept) ∙ (first at ∙ ap (λ (l : List NamedMessage). l ++ kept_on at kept') (sym (append-nil (message_on at (stream, message)))));
 }
 
 -- or is kept as it was
-pub first_kept : (v w : PassState) (stream : ℕ) (message back : List ℕ) (kept taken kept' : BacklogState) → back ≡ message → ((at : ℕ) → kept_on at kept ≡ message_on at (stream, message) ++ kept_on at taken)
+pub first_kept : (v w : PassState) (stream : ℕ) (message back : NamedMessage) (kept taken kept' : BacklogState) → back ≡ message → ((at : ℕ) → kept_on at kept ≡ message_on at (stream, message) ++ kept_on at taken)
     → ((at : ℕ) → kept_on at kept' ≡ message_on at (stream, back) ++ kept_on at taken) → puts_in (mine w) ≡ puts_in (mine v) → Moves [] kept kept' v w
 first_kept v w stream message back kept taken kept' is first again same = record {
   put = [];
   mine_is = same;
-  order = λ at. append-nil (kept_on at kept) ∙ (first at ∙ (ap (λ (m : List ℕ). message_on at (stream, m) ++ kept_on at taken) (sym is) ∙ sym (again at)));
+  order = λ at. append-nil (kept_on at kept) ∙ (first at ∙ (ap (λ (m : NamedMessage). message_on at (stream, m) ++ kept_on at taken) (sym is) ∙ sym (again at)));
 }
 
 on_append : (at : ℕ) (some more : List Addressed) → messages_on at (some ++ more) ≡ messages_on at some ++ messages_on at more
 on_append at [] more = refl
-on_append at (one ∷ some) more = ap (λ (l : List (List ℕ)). message_on at one ++ l) (on_append at some more) ∙ sym (append_assoc (message_on at one) (messages_on at some) (messages_on at more))
+on_append at (one ∷ some) more = ap (λ (l : List NamedMessage). message_on at one ++ l) (on_append at some more) ∙ sym (append_assoc (message_on at one) (messages_on at some) (messages_on at more))
+
+unnamed_append : (some more : List Addressed) → map unnamed (some ++ more) ≡ map unnamed some ++ map unnamed more
+unnamed_append [] more = refl
+unnamed_append (one ∷ some) more = ap (λ (l : List (ℕ × List ℕ)). unnamed one ∷ l) (unnamed_append some more)
 
 -- more messages
 pub moves_on : (u v w : PassState) (some more : List Addressed) (first second third : BacklogState) → Moves some first second u v → Moves more second third v w → Moves (some ++ more) first third u w
 moves_on u v w some more first second third one two = record {
   put = one.put ++ two.put;
-  mine_is = two.mine_is ∙ (ap (λ (l : List Addressed). reverse two.put ++ l) one.mine_is ∙ (sym (append_assoc (reverse two.put) (reverse one.put) (puts_in (mine u))) ∙ ap (λ (l : List Addressed). l ++ puts_in (mine u)) (sym (reverse-append one.put two.put))));
-  order = λ at. ap (λ (l : List (List ℕ)). kept_on at first ++ l) (on_append at some more) ∙ (sym (append_assoc (kept_on at first) (messages_on at some) (messages_on at more))
-      ∙ (ap (λ (l : List (List ℕ)). l ++ messages_on at more) (one.order at) ∙ (append_assoc (messages_on at one.put) (kept_on at second) (messages_on at more)
-      ∙ (ap (λ (l : List (List ℕ)). messages_on at one.put ++ l) (two.order at) ∙ (sym (append_assoc (messages_on at one.put) (messages_on at two.put) (kept_on at third))
-      ∙ ap (λ (l : List (List ℕ)). l ++ kept_on at third) (sym (on_append at one.put two.put)))))));
+  mine_is =
+      let first = map unnamed one.put in let later = map unnamed two.put in
+      two.mine_is ∙ (ap (λ (l : List (ℕ × List ℕ)). reverse later ++ l) one.mine_is ∙ (sym (append_assoc (reverse later) (reverse first) (puts_in (mine u)))
+      ∙ (ap (λ (l : List (ℕ × List ℕ)). l ++ puts_in (mine u)) (sym (reverse-append first later)) ∙ ap (λ (l : List (ℕ × List ℕ)). reverse l ++ puts_in (mine u)) (sym (unnamed_append one.put two.put)))));
+  order = λ at. ap (λ (l : List NamedMessage). kept_on at first ++ l) (on_append at some more) ∙ (sym (append_assoc (kept_on at first) (messages_on at some) (messages_on at more))
+      ∙ (ap (λ (l : List NamedMessage). l ++ messages_on at more) (one.order at) ∙ (append_assoc (messages_on at one.put) (kept_on at second) (messages_on at more)
+      ∙ (ap (λ (l : List NamedMessage). messages_on at one.put ++ l) (two.order at) ∙ (sym (append_assoc (messages_on at one.put) (messages_on at two.put) (kept_on at third))
+      ∙ ap (λ (l : List NamedMessage). l ++ kept_on at third) (sym (on_append at one.put two.put)))))));
 }
 
 messages_append : (puts : Bool) (streams : ℕ) (some more : List Line) → messages_of puts streams (some ++ more) ≡ messages_of puts streams some ++ messages_of puts streams more

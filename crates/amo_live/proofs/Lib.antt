@@ -9,6 +9,7 @@ pub mod Onwards
 pub mod Performing
 pub mod OwnWords
 pub mod Opens
+pub mod Owing
 pub mod Suiting
 pub mod Readers
 pub mod Repeating

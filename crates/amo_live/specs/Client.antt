@@ -1,5 +1,5 @@
 -- A client's lines, and what becomes of the messages in them.
-use Rattle.std.specs.Prelude.{◌≡◌, ◌≢◌, ℕ, ◌<◌, ◌^◌, Bool, true, false, not, ◌&&◌, ◌||◌, nat_le, ◌==◌, if◌then◌else◌, Option, Some, None, Result, Ok, Err, List, [], ◌∷◌, ◌++◌, length, reverse}
+use Rattle.std.specs.Prelude.{◌≡◌, ◌≢◌, ℕ, ◌<◌, ◌^◌, Bool, true, false, not, ◌&&◌, ◌||◌, nat_le, ◌==◌, if◌then◌else◌, Option, Some, None, Result, Ok, Err, List, [], ◌∷◌, ◌++◌, length, map, reverse}
 use Rattle.std.specs.Fmt.{decimal}
 use Rattle.amo_packet.specs.Stream.{IsStream}
 use Rattle.amo_text.specs.Hexadecimal.{hex}
@@ -11,6 +11,8 @@ use Rattle.amo_live.specs.declared.lines.LineFault.TheVariants.{NoStream, Stream
 use Rattle.amo_live.specs.declared.lines.Spelling.{Spelling}
 use Rattle.amo_live.specs.declared.input.Line.{Line}
 use Rattle.amo_live.specs.declared.input.Line.TheVariants.{Put, Unread}
+use Rattle.amo_live.specs.declared.named.NamedMessage.{NamedMessage}
+use Rattle.amo_live.specs.Object.{Name, Names, ReadsObject}
 use Rattle.amo_live.specs.Backlog.{Addressed, BacklogState, kept_on, messages_on}
 use Rattle.amo_live.specs.Host.{puts_in}
 
@@ -37,6 +39,7 @@ Blames spelling text (Stream number) = (rest : List ℕ) × (text ≡ decimal nu
 Blames spelling text (TooLong count) = (stream : ℕ) × (rest : List ℕ) × (text ≡ decimal stream ++ 32 ∷ rest) × (spelling.hex ≡ false) × (count ≡ length rest) × (1024 < count)
 Blames spelling text NoHex = (stream : ℕ) × (rest : List ℕ) × (text ≡ decimal stream ++ 32 ∷ rest) × (spelling.hex ≡ true) × ((m : List ℕ) → IsMessage m → rest ≢ hex m)
 Blames spelling text TooLongLine = 4096 < length text
+Blames spelling text _ = ⊥
 
 -- the text is no stream and message, for this reason
 pub record IsNoPut (spelling : Spelling) (text : List ℕ) (fault : LineFault) : Type 0 where
@@ -44,14 +47,31 @@ pub record IsNoPut (spelling : Spelling) (text : List ℕ) (fault : LineFault) :
   pub blamed : Blames spelling text fault
 
 -- what a line's text reads as, without its end: a message on a stream, or nothing
-abbrev pub ReadsAs : Spelling → List ℕ → Result Addressed LineFault → Type 0
-ReadsAs spelling text (Ok (stream, message)) = IsPut spelling text stream message
-ReadsAs spelling text (Err fault) = IsNoPut spelling text fault
+abbrev pub ReadsPlain : Spelling → List ℕ → Result (ℕ × List ℕ) LineFault → Type 0
+ReadsPlain spelling text (Ok (stream, message)) = IsPut spelling text stream message
+ReadsPlain spelling text (Err fault) = IsNoPut spelling text fault
 
--- what a line was read as
-abbrev pub read_of : Line → Result Addressed LineFault
-read_of (Put stream message) = Ok (stream, message)
-read_of (Unread fault) = Err fault
+-- the same where it is a JSON object, or not
+abbrev pub ReadsBy : Bool → Spelling → List ℕ → Result (ℕ × List ℕ) LineFault → Type 0
+ReadsBy true spelling text read = ReadsObject text read
+ReadsBy false spelling text read = ReadsPlain spelling text read
+
+abbrev pub ReadsAs : Spelling → List ℕ → Result (ℕ × List ℕ) LineFault → Type 0
+ReadsAs spelling text read = ReadsBy spelling.json spelling text read
+
+-- the id of a line that reads so, where it is a JSON object; else it has none
+abbrev pub NamesBy : Bool → List ℕ → Result (ℕ × List ℕ) LineFault → Name → Type 0
+NamesBy true text read id = Names text read id
+NamesBy false text read id = id ≡ None
+
+-- what a line was read as, and its id
+abbrev pub read_of : Line → Result (ℕ × List ℕ) LineFault
+read_of (Put stream named) = Ok (stream, named.message)
+read_of (Unread fault id) = Err fault
+
+abbrev pub id_by : Line → Name
+id_by (Put stream named) = named.id
+id_by (Unread fault id) = id
 
 -- the text is that of these lines, each with its end
 abbrev pub AreLines : Spelling → List ℕ → List Line → Type 0
@@ -79,6 +99,15 @@ abbrev pub Takes : Spelling → InputState → InputState → Option Line → Ty
 Takes spelling i j None = (text : List ℕ) → IsPending i text → Lacks 10 text × IsPending j text
 Takes spelling i j (Some line) = (text : List ℕ) → IsPending i text → (front more : List ℕ) × (text ≡ front ++ 10 ∷ more) × Lacks 10 front × ReadsAs spelling front (read_of line) × IsPending j more
 
+-- the line that was taken has its own id: that of its text, and none where what is gone in front made it too long
+pub record IsNamed (spelling : Spelling) (i : InputState) (line : Line) : Type 0 where
+  pub front : List ℕ
+  pub rest : List ℕ
+  pub stands : i.rest ≡ front ++ 10 ∷ rest
+  pub lacks : Lacks 10 front
+  pub own : (i.skips ≡ false) → NamesBy spelling.json front (read_of line) (id_by line)
+  pub none : (i.skips ≡ true) → id_by line ≡ None
+
 -- what a reader brought stands behind what came before, and nothing else does
 abbrev pub Fills : InputState → InputState → List ℕ → Type 0
 Fills i j bytes = (text : List ℕ) → IsPending i text → IsPending j (text ++ bytes)
@@ -98,19 +127,28 @@ has streams stream = nat_le 1 stream && nat_le stream streams
 
 -- the message that is to be put by a line, where lines are put and there is such a stream
 abbrev pub message_of : Bool → ℕ → Line → List Addressed
-message_of puts streams (Put stream message) = if puts && has streams stream then ((stream, message) ∷ []) else []
-message_of puts streams (Unread fault) = []
+message_of puts streams (Put stream named) = if puts && has streams stream then ((stream, named) ∷ []) else []
+message_of puts streams (Unread fault id) = []
 
 -- the messages that are to be put by lines
 abbrev pub messages_of : Bool → ℕ → List Line → List Addressed
 messages_of puts streams [] = []
 messages_of puts streams (line ∷ lines) = message_of puts streams line ++ messages_of puts streams lines
 
+-- a message on a stream, whatever its line is called
+abbrev pub unnamed : Addressed → ℕ × List ℕ
+unnamed (stream, named) = (stream, named.message)
+
+-- a message was put on a stream, once; or it came back with its id, and nothing was put
+abbrev pub PutsNamed : PassState → PassState → ℕ → NamedMessage → Option NamedMessage → Type 0
+PutsNamed v w stream named None = puts_in (mine w) ≡ (stream, named.message) ∷ puts_in (mine v)
+PutsNamed v w stream named (Some back) = (back ≡ named) × (puts_in (mine w) ≡ puts_in (mine v))
+
 -- On each stream the messages that were kept, and then those of these lines, are those that were put meanwhile, in their order, and then those that are
--- kept now. So a message that is not taken is the next to be put on its stream, none is put twice or left out, and no stream waits for another.
+-- kept now, each with the id of its line. So a message that is not taken is the next to be put on its stream, none is put twice or left out, and no stream waits for another.
 pub record Moves (messages : List Addressed) (kept kept' : BacklogState) (v w : PassState) : Type 0 where
   pub put : List Addressed
-  pub mine_is : puts_in (mine w) ≡ reverse put ++ puts_in (mine v)
+  pub mine_is : puts_in (mine w) ≡ reverse (map unnamed put) ++ puts_in (mine v)
   pub order : (stream : ℕ) → kept_on stream kept ++ messages_on stream messages ≡ messages_on stream put ++ kept_on stream kept'
 
 -- what a host and its clients have at a moment: what came and was not taken, the messages that are kept, and what the host did

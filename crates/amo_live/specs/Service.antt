@@ -9,6 +9,7 @@ use Rattle.amo_journal.specs.declared.version.Version.TheVariants.{One, Two}
 use Rattle.amo_book.specs.Pass.{PassState, mine}
 use Rattle.amo_host.specs.AtStream.{AreCalm}
 use Rattle.amo_live.specs.Host.{puts_in}
+use Rattle.amo_live.specs.Shown.{Told}
 use Rattle.amo_live.specs.declared.lines.Spelling.{Spelling}
 use Rattle.amo_live.specs.declared.service.Service.{Service}
 use Rattle.amo_live.specs.declared.service.Setup.{Setup}
@@ -17,9 +18,9 @@ use Rattle.amo_live.specs.declared.service.Setup.{Setup}
 abbrev pub streams_of : {L S W : Type 0} → Service L S W → ℕ
 streams_of service = length service.lanes.items
 
--- what is to be shown to its clients
-abbrev pub shown_by : {L S W : Type 0} → Service L S W → List ℕ
-shown_by service = service.shown.items
+-- what is to be shown to its clients, and the ids that answers to come will have
+abbrev pub shown_by : {L S W : Type 0} → Service L S W → Told
+shown_by service = record { text = service.shown.items; owed = service.ids }
 
 -- how many messages were got
 abbrev pub got_by : {L S W : Type 0} → Service L S W → ℕ

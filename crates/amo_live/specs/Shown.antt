@@ -1,5 +1,5 @@
 -- What clients are shown.
-use Rattle.std.specs.Prelude.{◌≡◌, ◌≢◌, ◌⊎◌, ℕ, zero, suc, Bool, true, false, not, ◌==◌, ◌||◌, ◌&&◌, if◌then◌else◌, Option, List, [], ◌∷◌, ◌++◌, codes}
+use Rattle.std.specs.Prelude.{◌≡◌, ◌≢◌, ◌⊎◌, ℕ, zero, suc, Bool, true, false, not, ◌==◌, ◌||◌, ◌&&◌, nat_lt, if◌then◌else◌, Option, Some, None, List, [], ◌∷◌, ◌++◌, codes, get_or, slice_set}
 use Rattle.std.specs.Char.{is_ascii_control, is_control}
 use Rattle.std.specs.List.{flat_map, list_any}
 use Rattle.std.specs.Str.{chars, is_utf8}
@@ -18,45 +18,64 @@ use Rattle.amo_text.specs.Hexadecimal.{hex}
 use Rattle.amo_world.specs.declared.event.Event.{Event}
 use Rattle.amo_world.specs.History.{Extends, stream_after}
 use Rattle.amo_book.specs.Pass.{PassState, mine}
+use Rattle.amo_live.specs.Backlog.{kept_on}
+use Rattle.amo_live.specs.Object.{Name}
 use Rattle.amo_live.specs.declared.lines.Spelling.{Spelling}
 use Rattle.amo_live.specs.declared.lines.Word.{Word}
 use Rattle.amo_live.specs.declared.lines.Word.TheVariants as word
 
--- what is known of a message put to a stream, in a word
+-- what became of a message put to a stream, in a word
 abbrev pub word_text : Word → List ℕ
-word_text word.Ok = codes "ok"
 word_text word.Yes = codes "yes"
 word_text word.No = codes "no"
 
+-- a byte of a text, as an object spells it
+abbrev pub escaped : ℕ → List ℕ
+escaped byte = if (byte == 34) || (byte == 92) then (92 ∷ byte ∷ []) else (if nat_lt byte 32 then codes "\\u00" ++ hex (byte ∷ []) else (byte ∷ []))
+
+-- the member that tells an id, if there is one
+abbrev pub id_member : Name → List ℕ
+id_member None = []
+id_member (Some id) = codes ",\"id\":\"" ++ flat_map escaped id ++ codes "\""
+
 -- the front of an object about a stream, up to what happened
-abbrev pub object_front : ℕ → List ℕ
-object_front stream = codes "{\"stream\":" ++ decimal stream ++ codes ",\"event\":\""
+abbrev pub object_front : ℕ → Name → List ℕ
+object_front stream id = codes "{\"stream\":" ++ decimal stream ++ id_member id ++ codes ",\"event\":\""
 
--- the line of such a word
-abbrev pub word_line : Spelling → ℕ → Word → List ℕ
-word_line spelling stream w = if spelling.json then object_front stream ++ word_text w ++ codes "\"}\n" else (decimal stream ++ codes " " ++ word_text w ++ codes "\n")
+-- the line that tells that a message was put, by this line of the journal
+abbrev pub ok_line : Spelling → ℕ → Name → ℕ → List ℕ
+ok_line spelling stream id line = if spelling.json then object_front stream id ++ codes "ok\",\"line\":" ++ decimal line ++ codes "}\n" else (decimal stream ++ codes " ok\n")
 
--- the same line for each of so many messages
-abbrev pub word_lines : Spelling → ℕ → Word → ℕ → List ℕ
-word_lines spelling stream w zero = []
-word_lines spelling stream w (suc n) = word_lines spelling stream w n ++ word_line spelling stream w
+-- the line that tells what became of one
+abbrev pub word_line : Spelling → ℕ → Name → Word → List ℕ
+word_line spelling stream id w = if spelling.json then object_front stream id ++ word_text w ++ codes "\"}\n" else (decimal stream ++ codes " " ++ word_text w ++ codes "\n")
+
+-- a client's line that is none: its id, its number and why
+pub record Refused : Type 0 where
+  pub id : Name
+  pub input : ℕ
+  pub reason : List ℕ
+
+-- the front of the object that tells so, up to what happened
+abbrev pub refused_front : ℕ → Name → List ℕ
+refused_front input id = codes "{\"input\":" ++ decimal input ++ id_member id
+
+-- the line that tells so
+abbrev pub refused_line : Refused → List ℕ
+refused_line refused = refused_front refused.input refused.id ++ codes ",\"event\":\"refused\",\"reason\":\"" ++ flat_map escaped refused.reason ++ codes "\"}\n"
 
 -- the word about messages that were got, or of which that is not known
 abbrev pub word_of : Bool → Word
 word_of true = word.Yes
 word_of false = word.No
 
--- a byte of a text, as an object spells it
-abbrev pub escaped : ℕ → List ℕ
-escaped byte = if (byte == 34) || (byte == 92) then (92 ∷ byte ∷ []) else (byte ∷ [])
-
 -- the line of a message that is shown as a text
 abbrev pub text_line : Spelling → ℕ → List ℕ → List ℕ
-text_line spelling stream message = if spelling.json then object_front stream ++ codes "got\",\"text\":\"" ++ flat_map escaped message ++ codes "\"}\n" else (decimal stream ++ codes " " ++ message ++ codes "\n")
+text_line spelling stream message = if spelling.json then object_front stream None ++ codes "got\",\"text\":\"" ++ flat_map escaped message ++ codes "\"}\n" else (decimal stream ++ codes " " ++ message ++ codes "\n")
 
 -- the line of a message that is shown in HEX
 abbrev pub hex_line : Spelling → ℕ → List ℕ → List ℕ
-hex_line spelling stream message = if spelling.json then object_front stream ++ codes "got\",\"hex\":\"" ++ hex message ++ codes "\"}\n" else (decimal stream ++ codes " 0x" ++ hex message ++ codes "\n")
+hex_line spelling stream message = if spelling.json then object_front stream None ++ codes "got\",\"hex\":\"" ++ hex message ++ codes "\"}\n" else (decimal stream ++ codes " 0x" ++ hex message ++ codes "\n")
 
 -- whether a character is not shown as it is: on a line a control character, but for a tab; in an object the same of the characters of one byte, and a tab
 abbrev pub is_hidden : Bool → ℕ → Bool
@@ -70,18 +89,89 @@ is_text json message = is_utf8 message && not (list_any (is_hidden json) (chars 
 abbrev pub message_line : Spelling → ℕ → List ℕ → List ℕ
 message_line spelling stream message = if is_text spelling.json message then text_line spelling stream message else hex_line spelling stream message
 
--- what an act with a reply shows: that a message was put, the message that was got, or whether the last one was; nothing else
-abbrev pub TellsReply : Spelling → ℕ → Act → Reply → List ℕ → Type 0
-TellsReply spelling stream (Put m) Ok line = line ≡ word_line spelling stream word.Ok
-TellsReply spelling stream Get (Got m) line = line ≡ message_line spelling stream m
-TellsReply spelling stream Ack Yes line = line ≡ word_line spelling stream word.Yes
-TellsReply spelling stream Ack No line = line ≡ word_line spelling stream word.No
-TellsReply spelling stream _ _ line = line ≡ []
+-- the ids of those messages of each stream that were put and have no answer, from stream 1 on, the first that was put first
+abbrev pub Owed : Type 0
+Owed = List (List Name)
+
+-- what is to be shown to clients, and the ids that answers to come will have
+pub record Told : Type 0 where
+  pub text : List ℕ
+  pub owed : Owed
+
+-- one more is owed an answer, behind those of its stream
+abbrev pub owing : ℕ → Name → Owed → Owed
+owing zero id owed = owed
+owing (suc place) id owed = slice_set owed place (get_or owed place [] ++ id ∷ [])
+
+-- the id of a stream's first; where none is owed an answer, there is none
+abbrev pub first_of : List Name → Name
+first_of [] = None
+first_of (id ∷ ids) = id
+
+abbrev pub first_id : ℕ → Owed → Name
+first_id stream owed = first_of (kept_on stream owed)
+
+-- that one has its answer
+abbrev pub without_first : Owed → ℕ → List Name → Owed
+without_first owed place [] = owed
+without_first owed place (id ∷ ids) = slice_set owed place ids
+
+abbrev pub answered : ℕ → Owed → Owed
+answered zero owed = owed
+answered (suc place) owed = without_first owed place (get_or owed place [])
+
+-- this line more is shown
+abbrev pub told_line : List ℕ → Told → Told
+told_line line told = record told { text = told.text ++ line }
+
+-- a message with this id was put on a stream by this line of the journal: so it is told, and, where lines are objects, its answer to come will have the id
+abbrev pub told_put : Spelling → ℕ → Name → ℕ → Told → Told
+told_put spelling stream id line told = record { text = told.text ++ ok_line spelling stream id line; owed = if spelling.json then owing stream id told.owed else told.owed }
+
+-- a stream's first message that has no answer has this one
+abbrev pub told_answer : Spelling → ℕ → Word → Told → Told
+told_answer spelling stream w told = record { text = told.text ++ word_line spelling stream (first_id stream told.owed) w; owed = answered stream told.owed }
+
+-- and so have so many
+abbrev pub told_answers : Spelling → ℕ → Word → ℕ → Told → Told
+told_answers spelling stream w zero told = told
+told_answers spelling stream w (suc n) told = told_answer spelling stream w (told_answers spelling stream w n told)
+
+-- a line of a client was refused
+abbrev pub told_refused : Refused → Told → Told
+told_refused refused told = told_line (refused_line refused) told
+
+-- some were
+abbrev pub IsRefusing : Told → Told → Type 0
+IsRefusing old new = (refused : List Refused) × (new ≡ told_line (flat_map refused_line refused) old)
+
+-- what is told of an act: nothing; that a message was put; a message that was got; what became of one
+pub data Said : Type 0 where
+  says_nothing : Said
+  says_put : Said
+  says_message : List ℕ → Said
+  says_answer : Word → Said
+
+-- what is told of an act with a reply
+abbrev pub said_of : Act → Reply → Said
+said_of (Put m) Ok = says_put
+said_of Get (Got m) = says_message m
+said_of Ack Yes = says_answer word.Yes
+said_of Ack No = says_answer word.No
+said_of _ _ = says_nothing
+
+-- It is told so: of a put by some line of the journal and with the id that it came with, and of an answer with the id of the stream's first message that had
+-- none.
+abbrev pub Says : Spelling → ℕ → Said → Told → Told → Type 0
+Says spelling stream says_nothing old new = new ≡ old
+Says spelling stream says_put old new = (id : Name) × (line : ℕ) × (new ≡ told_put spelling stream id line old)
+Says spelling stream (says_message m) old new = new ≡ told_line (message_line spelling stream m) old
+Says spelling stream (says_answer w) old new = new ≡ told_answer spelling stream w old
 
 -- what a packet tells of so many messages: an ack what it says of them, a line for each; any other nothing
-abbrev pub ack_lines : Spelling → ℕ → OwnedBody → ℕ → List ℕ
-ack_lines spelling stream (packet.Ack id got) messages = word_lines spelling stream (word_of got) messages
-ack_lines spelling stream _ messages = []
+abbrev pub told_ack : Spelling → ℕ → OwnedBody → ℕ → Told → Told
+told_ack spelling stream (packet.Ack id got) messages told = told_answers spelling stream (word_of got) messages told
+told_ack spelling stream _ messages told = told
 
 -- In what was seen an event delivered this packet, which is an ack that ended a handshake: after all that happened before, the sender of its stream sent
 -- messages under the identifier that the ack names.
@@ -95,35 +185,41 @@ pub record EndsHandshake (seen : List Event) (e : Event) (body : OwnedBody) : Ty
   pub sent : (stream_after e.stream past).sender.state.mode ≡ Send id load
 
 -- a packet was delivered that told of messages: it ended their handshake, if it told of any
-pub record TellsAck (seen : List Event) (spelling : Spelling) (e : Event) (line : List ℕ) : Type 0 where
+pub record TellsAck (seen : List Event) (spelling : Spelling) (e : Event) (old new : Told) : Type 0 where
   pub ack : OwnedPacket
   pub word : ℕ
   pub delivered : e.act ≡ Deliver ack word
   pub messages : ℕ
-  pub lines : line ≡ ack_lines spelling e.stream ack.body messages
+  pub lines : new ≡ told_ack spelling e.stream ack.body messages old
   pub ends : messages ≢ 0 → EndsHandshake seen e ack.body
 
--- what an event shows: what its reply tells, or an ack that was delivered
-abbrev pub Tells : List Event → Spelling → Event → List ℕ → Type 0
-Tells seen spelling e line = TellsReply spelling e.stream e.act e.reply line ⊎ TellsAck seen spelling e line
+-- what an event tells: what its reply does, or an ack that was delivered
+abbrev pub Tells : List Event → Spelling → Event → Told → Told → Type 0
+Tells seen spelling e old new = Says spelling e.stream (said_of e.act e.reply) old new ⊎ TellsAck seen spelling e old new
 
--- what events show, newest first, in the order in which they happened
-abbrev pub Shows : List Event → Spelling → List Event → List ℕ → Type 0
-Shows seen spelling [] text = text ≡ []
-Shows seen spelling (e ∷ past) text = (front line : List ℕ) × (text ≡ front ++ line) × Tells seen spelling e line × Shows seen spelling past front
+-- what events tell, newest first, in the order in which they happened, and between them which lines were refused
+abbrev pub Shows : List Event → Spelling → List Event → Told → Told → Type 0
+Shows seen spelling [] old new = IsRefusing old new
+Shows seen spelling (e ∷ past) old new = (before : Told) × (after : Told) × Shows seen spelling past old before × Tells seen spelling e before after × IsRefusing after new
 
--- between two states of a pass, which has seen more since, what its events show was added to what was shown, and nothing else
-pub record ShowsMore (spelling : Spelling) (v w : PassState) (old new : List ℕ) : Type 0 where
+-- between two states of a pass, which has seen more since, what its events tell was added to what was shown, and nothing else but lines that were refused
+pub record ShowsMore (spelling : Spelling) (v w : PassState) (old new : Told) : Type 0 where
   pub events : List Event
-  pub text : List ℕ
   pub mine_is : mine w ≡ events ++ mine v
   pub extends : Extends w.seen v.seen
-  pub shown_is : new ≡ old ++ text
-  pub shows : Shows w.seen spelling events text
+  pub shows : Shows w.seen spelling events old new
+
+-- behind what was shown before
+abbrev pub behind : List ℕ → Told → Told
+behind front told = record told { text = front ++ told.text }
 
 -- Between two states of a pass a client was shown some of what was to be shown: what it was shown, and then what is to be shown now, is what was to be
 -- shown before and what the events show.
-pub record IsShown (spelling : Spelling) (v w : PassState) (old new : List ℕ) (before after : Option (List ℕ)) : Type 0 where
+pub record IsShown (spelling : Spelling) (v w : PassState) (old new : Told) (before after : Option (List ℕ)) : Type 0 where
   pub written : List ℕ
   pub appends : Appends before after written
-  pub shows : ShowsMore spelling v w old (written ++ new)
+  pub shows : ShowsMore spelling v w old (behind written new)
+
+-- what is told begins with the put of a message that has this id, by this line of the journal
+abbrev pub BeginsWithPut : Spelling → ℕ → Name → ℕ → Told → Told → Type 0
+BeginsWithPut spelling stream id line old new = (more : List ℕ) × (new.text ≡ old.text ++ (ok_line spelling stream id line ++ more))

@@ -2,7 +2,7 @@
 ghost use Rattle.std.specs.Prelude.{◌≡◌, ◌+◌, ◌<◌, ℕ, [], ◌++◌, false, IfOk, IfSome, IfNone, OnOk, length};
 ghost use Rattle.amo_live.specs.Backlog.{kept_on, message_on};
 
-use amo_packet::Message;
+use crate::NamedMessage;
 use std::alloc::{AllocError, Global};
 use std::collections::VecDeque;
 use std::marker::Model;
@@ -13,7 +13,7 @@ const MOST: usize = 1024;
 /// Messages that wait, on each stream in the order in which they came. Contracts see the messages of each stream.
 #[derive(Drop)]
 pub struct Backlog {
-    streams: Vec<VecDeque<Message>>,
+    streams: Vec<VecDeque<NamedMessage>>,
     count: usize,
 }
 
@@ -72,7 +72,7 @@ impl Backlog {
     }
 
     /// Takes out the first that waits on this stream, if one does.
-    pub fn take(&mut self, stream: u32) -> Option<Message>
+    pub fn take(&mut self, stream: u32) -> Option<NamedMessage>
         ensures some { IfSome result (λ message. (at : ℕ) → kept_on at self.old ≡ message_on at (stream, message) ++ kept_on at self.new) }
         ensures none { IfNone result (self.new ≡ self.old) }
     {
@@ -83,7 +83,7 @@ impl Backlog {
     }
 
     /// It waits again on this stream, in front of those that do. It is refused, as memory is, where there is no such stream.
-    pub fn put_back(&mut self, stream: u32, message: Message) -> Result<(), AllocError>
+    pub fn put_back(&mut self, stream: u32, message: NamedMessage) -> Result<(), AllocError>
         ensures { OnOk result ((at : ℕ) → kept_on at self.new ≡ message_on at (stream, message) ++ kept_on at self.old) }
     {
         let Some(place) = self.place_of(stream) else {
@@ -95,7 +95,7 @@ impl Backlog {
     }
 
     /// It waits on this stream, behind those that do. It is refused, as memory is, where there is no such stream.
-    pub fn keep(&mut self, stream: u32, message: Message) -> Result<(), AllocError>
+    pub fn keep(&mut self, stream: u32, message: NamedMessage) -> Result<(), AllocError>
         ensures { OnOk result ((at : ℕ) → kept_on at self.new ≡ kept_on at self.old ++ message_on at (stream, message)) }
     {
         let Some(place) = self.place_of(stream) else {

@@ -1,11 +1,13 @@
 //! A client's lines, as a reader brings them. Only whole lines are handed on: a client that dies in mid-line has not said what it wanted.
-ghost use Rattle.std.specs.Prelude.{◌≡◌, List, ℕ, [], IfOk, OnOk, true, false, Err, if◌then◌else◌};
+ghost use Rattle.std.specs.Prelude.{◌≡◌, List, ℕ, [], IfOk, IfSome, OnOk, true, false, Err, None, if◌then◌else◌};
 ghost use Rattle.std.specs.Io.KnownBytes.{Consumes};
 ghost use Rattle.amo_text.specs.Line.{Lacks};
-ghost use Rattle.amo_live.specs.Client.{Fills, IsPending, Takes, is_torn, read_of};
+ghost use Rattle.amo_live.specs.Client.{Fills, IsNamed, IsPending, Takes, id_by, is_torn, read_of};
 ghost use Rattle.amo_live.specs.declared.lines.LineFault.TheVariants.{TooLongLine};
 
-use crate::lines::{LineFault, Spelling, read_put};
+use crate::NamedMessage;
+use crate::id::Id;
+use crate::lines::{LineFault, Spelling, read_line};
 use amo_packet::Message;
 use amo_text::next_line;
 use std::alloc::{AllocError, Global};
@@ -23,9 +25,9 @@ const LONGEST_LINE: usize = 4096;
 #[derive(Drop)]
 pub enum Line {
     /// A message to be put on a stream.
-    Put(u32, Message),
+    Put(u32, NamedMessage),
     /// No such line, for this reason.
-    Unread(LineFault),
+    Unread(LineFault, Id),
 }
 
 /// What a reader has brought, and not been taken. Contracts see these bytes, whether a line in front of them was too long, how many
@@ -69,6 +71,11 @@ impl Input {
         })
     }
 
+    /// Where memory comes from.
+    pub(crate) fn alloc(&self) -> Global {
+        self.alloc
+    }
+
     /// Whether more may come.
     pub fn is_open(&self) -> bool
         ensures { result ≡ self.now.is_open }
@@ -106,13 +113,14 @@ impl Input {
     /// Takes the next line, if it has come whole: with its end.
     pub fn next(&mut self, spelling: Spelling) -> Result<Option<Line>, AllocError>
         ensures takes { IfOk result (Takes spelling self.old self.new) }
+        ensures named { IfOk result (λ line. IfSome line (λ l. IsNamed spelling self.old l)) }
         ensures stays { self.new.is_open ≡ self.old.is_open }
     {
         let Some((text, rest)) = next_line(self.rest()) else {
             self.skip_if_long();
             return Ok(None);
         };
-        let line = line_of(read_put(self.alloc, text, spelling)?, self.skips);
+        let line = line_of(read_line(self.alloc, text, spelling)?, self.skips);
         self.taken = self.bytes.len().saturating_sub(rest.len());
         self.lines = self.lines.saturating_add(1);
         self.skips = false;
@@ -140,15 +148,17 @@ impl Input {
     }
 }
 
-/// The line that was read so, if it was not too long.
-fn line_of(read: Result<(u32, Message), LineFault>, skips: bool) -> Line
-    ensures { read_of result ≡ (if skips then Err TooLongLine else read) }
+/// The line that was read so, with its id, if it was not too long.
+fn line_of(read: (Result<(u32, Message), LineFault>, Id), skips: bool) -> Line
+    ensures read { read_of result ≡ (if skips then Err TooLongLine else read.0) }
+    ensures id { id_by result ≡ (if skips then None else read.1) }
 {
     if skips {
-        return Line::Unread(LineFault::TooLongLine);
+        return Line::Unread(LineFault::TooLongLine, Id::none());
     }
+    let (read, id) = read;
     match read {
-        Ok((stream, message)) => Line::Put(stream, message),
-        Err(fault) => Line::Unread(fault),
+        Ok((stream, message)) => Line::Put(stream, NamedMessage { message, id }),
+        Err(fault) => Line::Unread(fault, id),
     }
 }

@@ -2,9 +2,11 @@
 ghost use Rattle.std.specs.Prelude.{◌≡◌, ◌++◌, IfOk, OnOk};
 ghost use Rattle.std.specs.List.{flat_map, list_any};
 ghost use Rattle.std.specs.Str.{chars};
-ghost use Rattle.amo_live.specs.Client.{BlamesField, ReadsAs};
-ghost use Rattle.amo_live.specs.Shown.{escaped, hex_line, is_hidden, is_text, message_line, object_front, text_line, word_line, word_lines, word_of, word_text};
+ghost use Rattle.amo_live.specs.Client.{BlamesField, NamesBy, ReadsAs, ReadsPlain};
+ghost use Rattle.amo_live.specs.Shown.{escaped, hex_line, id_member, is_hidden, is_text, message_line, object_front, ok_line, refused_front, refused_line, text_line, word_line, word_of, word_text};
 
+use crate::id::Id;
+use crate::object::read_object;
 use amo_packet::{Message, MessageFault};
 use amo_text::{next_field, push_decimal, push_hex, read_decimal, read_message, read_stream};
 use std::alloc::{AllocError, Global};
@@ -14,9 +16,9 @@ use thiserror::Error;
 /// How messages and answers are spelt.
 #[derive(Clone, Copy, Debug, PartialEq, Eq)]
 pub struct Spelling {
-    /// A client's messages come in HEX.
+    /// A client's messages come in HEX, where its lines are no JSON objects.
     pub hex: bool,
-    /// Each line that is shown is a JSON object.
+    /// Each line is a JSON object: those of a client, and those that are shown.
     pub json: bool,
 }
 
@@ -38,13 +40,44 @@ pub enum LineFault {
     /// It is longer than any line, and was not kept.
     #[error("longer than any line")]
     TooLongLine,
+    /// It is no JSON in UTF-8.
+    #[error("it is no JSON")]
+    NoJson,
+    /// It is no JSON: a string in it has no end, a control character, or an escape that is none.
+    #[error("a string in it has a wrong escape, a control character or no end")]
+    NoString,
+    /// It is JSON, and no object.
+    #[error("it is no object")]
+    NoObject,
+    /// A member comes twice in an object.
+    #[error("a member comes twice")]
+    Twice,
+    /// It has a member of another name.
+    #[error("a member is none of stream, id, text and hex")]
+    Unknown,
+    /// It has no stream, or one that is no whole number.
+    #[error("it has no stream that is a number")]
+    NoNumber,
+    /// It has neither a text nor a HEX.
+    #[error("it has no text and no hex")]
+    NoMessage,
+    /// It has a text and a HEX.
+    #[error("it has a text and a hex")]
+    OneMessage,
+    /// Its text is no string.
+    #[error("its text is no string")]
+    NoText,
+    /// Its id is no string.
+    #[error("its id is no string")]
+    NoId,
+    /// Its id has so many bytes, more than 64.
+    #[error("its id has {0} bytes, at most 64")]
+    LongId(usize),
 }
 
-/// What is known of a message put to a stream.
+/// What became of a message that was put to a stream.
 #[derive(Clone, Copy, Debug, PartialEq, Eq)]
 pub enum Word {
-    /// It was put.
-    Ok,
     /// It was got.
     Yes,
     /// It was got or lost.
@@ -63,20 +96,35 @@ impl Word {
         ensures { result.now ≡ word_text self }
     {
         match self {
-            Word::Ok => "ok",
             Word::Yes => "yes",
             Word::No => "no",
         }
     }
 }
 
+/// What a client's line is, without its end.
+pub(crate) fn read_line(
+    alloc: Global,
+    line: &[u8],
+    spelling: Spelling,
+) -> Result<(Result<(u32, Message), LineFault>, Id), AllocError>
+    ensures read { IfOk result (λ r. ReadsAs spelling line.now r.0) }
+    ensures id { IfOk result (λ r. NamesBy spelling.json line.now r.0 r.1) }
+{
+    if spelling.json {
+        read_object(alloc, line)
+    } else {
+        Ok((read_put(alloc, line, spelling)?, Id::none()))
+    }
+}
+
 /// The stream and the message of a client's line `STREAM TEXT`, without its end; or why it is no such line.
-pub fn read_put(
+fn read_put(
     alloc: Global,
     line: &[u8],
     spelling: Spelling,
 ) -> Result<Result<(u32, Message), LineFault>, AllocError>
-    ensures { IfOk result (ReadsAs spelling line.now) }
+    ensures { IfOk result (ReadsPlain spelling line.now) }
 {
     let Some((field, text)) = next_field(line) else {
         return Ok(Err(LineFault::NoStream));
@@ -107,17 +155,39 @@ fn no_stream(field: &[u8]) -> LineFault
     }
 }
 
-/// Appends the line that tells what is known of a message put to a stream.
-pub fn push_word(
+/// Appends the line that tells that a message was put to a stream, by a line of the journal of this number.
+pub(crate) fn push_ok(
     shown: &mut Vec<u8>,
     stream: u32,
+    id: &Id,
+    line: u64,
+    spelling: Spelling,
+) -> Result<(), AllocError>
+    ensures { OnOk result (shown.new.items ≡ shown.old.items ++ ok_line spelling stream id.now line) }
+{
+    if spelling.json {
+        push_object_front(shown, stream, id)?;
+        shown.extend_from_slice(b"ok\",\"line\":")?;
+        push_decimal(shown, line)?;
+        shown.extend_from_slice(b"}\n")
+    } else {
+        push_decimal(shown, stream as u64)?;
+        shown.extend_from_slice(b" ok\n")
+    }
+}
+
+/// Appends the line that tells what became of a message put to a stream.
+pub(crate) fn push_word(
+    shown: &mut Vec<u8>,
+    stream: u32,
+    id: &Id,
     word: Word,
     spelling: Spelling,
 ) -> Result<(), AllocError>
-    ensures { OnOk result (shown.new.items ≡ shown.old.items ++ word_line spelling stream word) }
+    ensures { OnOk result (shown.new.items ≡ shown.old.items ++ word_line spelling stream id.now word) }
 {
     if spelling.json {
-        push_object_front(shown, stream)?;
+        push_object_front(shown, stream, id)?;
         shown.extend_from_slice(word.text().as_bytes())?;
         shown.extend_from_slice(b"\"}\n")
     } else {
@@ -128,20 +198,29 @@ pub fn push_word(
     }
 }
 
-/// Appends such a line for each of so many messages, of which the same is known.
-pub(crate) fn push_words(
+/// Appends the object that tells why a line of a client is none, by the line's number.
+pub(crate) fn push_refused(
     shown: &mut Vec<u8>,
-    stream: u32,
-    word: Word,
-    messages: u64,
-    spelling: Spelling,
+    id: &Id,
+    line: u64,
+    reason: &[u8],
 ) -> Result<(), AllocError>
-    ensures { OnOk result (shown.new.items ≡ shown.old.items ++ word_lines spelling stream word messages) }
+    ensures { OnOk result (shown.new.items ≡ shown.old.items ++ refused_line (record { id = id.now; input = line; reason = reason.now })) }
 {
-    'messages: for _message in 0..messages {
-        push_word(shown, stream, word, spelling)?;
-    }
+    push_refused_front(shown, id, line)?;
+    shown.extend_from_slice(b",\"event\":\"refused\",\"reason\":\"")?;
+    push_escaped(shown, reason)?;
+    shown.extend_from_slice(b"\"}\n")?;
     Ok(())
+}
+
+/// Appends the front of such an object, up to what happened.
+fn push_refused_front(shown: &mut Vec<u8>, id: &Id, line: u64) -> Result<(), AllocError>
+    ensures { OnOk result (shown.new.items ≡ shown.old.items ++ refused_front line id.now) }
+{
+    shown.extend_from_slice(b"{\"input\":")?;
+    push_decimal(shown, line)?;
+    push_id(shown, id)
 }
 
 /// Appends the line that shows a message which was got: its text, or its bytes in HEX where they are none, or one that a terminal would not just show.
@@ -170,7 +249,7 @@ fn push_text(
     ensures { OnOk result (shown.new.items ≡ shown.old.items ++ text_line spelling stream text.now) }
 {
     if spelling.json {
-        push_object_front(shown, stream)?;
+        push_object_front(shown, stream, &Id::none())?;
         shown.extend_from_slice(b"got\",\"text\":\"")?;
         push_escaped(shown, text)?;
         shown.extend_from_slice(b"\"}\n")
@@ -192,7 +271,7 @@ fn push_bytes(
     ensures { OnOk result (shown.new.items ≡ shown.old.items ++ hex_line spelling stream bytes.now) }
 {
     if spelling.json {
-        push_object_front(shown, stream)?;
+        push_object_front(shown, stream, &Id::none())?;
         shown.extend_from_slice(b"got\",\"hex\":\"")?;
         push_hex(shown, bytes)?;
         shown.extend_from_slice(b"\"}\n")
@@ -205,12 +284,25 @@ fn push_bytes(
 }
 
 /// Appends the front of an object about a stream, up to what happened.
-fn push_object_front(shown: &mut Vec<u8>, stream: u32) -> Result<(), AllocError>
-    ensures { OnOk result (shown.new.items ≡ shown.old.items ++ object_front stream) }
+fn push_object_front(shown: &mut Vec<u8>, stream: u32, id: &Id) -> Result<(), AllocError>
+    ensures { OnOk result (shown.new.items ≡ shown.old.items ++ object_front stream id.now) }
 {
     shown.extend_from_slice(b"{\"stream\":")?;
     push_decimal(shown, stream as u64)?;
+    push_id(shown, id)?;
     shown.extend_from_slice(b",\"event\":\"")
+}
+
+/// Appends the member of an id, if one is given.
+fn push_id(shown: &mut Vec<u8>, id: &Id) -> Result<(), AllocError>
+    ensures { OnOk result (shown.new.items ≡ shown.old.items ++ id_member id.now) }
+{
+    let Some(bytes) = id.bytes() else {
+        return Ok(());
+    };
+    shown.extend_from_slice(b",\"id\":\"")?;
+    push_escaped(shown, bytes)?;
+    shown.extend_from_slice(b"\"")
 }
 
 /// Appends the bytes of a text, as an object spells them.
@@ -218,11 +310,25 @@ fn push_escaped(shown: &mut Vec<u8>, text: &[u8]) -> Result<(), AllocError>
     ensures { OnOk result (shown.new.items ≡ shown.old.items ++ flat_map escaped text.now) }
 {
     for byte in text {
-        if *byte == b'"' || *byte == b'\\' {
-            shown.push(b'\\')?;
-        }
-        shown.push(*byte)?;
+        push_escaped_byte(shown, *byte)?;
     }
+    Ok(())
+}
+
+/// Appends a byte of a text.
+fn push_escaped_byte(shown: &mut Vec<u8>, byte: u8) -> Result<(), AllocError>
+    ensures { OnOk result (shown.new.items ≡ shown.old.items ++ escaped byte) }
+{
+    if byte == b'"' || byte == b'\\' {
+        shown.push(b'\\')?;
+        shown.push(byte)?;
+        return Ok(());
+    }
+    if byte < 32 {
+        shown.extend_from_slice(b"\\u00")?;
+        return push_hex(shown, &[byte]);
+    }
+    shown.push(byte)?;
     Ok(())
 }
 

@@ -1,14 +1,14 @@
 //! What a live host does with datagrams, times and its clients' messages.
-ghost use Rattle.std.specs.Prelude.{◌≡◌, ◌≢◌, ◌↔◌, ℕ, [], Some, IfOk, IsTrue, OnOk, is_some, length};
+ghost use Rattle.std.specs.Prelude.{◌≡◌, ◌≢◌, ◌↔◌, ℕ, [], Some, IfNone, IfOk, IsTrue, OnOk, is_some, length};
 ghost use Rattle.amo_core.specs.declared.mode.Mode.TheVariants.{Quiet, Send};
 ghost use Rattle.amo_packet.specs.Packet.{body_of, packet_of};
 ghost use Rattle.amo_packet.specs.Grammar.{Spells, messages_of};
 ghost use Rattle.amo_journal.specs.Version.{newest};
 ghost use Rattle.amo_host.specs.AtStream.{IsNextDue};
-ghost use Rattle.amo_live.specs.Client.{has};
-ghost use Rattle.amo_live.specs.Host.{Delivered, Did, IsNoted, Puts};
+ghost use Rattle.amo_live.specs.Client.{PutsNamed, has};
+ghost use Rattle.amo_live.specs.Host.{Delivered, Did, IsNoted};
 ghost use Rattle.amo_live.specs.Service.{IsAtRest, PutsNone, got_by, new_version, shown_by, spelling_of, start_of, starts_batches, streams_of, words_of};
-ghost use Rattle.amo_live.specs.Shown.{ShowsMore};
+ghost use Rattle.amo_live.specs.Shown.{BeginsWithPut, ShowsMore};
 ghost use Rattle.amo_live.specs.Words.{BearsNew, IsNew, StaysDrawn};
 
 mod door;
@@ -16,13 +16,14 @@ mod getting;
 mod notes;
 
 use crate::acts::is_for;
-use crate::lines::{Spelling, Word, push_word};
-use crate::{Dropped, Figures, Host, Lineage, LiveFault, Times};
+use crate::ids::Ids;
+use crate::lines::{Spelling, Word};
+use crate::{Dropped, Figures, Host, Lineage, LiveFault, NamedMessage, Times};
 use amo_core::{MAX_WAITING, Mode};
 use amo_journal::Version;
 use amo_net::{Link, MAX_DATAGRAM};
 use amo_object::End;
-use amo_packet::{Body, MAX_BATCH, Message, Packet, read};
+use amo_packet::{Body, MAX_BATCH, Packet, read};
 use amo_text::Sink;
 use amo_window::Pace;
 pub use door::{EventAt, SenderLane, Settled};
@@ -77,6 +78,8 @@ pub struct Service<L, S, W> {
     lanes: Vec<Lane>,
     words: W,
     shown: Vec<u8>,
+    /// What messages are called that have no answer yet, where answers tell it.
+    ids: Ids,
     /// The handshakes that ended since what is shown was cleared.
     settled: Vec<Settled>,
     /// How many bytes may be shown in this turn.
@@ -154,16 +157,18 @@ impl<L: Link + Drop, S: Sink + Drop, W: Lineage + Drop> Service<L, S, W> {
         ensures host { IfOk result (λ service. service.host ≡ host) }
         ensures streams { IfOk result (λ service. streams_of service ≡ setup.streams) }
         ensures words { IfOk result (λ service. words_of service ≡ words) }
-        ensures shown { IfOk result (λ service. shown_by service ≡ []) }
+        ensures shown { IfOk result (λ service. (shown_by service).text ≡ []) }
         ensures spelling { IfOk result (λ service. spelling_of service ≡ setup.spelling) }
     {
         let lanes = lanes_of(alloc, setup.streams)?;
+        let ids = Ids::new(alloc, setup.streams)?;
         Ok(Service {
             host,
             setup,
             lanes,
             words,
             shown: Vec::new(alloc),
+            ids,
             settled: Vec::new(alloc),
             room: 0,
             unshown: None,
@@ -201,7 +206,7 @@ fn lanes_of(alloc: Global, streams: u32) -> Result<Vec<Lane>, AllocError>
 impl<L: Link, S: Sink, W: Lineage> Service<L, S, W> {
     /// What is to be shown to the clients.
     pub fn shown(&self) -> &[u8]
-        ensures { result.now ≡ shown_by self.now }
+        ensures { result.now ≡ (shown_by self.now).text }
     {
         self.shown.as_slice()
     }
@@ -210,7 +215,7 @@ impl<L: Link, S: Sink, W: Lineage> Service<L, S, W> {
     pub fn clear_shown(&mut self)
         ensures host { self.new.host ≡ self.old.host }
         ensures streams { streams_of self.new ≡ streams_of self.old }
-        ensures shown { shown_by self.new ≡ [] }
+        ensures shown { shown_by self.new ≡ record { text = []; owed = (shown_by self.old).owed } }
         ensures words { words_of self.new ≡ words_of self.old }
         ensures spelling { spelling_of self.new ≡ spelling_of self.old }
     {
@@ -322,28 +327,34 @@ impl<L: Link, S: Sink, W: Lineage> Service<L, S, W> {
     pub fn put(
         &mut self,
         stream: u32,
-        message: Message,
+        named: NamedMessage,
         now: u64,
-    ) -> Result<Option<Message>, LiveFault>
+    ) -> Result<Option<NamedMessage>, LiveFault>
         requires { IsNoted S.written self.old.host }
         ensures noted { OnOk result (IsNoted S.written self.new.host) }
-        ensures put { IfOk result (Puts self.old.host.pass self.new.host.pass stream message) }
+        ensures put { IfOk result (PutsNamed self.old.host.pass self.new.host.pass stream named) }
+        ensures told { IfOk result (λ back. IfNone back (BeginsWithPut (spelling_of self.old) stream named.id self.old.host.journal.next (shown_by self.old) (shown_by self.new))) }
         ensures streams { streams_of self.new ≡ streams_of self.old }
         ensures shown { OnOk result (ShowsMore (spelling_of self.old) self.old.host.pass self.new.host.pass (shown_by self.old) (shown_by self.new)) }
         ensures spelling { spelling_of self.new ≡ spelling_of self.old }
         ensures words { OnOk result (BearsNew W.is_drawn (words_of self.old) (words_of self.new) self.old.host.pass self.new.host.pass) }
     {
         let Some(lane) = self.lane(stream) else {
-            return Ok(Some(message));
+            return Ok(Some(named));
         };
         if (self.setup.each && lane.owed) || lane.waiting >= MAX_WAITING as u64 {
-            return Ok(Some(message));
+            return Ok(Some(named));
         }
+        let NamedMessage { message, id } = named;
+        let line = self.host.next_line();
         match self.host.put(stream, message)? {
-            Err(fault) => Ok(Some(fault.into_message())),
+            Err(fault) => {
+                let message = fault.into_message();
+                Ok(Some(NamedMessage { message, id }))
+            }
             Ok(_) => {
                 self.owe(stream, lane);
-                push_word(&mut self.shown, stream, Word::Ok, self.setup.spelling)?;
+                self.tell_put(stream, id, line)?;
                 self.begin(stream, now)?;
                 Ok(None)
             }
@@ -676,8 +687,7 @@ impl<L: Link, S: Sink, W: Lineage> Service<L, S, W> {
             line,
             ..end
         })?;
-        let word = Word::of(was_got);
-        push_word(&mut self.shown, end.stream, word, self.setup.spelling)?;
+        self.tell_answer(end.stream, Word::of(was_got))?;
         self.note_answer(end.stream, lane, was_got);
         Ok(())
     }

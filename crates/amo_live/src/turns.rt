@@ -4,20 +4,21 @@ ghost use Rattle.std.specs.Io.KnownBytes.{Appends, Consumes};
 ghost use Rattle.amo_live.specs.Client.{Moves, Serves, Waits, is_torn, message_of, moment};
 ghost use Rattle.amo_live.specs.Host.{IsNoted};
 ghost use Rattle.amo_live.specs.Service.{shown_by, spelling_of, streams_of, words_of};
-ghost use Rattle.amo_live.specs.Shown.{IsShown, ShowsMore};
+ghost use Rattle.amo_live.specs.Shown.{IsRefusing, IsShown, ShowsMore};
 ghost use Rattle.amo_live.specs.Words.{BearsNew};
 ghost use Rattle.amo_live.specs.declared.turns.Ended.TheVariants.{AtRest};
 
+use crate::id::Id;
 use crate::lines::LineFault;
 use crate::notices::Notices;
 use crate::ready::{Ready, Waited, takes_more, wait};
 use crate::stats::Stats;
 use crate::{
-    Backlog, Bell, Durable, Figures, Input, Line, Lineage, LiveFault, MOST_DATAGRAMS, ServeFault,
-    Service, Spelling,
+    Backlog, Bell, Durable, Figures, Input, Line, Lineage, LiveFault, MOST_DATAGRAMS, NamedMessage,
+    ServeFault, Service, Spelling,
 };
 use amo_net::Link;
-use amo_packet::Message;
+use std::alloc::{AllocError, Global};
 use std::io::{Read, Write};
 use std::rt::Clock;
 use std::time::Instant;
@@ -195,8 +196,8 @@ fn hand_out<L: Link, S: Durable, W: Lineage, I: Read, O: Write>(
     ensures streams { streams_of service.new ≡ streams_of service.old }
     ensures words { words_of service.new ≡ words_of service.old }
     ensures spells { spelling_of service.new ≡ spelling_of service.old }
-    ensures shown { OnOk result (Appends (O.contents desk.old.output) (O.contents desk.new.output) (shown_by service.old)) }
-    ensures cleared { OnOk result (shown_by service.new ≡ []) }
+    ensures shown { OnOk result (Appends (O.contents desk.old.output) (O.contents desk.new.output) (shown_by service.old).text) }
+    ensures cleared { OnOk result (shown_by service.new ≡ record { text = []; owed = (shown_by service.old).owed }) }
     ensures same { desk.new ≡ record desk.old { output = desk.new.output; takes_more = desk.new.takes_more } }
 {
     if !text_first {
@@ -306,12 +307,12 @@ fn put_first<L: Link, S: Durable, W: Lineage>(
     ensures words { OnOk result (BearsNew W.is_drawn (words_of service.old) (words_of service.new) service.old.host.pass service.new.host.pass) }
     ensures spells { spelling_of service.new ≡ spelling_of service.old }
 {
-    let Some(message) = kept.take(stream) else {
+    let Some(named) = kept.take(stream) else {
         return Ok(false);
     };
-    match service.put(stream, message, now)? {
-        Some(message) => {
-            kept.put_back(stream, message)?;
+    match service.put(stream, named, now)? {
+        Some(named) => {
+            kept.put_back(stream, named)?;
             Ok(false)
         }
         None => Ok(true),
@@ -337,14 +338,14 @@ fn put_line<C: Eprint, L: Link, S: Durable, W: Lineage, I: Read, O: Write>(
     ensures same { desk.new ≡ record desk.old { kept = desk.new.kept } }
 {
     match line {
-        Line::Put(stream, message) if desk.puts && service.has(stream) => {
-            put_or_keep(service, &mut desk.kept, stream, message, now)?;
+        Line::Put(stream, named) if desk.puts && service.has(stream) => {
+            put_or_keep(service, &mut desk.kept, stream, named, now)?;
         }
-        Line::Put(stream, _) => {
+        Line::Put(stream, named) => {
             let fault = LineFault::Stream(u64::from(stream));
-            desk.refuse(rt, fault, service.streams());
+            refuse(rt, service, desk, fault, &named.id)?;
         }
-        Line::Unread(fault) => desk.refuse(rt, fault, service.streams()),
+        Line::Unread(fault, id) => refuse(rt, service, desk, fault, &id)?,
     }
     Ok(())
 }
@@ -355,25 +356,59 @@ fn put_or_keep<L: Link, S: Durable, W: Lineage>(
     service: &mut Service<L, S, W>,
     kept: &mut Backlog,
     stream: u32,
-    message: Message,
+    named: NamedMessage,
     now: u64,
 ) -> Result<(), ServeFault>
     requires { IsNoted S.written service.old.host }
     ensures noted { OnOk result (IsNoted S.written service.new.host) }
-    ensures moves { OnOk result (Moves ((stream, message) ∷ []) kept.old kept.new service.old.host.pass service.new.host.pass) }
+    ensures moves { OnOk result (Moves ((stream, named) ∷ []) kept.old kept.new service.old.host.pass service.new.host.pass) }
     ensures streams { streams_of service.new ≡ streams_of service.old }
     ensures shown { OnOk result (ShowsMore (spelling_of service.old) service.old.host.pass service.new.host.pass (shown_by service.old) (shown_by service.new)) }
     ensures words { OnOk result (BearsNew W.is_drawn (words_of service.old) (words_of service.new) service.old.host.pass service.new.host.pass) }
     ensures spells { spelling_of service.new ≡ spelling_of service.old }
 {
     if kept.has(stream) {
-        kept.keep(stream, message)?;
+        kept.keep(stream, named)?;
         return Ok(());
     }
-    if let Some(message) = service.put(stream, message, now)? {
-        kept.keep(stream, message)?;
+    if let Some(named) = service.put(stream, named, now)? {
+        kept.keep(stream, named)?;
     }
     Ok(())
+}
+
+/// Tells why the line that was taken last is none: where lines are objects its client, and else the operator.
+fn refuse<C: Eprint, L: Link, S: Durable, W: Lineage, I: Read, O: Write>(
+    rt: &C,
+    service: &mut Service<L, S, W>,
+    desk: &Desk<I, O>,
+    fault: LineFault,
+    id: &Id,
+) -> Result<(), ServeFault>
+    ensures host { service.new.host ≡ service.old.host }
+    ensures streams { streams_of service.new ≡ streams_of service.old }
+    ensures words { words_of service.new ≡ words_of service.old }
+    ensures spells { spelling_of service.new ≡ spelling_of service.old }
+    ensures told { OnOk result (IsRefusing (shown_by service.old) (shown_by service.new)) }
+{
+    if !desk.puts {
+        return Ok(());
+    }
+    if desk.spelling.json {
+        let reason = reason_of(desk.input.alloc(), fault, service.streams())?;
+        service.tell_refused(id, desk.input.lines(), reason.as_str())?;
+    } else {
+        desk.tell_refused(rt, fault, service.streams());
+    }
+    Ok(())
+}
+
+/// Why a line is none, in words, at a host of so many streams.
+fn reason_of(alloc: Global, fault: LineFault, streams: usize) -> Result<String, AllocError> {
+    match fault {
+        LineFault::Stream(stream) => format!(in alloc; "stream {stream} of {streams}"),
+        _ => format!(in alloc; "{fault}"),
+    }
 }
 
 impl Limits {
@@ -554,18 +589,15 @@ impl<I: Read, O: Write> Desk<I, O> {
             Err(error) => Err(ServeFault::output(error)),
         }
     }
-
     /// Tells why the line that was taken last is none, at a host of so many streams.
-    fn refuse<C: Eprint>(&self, rt: &C, fault: LineFault, streams: usize) {
-        if self.puts {
-            let line = self.input.lines();
-            let _ = match fault {
-                LineFault::Stream(stream) => {
-                    eprintln!(rt; "amo: line {line}: stream {stream} of {streams}")
-                }
-                _ => eprintln!(rt; "amo: line {line}: {fault}"),
-            };
-        }
+    fn tell_refused<C: Eprint>(&self, rt: &C, fault: LineFault, streams: usize) {
+        let line = self.input.lines();
+        let _ = match fault {
+            LineFault::Stream(stream) => {
+                eprintln!(rt; "amo: line {line}: stream {stream} of {streams}")
+            }
+            _ => eprintln!(rt; "amo: line {line}: {fault}"),
+        };
     }
 }
 

@@ -1,10 +1,11 @@
 //! What a service knows of its streams from what it did, and what it counts.
-ghost use Rattle.std.specs.Prelude.{◌≡◌, ◌++◌, OnOk};
+ghost use Rattle.std.specs.Prelude.{◌≡◌, OnOk};
 ghost use Rattle.amo_packet.specs.Packet.{body_of};
 ghost use Rattle.amo_live.specs.Service.{shown_by, spelling_of, streams_of, words_of};
-ghost use Rattle.amo_live.specs.Shown.{ack_lines};
+ghost use Rattle.amo_live.specs.Shown.{told_ack, told_answer, told_answers, told_put, told_refused};
 
-use crate::lines::{Word, push_words};
+use crate::id::Id;
+use crate::lines::{Word, push_ok, push_refused, push_word};
 use crate::service::{Lane, Service};
 use crate::{Figures, Lineage, Times};
 use amo_core::Mode;
@@ -140,9 +141,43 @@ impl<L: Link, S: Sink, W: Lineage> Service<L, S, W> {
         }
     }
 
+    /// A message with this id was put on a stream, by this line of the journal.
+    pub(crate) fn tell_put(&mut self, stream: u32, id: Id, line: u64) -> Result<(), AllocError>
+        ensures told { OnOk result (shown_by self.new ≡ told_put (spelling_of self.old) stream id line (shown_by self.old)) }
+        ensures same { self.new ≡ record self.old { shown = self.new.shown; ids = self.new.ids } }
+    {
+        push_ok(&mut self.shown, stream, &id, line, self.setup.spelling)?;
+        if self.setup.spelling.json {
+            self.ids.owe(stream, id)?;
+        }
+        Ok(())
+    }
+
+    /// The first of a stream's messages that have no answer has this one.
+    pub(crate) fn tell_answer(&mut self, stream: u32, word: Word) -> Result<(), AllocError>
+        ensures told { OnOk result (shown_by self.new ≡ told_answer (spelling_of self.old) stream word (shown_by self.old)) }
+        ensures same { self.new ≡ record self.old { shown = self.new.shown; ids = self.new.ids } }
+    {
+        let id = self.ids.answer(stream);
+        push_word(&mut self.shown, stream, &id, word, self.setup.spelling)
+    }
+
+    /// The client's line of this number is none that is put, for this reason.
+    pub(crate) fn tell_refused(
+        &mut self,
+        id: &Id,
+        line: u64,
+        reason: &str,
+    ) -> Result<(), AllocError>
+        ensures told { OnOk result (shown_by self.new ≡ told_refused (record { id = id.now; input = line; reason = reason.now }) (shown_by self.old)) }
+        ensures same { self.new ≡ record self.old { shown = self.new.shown } }
+    {
+        push_refused(&mut self.shown, id, line, reason.as_bytes())
+    }
+
     /// A packet was delivered. If it is an ack, the client is told what it says of so many messages that travelled in its handshake.
     pub(crate) fn tell_ack(&mut self, packet: &Packet<'_>, messages: u64) -> Result<(), AllocError>
-        ensures told { OnOk result (shown_by self.new ≡ shown_by self.old ++ ack_lines (spelling_of self.old) packet.now.stream (body_of packet.now.body) messages) }
+        ensures told { OnOk result (shown_by self.new ≡ told_ack (spelling_of self.old) packet.now.stream (body_of packet.now.body) messages (shown_by self.old)) }
         ensures host { self.new.host ≡ self.old.host }
         ensures streams { streams_of self.new ≡ streams_of self.old }
         ensures setup { self.new.setup ≡ self.old.setup }
@@ -153,13 +188,18 @@ impl<L: Link, S: Sink, W: Lineage> Service<L, S, W> {
         };
         self.count_answers(was_got, messages);
         let word = Word::of(was_got);
-        push_words(
-            &mut self.shown,
-            packet.stream,
-            word,
-            messages,
-            self.setup.spelling,
-        )
+        self.tell_answers(packet.stream, word, messages)
+    }
+
+    /// The first so many of a stream's messages that have no answer have this one.
+    fn tell_answers(&mut self, stream: u32, word: Word, messages: u64) -> Result<(), AllocError>
+        ensures told { OnOk result (shown_by self.new ≡ told_answers (spelling_of self.old) stream word messages (shown_by self.old)) }
+        ensures same { self.new ≡ record self.old { shown = self.new.shown; ids = self.new.ids } }
+    {
+        'messages: for _message in 0..messages {
+            self.tell_answer(stream, word)?;
+        }
+        Ok(())
     }
 
     /// So many messages more have their answer.

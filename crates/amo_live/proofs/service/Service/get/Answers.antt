@@ -1,7 +1,8 @@
-use Rattle.std.proofs.Common.{◌≡◌, refl, sym, ◌∙◌, rules}
+use Rattle.std.proofs.Common.{◌≡◌, ℕ, List, refl, sym, ap, ◌∙◌, rules}
 use Rattle.amo_object.specs.declared.step.End.TheVariants.{Receiver}
 use Rattle.amo_core.specs.declared.act.Act.TheVariants as act
 use Rattle.amo_live.specs.Service.{shown_by, spelling_of, words_of}
+use Rattle.amo_live.specs.Shown.{Told}
 use Rattle.amo_live.proofs.Fresh.{bears_as, bears_none, call_bears}
 use Rattle.amo_live.proofs.Showing.{get_shows, nothing_shows, shows_as}
 use Rattle.amo_live.proofs.service.Service.get.Goals as goal
@@ -19,11 +20,11 @@ returns-clause-shown g c =
     let spelling = spelling_of c.args.self.now in
     let first = c.args.self.now.host.pass in
     let old = shown_by c.args.self.now in
-    let with_line = c.push_message.new.shown.items in
+    let with_line : Told = record { text = c.push_message.new.shown.items; owed = old.owed } in
     let pass : c.match-lane.self.host.pass ≡ c.get.new.self.pass = elim c.match-lane.branch [ in-Some-lane w ↦ search rules | in_default-lane w ↦ search rules ] in
     let shown : shown_by c.match-lane.self ≡ with_line = elim c.match-lane.branch [ in-Some-lane w ↦ search rules | in_default-lane w ↦ search rules ] in
     shows_as spelling spelling first c.get.new.self.pass first c.match-lane.self.host.pass old with_line old (shown_by c.match-lane.self) refl refl pass refl shown
-    (get_shows spelling first c.get.new.self.pass c.args.stream old with_line answer c.in-Some.message (sym c.in-Some.is ∙ got) grown c.in_ok-push_message.ensures)
+    (get_shows spelling first c.get.new.self.pass c.args.stream old with_line answer c.in-Some.message (sym c.in-Some.is ∙ got) grown (ap (λ (l : List ℕ). let t : Told = record { text = l; owed = old.owed } in t) c.in_ok-push_message.ensures))
 
 pub returns-in_default-clause-words : goal.returns-in_default-clause-words
 returns-in_default-clause-words g c =

@@ -1,7 +1,7 @@
 use Rattle.std.proofs.Common.{◌∙◌, refl, rules}
 use Rattle.amo_live.specs.Service.{shown_by, spelling_of, words_of}
 use Rattle.amo_live.proofs.Fresh.{bears_none, bears_on, resend_bears}
-use Rattle.amo_live.proofs.Showing.{resend_shows, shows_after, shows_on}
+use Rattle.amo_live.proofs.Showing.{resend_shows, shows_after, shows_idle, shows_on}
 use Rattle.amo_live.proofs.service.Service.get_all.Goals as goal
 
 pub returns-then-not-branch-clause-shown : goal.returns-then-not-branch-clause-shown
@@ -41,3 +41,15 @@ returns-clause-words g c =
     let words = words_of c.messages.self in let middle = c.messages.self.host.pass in
     bears_on (words_of c.args.self.now) words words c.args.self.now.host.pass middle c.resend.new.self.pass c.messages.invariant.words
     (bears_none words words middle c.resend.new.self.pass refl (resend_bears c.messages.self.host c.resend.new.self c.args.stream c.in_ok-resend.field-0 c.in_ok-resend.ensures.did))
+
+pub messages-init : goal.messages-init
+messages-init g c =
+    let old = c.args.self.now in
+    record {
+      noted = c.requires;
+      none_put = refl;
+      streams = refl;
+      shown = shows_idle (spelling_of old) old.host.pass old.host.pass (shown_by old) (shown_by old) refl refl;
+      spelling = refl;
+      words = bears_none (words_of old) (words_of old) old.host.pass old.host.pass refl refl;
+    }

@@ -1,10 +1,10 @@
-use Rattle.std.proofs.Common.{◌≡◌, ◌++◌, refl, rules}
+use Rattle.std.proofs.Common.{◌≡◌, refl, rules}
 use Rattle.amo_object.specs.declared.step.End.TheVariants.{Sender}
 use Rattle.amo_core.specs.declared.act.Act.TheVariants as act
 use Rattle.amo_book.specs.Calls.{ack_answer}
 use Rattle.amo_live.specs.Service.{shown_by, spelling_of, words_of}
 use Rattle.amo_live.proofs.Fresh.{bears_as, bears_none, call_bears}
-use Rattle.amo_live.specs.Shown.{word_line, word_of}
+use Rattle.amo_live.specs.Shown.{told_answer, word_of}
 use Rattle.amo_live.proofs.Showing.{ack_shows, shows_as, unknown_shows}
 use Rattle.amo_live.proofs.service.Service.settle.Goals as goal
 
@@ -23,7 +23,7 @@ returns-clause-shown g c =
     let new = shown_by c.note_answer.new.self in
     let pass : last ≡ c.get_ack.new.self.pass = search rules in
     let known = rw c.in-Ok.is at c.in_ok-was_got.ensures.known in
-    let told : new ≡ old ++ word_line spelling c.args.end.stream (word_of c.in-Ok.was_got) = search rules in
+    let told : new ≡ told_answer spelling c.args.end.stream (word_of c.in-Ok.was_got) old = search rules in
     shows_as spelling spelling first c.get_ack.new.self.pass first last old new old new refl refl pass refl refl
     (ack_shows spelling first c.get_ack.new.self.pass c.args.end.stream old new c.in-Ok.was_got c.in-Ok.field-0-1 known told)
 
