@@ -3,12 +3,13 @@
      yes lines STREAMS COUNT COMMAND..                 by a sender that this program starts, over its standard input and output
      yes doors STREAMS COUNT PORT LIFE PORT LIFE       by the doors of a sender and of a receiver that are there, the sender's first
 
-   At a door a put, and the question what became of it, leave together; at the other one a take waits for the message. */
+   At a door a put, and the question what became of it, leave together; at the other one a take waits for the message, of a process of its own. */
 #include "client.h"
 #include <fcntl.h>
 #include <poll.h>
 #include <signal.h>
 #include <strings.h>
+#include <sys/prctl.h>
 #include <sys/wait.h>
 #include <unistd.h>
 
@@ -28,9 +29,10 @@ struct connection {
 static long began[MOST_STREAMS + 1], *times;
 static size_t streams, count, done;
 static struct door doors[2];
-/* Of each stream the one at the sender, and behind it the one at the receiver. */
-static struct connection connections[2 * MOST_STREAMS];
-static struct pollfd looked_at[2 * MOST_STREAMS];
+/* The door that this process asks. */
+static struct door *door;
+static struct connection connections[MOST_STREAMS];
+static struct pollfd looked_at[MOST_STREAMS];
 
 static void has_answer(size_t stream) {
     if (done < count)
@@ -99,24 +101,25 @@ static void by_lines(char **command) {
     wait(NULL);
 }
 
+static int takes(void) {
+    return door == &doors[1];
+}
+
 /* Puts the next message of a stream, or takes it. */
 static void ask(size_t at) {
     struct connection *it = &connections[at];
-    struct door *door = &doors[at % 2];
-    size_t stream = at / 2 + 1;
     char text[1024];
     int length;
     it->messages++;
-    if (at % 2)
+    if (takes())
         length = sprintf(text, "POST /v1/streams/%zu/take?life=%s&by=bench&number=%ld&wait=30 HTTP/1.1\r\nHost: 127.0.0.1:%s\r\nContent-Length: 0\r\n\r\n",
-                         stream, door->life, it->messages, door->port);
+                         at + 1, door->life, it->messages, door->port);
     else
         length = sprintf(text,
                          "PUT /v1/streams/%zu/messages/%ld?life=%s&by=bench HTTP/1.1\r\nHost: 127.0.0.1:%s\r\nContent-Length: 8\r\n\r\n%08ld"
                          "GET /v1/streams/%zu?wait=30 HTTP/1.1\r\nHost: 127.0.0.1:%s\r\n\r\n",
-                         stream, it->messages, door->life, door->port, it->messages, stream, door->port);
-    if (!(at % 2))
-        began[stream] = now();
+                         at + 1, it->messages, door->life, door->port, it->messages, at + 1, door->port);
+    began[at + 1] = now();
     hand(it->socket, text, length);
 }
 
@@ -141,31 +144,44 @@ static void hear(size_t at) {
         if (status != 200 && status != 201)
             stop("a call was refused");
         char *yes = strstr(it->answer, "\"last\":\"yes\"");
-        int is_over = at % 2 || (yes && yes < it->answer + length);
+        int is_over = takes() || (yes && yes < it->answer + length);
         memmove(it->answer, it->answer + length, it->filled - length + 1);
         it->filled -= length;
-        if (is_over && !(at % 2))
-            has_answer(at / 2 + 1);
+        if (is_over && !takes())
+            has_answer(at + 1);
         if (is_over)
             ask(at);
     }
 }
 
-static void by_doors(void) {
-    for (size_t at = 0; at < 2 * streams; at++) {
-        connections[at].socket = connected(atoi(doors[at % 2].port));
+/* Asks a door until all messages have their answers, which only the sender's tells. */
+static void ask_door(struct door *asked) {
+    door = asked;
+    for (size_t at = 0; at < streams; at++) {
+        connections[at].socket = connected(atoi(door->port));
         looked_at[at] = (struct pollfd){connections[at].socket, POLLIN, 0};
-    }
-    /* Takes first: a message is waited for. */
-    for (size_t at = 2 * streams; at-- > 0;)
         ask(at);
+    }
     while (done < count) {
-        if (poll(looked_at, 2 * streams, LONGEST_WAIT) < 1)
+        if (poll(looked_at, streams, LONGEST_WAIT) < 1)
             stop("an answer does not come");
-        for (size_t at = 0; at < 2 * streams; at++)
+        for (size_t at = 0; at < streams; at++)
             if (looked_at[at].revents)
                 hear(at);
     }
+}
+
+static void by_doors(void) {
+    pid_t taker = fork();
+    if (taker < 0)
+        stop("fork");
+    if (!taker) {
+        prctl(PR_SET_PDEATHSIG, SIGKILL);
+        ask_door(&doors[1]);
+    }
+    ask_door(&doors[0]);
+    kill(taker, SIGKILL);
+    wait(NULL);
 }
 
 int main(int words, char **word) {

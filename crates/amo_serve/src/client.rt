@@ -73,6 +73,8 @@ pub(crate) struct Client {
     has_ended: bool,
     /// Something came or was sent since its connection was asked for a request.
     is_active: bool,
+    /// It is among those that its door looks at in this turn.
+    pub(crate) is_awake: bool,
 }
 
 impl Client {
@@ -93,7 +95,30 @@ impl Client {
             drained: 0,
             has_ended: false,
             is_active: false,
+            is_awake: false,
         }
+    }
+
+    /// Wakes it. Answers whether it was at rest.
+    pub(crate) fn wakes(&mut self) -> bool {
+        let was_at_rest = !self.is_awake;
+        self.is_awake = true;
+        was_at_rest
+    }
+
+    /// It rests until something comes, if it has nothing to ask by now.
+    pub(crate) fn rest(&mut self) {
+        self.is_awake = !self.is_gone() && (self.is_active || self.is_pressing());
+    }
+
+    /// Whether it is to be looked at again at once: it may have asked already, is to be told what the journal tells, or has hung up and waits.
+    pub(crate) fn is_pressing(&self) -> bool {
+        self.may_have_more() || self.seeks() || self.waits_in_vain()
+    }
+
+    /// Whether it waits, and has hung up.
+    pub(crate) fn waits_in_vain(&self) -> bool {
+        self.waits && self.has_ended()
     }
 
     /// Whether it is to be dropped.
@@ -165,9 +190,9 @@ impl Client {
     }
 
     /// When it is to be looked at, whatever comes.
-    pub(crate) fn deadline(&self) -> Option<u64> {
+    pub(crate) fn deadline(&self) -> u64 {
         if let Some(since) = self.lags_since {
-            return Some(since.saturating_add(SEND_TIME));
+            return since.saturating_add(SEND_TIME);
         }
         let time = match (self.stage, self.phase) {
             (Stage::Draining, _) => DRAIN_TIME,
@@ -175,9 +200,9 @@ impl Client {
             (_, Phase::Head) => HEAD_TIME,
             (_, Phase::Body) => BODY_TIME,
             (_, Phase::Following) => QUIET_TIME,
-            (_, Phase::Asked | Phase::Closing | Phase::Over) => return None,
+            (_, Phase::Asked | Phase::Closing | Phase::Over) => return u64::MAX,
         };
-        Some(self.since.saturating_add(time))
+        self.since.saturating_add(time)
     }
 
     /// Does what the system told of: it reads what came. The room is where it is read.
@@ -236,11 +261,7 @@ impl Client {
 
     /// Ends what lasts too long.
     pub(crate) fn tick(&mut self, now: u64) {
-        let is_late = match self.deadline() {
-            Some(deadline) => deadline <= now,
-            None => false,
-        };
-        if !is_late {
+        if now < self.deadline() {
             return;
         }
         match self.phase {
@@ -295,7 +316,7 @@ impl Client {
     }
 
     /// Whether its next request may have come already.
-    pub(crate) fn may_have_more(&self) -> bool {
+    fn may_have_more(&self) -> bool {
         self.is_active && self.phase == Phase::Head
     }
 

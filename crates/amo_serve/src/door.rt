@@ -35,6 +35,9 @@ const LOOKING: u64 = 50;
 
 const FEW: usize = 16;
 
+/// So many of what the system waits for are the host's own. The clients stand behind them.
+const HOSTS_OWN: usize = 3;
+
 /// What a client beyond the bound is answered, whatever it asks. It is no request's answer, so no connection spells it.
 const CROWDED: &[u8] =
     b"HTTP/1.1 503 Service Unavailable\r\ncache-control: no-store\r\ncontent-type: application/json\r\nretry-after: 1\r\nconnection: close\r\ncontent-length: 60\r\n\r\n{\"error\":\"crowded\",\"text\":\"too many ask at once: ask again\"}";
@@ -45,8 +48,19 @@ pub struct Door {
     pub(crate) alloc: Global,
     listener: TcpListener,
     pub(crate) clients: Vec<Client>,
+    /// The places of the clients that this turn looks at: something came to them, they are told something, or they may have asked more.
+    pub(crate) awake: Vec<usize>,
+    /// When the others are to be looked at, whatever comes, in microseconds.
+    deadline: u64,
+    /// Whether some client cannot wait until something comes.
+    is_pressed: bool,
+    /// Whether some client may be following.
+    is_followed: bool,
+    /// Up to which number those who follow were told what happened.
+    followed: u64,
     /// Those who wait, in the order in which they came.
     pub(crate) waiters: VecDeque<Waiter>,
+    /// What the system is to wait for: the listener, the host's socket, its bell, and each client in its place. Empty where clients have gone.
     pub(crate) waited: Vec<pollfd>,
     room: Vec<u8>,
     pub(crate) routes: Routes,
@@ -73,6 +87,11 @@ impl Door {
             alloc,
             listener,
             clients: Vec::new(alloc),
+            awake: Vec::new(alloc),
+            deadline: u64::MAX,
+            is_pressed: false,
+            is_followed: false,
+            followed: 0,
             waiters: VecDeque::new(alloc),
             waited: Vec::new(alloc),
             room: vec![in alloc; 0u8; PIECE]?,
@@ -95,24 +114,30 @@ impl Door {
         due: Option<u64>,
         now: u64,
     ) -> Result<(), AllocError> {
-        self.waited.clear();
-        push(&mut self.waited, watched(self.listener.as_raw_fd()))?;
-        push(&mut self.waited, watched(socket))?;
-        push(&mut self.waited, watched(bell))?;
-        let mut until = due.unwrap_or(u64::MAX);
-        for client in &self.clients {
-            push(&mut self.waited, client.interest())?;
-            until = until.min(client.deadline().unwrap_or(until));
-            if client.may_have_more() || client.seeks() {
-                until = now;
-            }
+        if self.waited.is_empty() {
+            self.watch(socket, bell)?;
         }
+        let mut until = due.unwrap_or(u64::MAX).min(self.deadline);
         for waiter in &self.waiters {
             until = until.min(waiter.until);
+        }
+        if self.is_pressed {
+            until = now;
         }
         let limit = milliseconds(until, now);
         if limit == 0 || !self.comes_soon(rt) {
             net::poll(self.waited.as_mut_slice(), limit);
+        }
+        Ok(())
+    }
+
+    /// Tells anew what the system is to wait for.
+    fn watch(&mut self, socket: i32, bell: i32) -> Result<(), AllocError> {
+        push(&mut self.waited, watched(self.listener.as_raw_fd()))?;
+        push(&mut self.waited, watched(socket))?;
+        push(&mut self.waited, watched(bell))?;
+        for client in &self.clients {
+            push(&mut self.waited, client.interest())?;
         }
         Ok(())
     }
@@ -156,15 +181,52 @@ impl Door {
 
     /// Reads what clients sent, ends what lasts too long, and takes the clients that came.
     pub(crate) fn hear(&mut self, now: u64) -> Result<(), AllocError> {
+        self.wake(now)?;
         let room = self.room.as_mut_slice();
-        for (client, waited) in self.clients.iter_mut().zip(self.waited.iter().skip(3)) {
-            client.hear(waited.revents, room, now);
-            client.tick(now);
+        for place in &self.awake {
+            if let (Some(client), Some(waited)) = (
+                self.clients.get_mut(*place),
+                self.waited.get(place.saturating_add(HOSTS_OWN)),
+            ) {
+                client.hear(waited.revents, room, now);
+                client.tick(now);
+            }
         }
         match self.waited.first() {
             Some(waited) if waited.revents != 0 => self.accept(now),
             _ => Ok(()),
         }
+    }
+
+    /// Wakes the clients to which something came; and all, if it is time to look at them.
+    fn wake(&mut self, now: u64) -> Result<(), AllocError> {
+        let is_time = self.deadline <= now;
+        if is_time {
+            self.deadline = u64::MAX;
+            self.is_followed = false;
+        }
+        let comings = self.waited.iter().skip(HOSTS_OWN);
+        for (place, (client, waited)) in self.clients.iter_mut().zip(comings).enumerate() {
+            if (is_time || waited.revents != 0) && client.wakes() {
+                push(&mut self.awake, place)?;
+            }
+        }
+        Ok(())
+    }
+
+    /// Wakes those who follow, if anything happened since they were told last. What happens next has this number.
+    pub(crate) fn wake_followers(&mut self, next: u64) -> Result<(), AllocError> {
+        let is_new = self.followed < next;
+        self.followed = next;
+        if !is_new || !self.is_followed {
+            return Ok(());
+        }
+        for (place, client) in self.clients.iter_mut().enumerate() {
+            if client.is_following() && client.wakes() {
+                push(&mut self.awake, place)?;
+            }
+        }
+        Ok(())
     }
 
     /// Takes the clients that have come.
@@ -192,18 +254,78 @@ impl Door {
         self.accepted = self.accepted.saturating_add(1);
         let number = self.next;
         self.next = self.next.saturating_add(1);
-        push(
-            &mut self.clients,
-            Client::new(self.alloc, number, stream, now),
-        )
+        let client = Client::new(self.alloc, number, stream, now);
+        self.deadline = self.deadline.min(client.deadline());
+        push(&mut self.waited, client.interest())?;
+        push(&mut self.clients, client)
     }
 
-    /// Sends what is to be sent, and drops the clients that are gone.
-    pub(crate) fn flush(&mut self, now: u64) {
+    /// Sends those who are awake what is to be sent, lets those rest who have no more to ask, and drops the clients that are gone.
+    pub(crate) fn flush(&mut self, now: u64) -> Result<(), AllocError> {
+        let mut is_any_gone = false;
+        self.is_pressed = false;
+        for place in &self.awake {
+            if let Some(client) = self.clients.get_mut(*place) {
+                client.flush(now);
+                client.rest();
+                self.deadline = self.deadline.min(client.deadline());
+                self.is_pressed = self.is_pressed || client.is_pressing();
+                self.is_followed = self.is_followed || client.is_following();
+                is_any_gone = is_any_gone || client.is_gone();
+                if let Some(waited) = self.waited.get_mut(place.saturating_add(HOSTS_OWN)) {
+                    *waited = client.interest();
+                }
+            }
+        }
+        if is_any_gone {
+            self.drop_gone();
+            return self.find_awake();
+        }
+        let clients = self.clients.as_slice();
+        self.awake.retain(|place| is_awake(clients, *place));
+        Ok(())
+    }
+
+    /// Sends all clients what is to be sent, and drops those that are gone.
+    pub(crate) fn flush_all(&mut self, now: u64) {
         for client in self.clients.iter_mut() {
             client.flush(now);
         }
+        self.drop_gone();
+    }
+
+    /// Drops the clients that are gone. The others have other places then.
+    fn drop_gone(&mut self) {
         self.clients.retain(|client| !client.is_gone());
+        self.waited.clear();
+    }
+
+    /// Finds the places of those who do not rest.
+    fn find_awake(&mut self) -> Result<(), AllocError> {
+        self.awake.clear();
+        for (place, client) in self.clients.iter().enumerate() {
+            if client.is_awake {
+                push(&mut self.awake, place)?;
+            }
+        }
+        Ok(())
+    }
+
+    /// Whether somebody waits for what the journal tells. Who does is awake.
+    pub(crate) fn has_seekers(&self) -> bool {
+        let clients = self.clients.as_slice();
+        self.awake.iter().any(|place| match clients.get(*place) {
+            Some(client) => client.seeks(),
+            None => false,
+        })
+    }
+}
+
+/// Whether the client at this place does not rest.
+fn is_awake(clients: &[Client], place: usize) -> bool {
+    match clients.get(place) {
+        Some(client) => client.is_awake,
+        None => false,
     }
 }
 

@@ -117,7 +117,7 @@ impl Door {
                 return Ok(());
             }
             net::poll(self.waited.as_mut_slice(), PAUSE);
-            self.flush(now);
+            self.flush_all(now);
         }
         Ok(())
     }
@@ -129,7 +129,7 @@ impl Door {
         for client in self.clients.iter_mut() {
             tell_follower(client, text.as_slice());
         }
-        self.flush(now);
+        self.flush_all(now);
         Ok(())
     }
 }

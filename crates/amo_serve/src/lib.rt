@@ -16,6 +16,9 @@
 //! **An answer is handed to a connection only once the journal has the line of every event so far**: [`Door`] asks for that where it hands answers out,
 //! as the host does where it sends packets.
 //!
+//! **A turn looks at the clients that are awake**, and its cost does not grow with those at rest: who something came to wakes, and who is told something, is
+//! late, or has asked more than was answered.
+//!
 //! **A put is done once, however often it is asked for**: [`Responder`] decides of each claim by the numbers of its life, and its contracts say that the
 //! turns of callers are right and that what they put is what the host put, each once and with its bytes.
 //!

@@ -121,14 +121,17 @@ fn turn<C: Files<File = File>, L: Link, S: Durable, W: Lineage>(
     responder.serve_waiters(door, now)?;
     responder.ask_clients(door, now)?;
     responder.write_down(sync)?;
-    door.consult(rt, archive, responder.service.host.next_line())?;
+    if door.has_seekers() {
+        door.consult(rt, archive, responder.service.host.next_line())?;
+    }
+    door.wake_followers(responder.news.next())?;
     hand_out(responder, door, sync, now);
     responder.leave();
-    door.flush(now);
+    door.flush(now)?;
     Ok(())
 }
 
-/// Hands each client what its request is answered, and tells those who follow what happened. Of all that the host did by then the system has the
+/// Hands each client that is awake what its request is answered, and tells those who follow what happened. Of all that the host did by then the system has the
 /// journal's lines, and has them on the disk where that is asked for: so each answer tells of events whose lines are there.
 fn hand_out<L: Link, S: Durable, W: Lineage>(
     responder: &Responder<L, S, W>,
@@ -142,11 +145,13 @@ fn hand_out<L: Link, S: Durable, W: Lineage>(
 {
     let _ = sync;
     let next = responder.news.next();
-    for client in door.clients.iter_mut() {
-        if !client.seeks() {
-            hand(&responder.news, client, next, now);
+    for place in &door.awake {
+        if let Some(client) = door.clients.get_mut(*place) {
+            if !client.seeks() {
+                hand(&responder.news, client, next, now);
+            }
+            tell_news(&responder.news, client, next);
         }
-        tell_news(&responder.news, client, next);
     }
 }
 

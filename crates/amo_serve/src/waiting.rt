@@ -6,7 +6,7 @@ ghost use Rattle.amo_live.specs.Words.{BearsNew};
 ghost use Rattle.amo_serve.specs.Serving.{Serves};
 
 use crate::client::Client;
-use crate::door::Door;
+use crate::door::{Door, push};
 use crate::responder::{Reply, Responder, Taken};
 use amo_door::{Answer, Claim, Reader, Step};
 use amo_live::{Durable, Lineage, LiveFault};
@@ -67,11 +67,13 @@ enum Waited {
 }
 
 impl Door {
-    /// Whether a client that waits has hung up.
+    /// Whether a client that waits has hung up. Who has is awake.
     fn has_hung_up(&self) -> bool {
-        self.clients
-            .iter()
-            .any(|client| client.waits && client.has_ended())
+        let clients = self.clients.as_slice();
+        self.awake.iter().any(|place| match clients.get(*place) {
+            Some(client) => client.waits_in_vain(),
+            None => false,
+        })
     }
 
     /// Where the client of this number is.
@@ -89,14 +91,18 @@ impl Door {
     }
 
     /// The client of this number is to be answered so.
-    fn reply_to(&mut self, number: u64, answer: Answer) {
-        for client in self.clients.iter_mut() {
+    fn reply_to(&mut self, number: u64, answer: Answer) -> Result<(), AllocError> {
+        for (place, client) in self.clients.iter_mut().enumerate() {
             if client.number == number {
                 client.waits = false;
                 client.reply = Some(Reply::Answer(answer));
-                return;
+                if client.wakes() {
+                    push(&mut self.awake, place)?;
+                }
+                return Ok(());
             }
         }
+        Ok(())
     }
 }
 
@@ -156,7 +162,7 @@ impl<L: Link, S: Durable, W: Lineage> Responder<L, S, W> {
             Waited::Still(awaited)
         };
         match waited {
-            Waited::Answer(answer) => door.reply_to(client, answer),
+            Waited::Answer(answer) => door.reply_to(client, answer)?,
             Waited::Still(awaited) => push_waiter(
                 &mut door.waiters,
                 Waiter {
@@ -220,7 +226,7 @@ impl<L: Link, S: Durable, W: Lineage> Responder<L, S, W> {
         }
     }
 
-    /// Takes each client's next request, if it has come whole, and does what it asks. Its answer is kept back.
+    /// Takes the next request of each client that is awake, if it has come whole, and does what it asks. Its answer is kept back.
     pub(crate) fn ask_clients(&mut self, door: &mut Door, now: u64) -> Result<(), LiveFault>
         requires { IsNoted S.written self.old.service.host }
         ensures noted { OnOk result (IsNoted S.written self.new.service.host) }
@@ -236,16 +242,16 @@ impl<L: Link, S: Durable, W: Lineage> Responder<L, S, W> {
             served: door.served,
         };
         let waiters = &mut door.waiters;
-        'clients: for client in door.clients.iter_mut() {
-            self.ask(client, &reader, waiters, now)?;
+        'clients: for place in &door.awake {
+            self.ask(door.clients.get_mut(*place), &reader, waiters, now)?;
         }
         Ok(())
     }
 
-    /// Takes a client's next request, if it has come whole, and does what it asks.
+    /// Takes a client's next request, if there is the client and that has come whole, and does what it asks.
     fn ask(
         &mut self,
-        client: &mut Client,
+        client: Option<&mut Client>,
         reader: &Reader<'_>,
         waiters: &mut VecDeque<Waiter>,
         now: u64,
@@ -255,6 +261,9 @@ impl<L: Link, S: Durable, W: Lineage> Responder<L, S, W> {
         ensures serves { OnOk result (Serves self.old.numbers self.new.numbers self.old.service.host.pass self.new.service.host.pass) }
         ensures words { OnOk result (BearsNew W.is_drawn (words_of self.old.service) (words_of self.new.service) self.old.service.host.pass self.new.service.host.pass) }
     {
+        let Some(client) = client else {
+            return Ok(());
+        };
         let Step::Call { call, message } = client.next(reader, now) else {
             return Ok(());
         };
