@@ -1,5 +1,5 @@
 -- A side that is judged without the other, after an act.
-use Rattle.std.proofs.Common.{◌≡◌, ℕ, suc, ◌+◌, ◌-◌, ◌<◌, Bool, true, false, cond, eqb, Option, None, Some, List, [], ◌∷◌, ◌++◌, length, slice_get, set, get_or, take, drop, reverse, refl, sym, ◌∙◌, ap, subst, inl, inr, ◌⊎◌, arith}
+use Rattle.std.proofs.Common.{◌≡◌, ℕ, ◌+◌, ◌-◌, Bool, true, false, cond, eqb, Option, None, Some, List, [], ◌∷◌, ◌++◌, length, slice_get, set, get_or, reverse, append_assoc, refl, sym, ◌∙◌, ap, subst, inl, inr, ◌⊎◌, arith}
 use Rattle.std.specs.Prelude.{◌↔◌, IsTrue}
 use Rattle.std.specs.List.{Contains}
 use Rattle.std.specs.Option.{option_to_list}
@@ -11,8 +11,7 @@ use Rattle.std.specs.BTreeSet.{contains}
 use Rattle.std.proofs.lemmas.Bool.{eq-eqb, eqb-true, ne_eqb}
 use Rattle.std.proofs.lemmas.Bool.Decides.{nat_tests}
 use Rattle.std.specs.Ordering.{is_eq}
-use Rattle.std.proofs.Math.Seq.{split_at}
-use Rattle.std.proofs.lemmas.List.{length-set, length-take-le, take_more}
+use Rattle.std.proofs.lemmas.List.{length-set}
 use Rattle.std.proofs.lemmas.Option.{slice_get_read}
 use Rattle.amo_object.specs.declared.step.End.{End}
 use Rattle.amo_object.specs.declared.step.End.TheVariants.{Sender, Receiver}
@@ -27,9 +26,11 @@ use Rattle.amo_world.specs.Stream.{IsStream, Stream, initial, after, automaton_o
 use Rattle.amo_world.specs.History.{is_same_side, IsNewWord, stream_after, stream_before, after_if, HasRightReply, UsesNewWord}
 use Rattle.amo_world.proofs.Order.{reverse_push}
 use Rattle.amo_world.proofs.Lists.{contains_cases, contains_first, contains_other, set_cases, push_cases}
+use Rattle.amo_audit.specs.declared.auditor.Finding.{Finding}
+use Rattle.amo_audit.specs.declared.auditor.Finding.TheVariants.{Nothing, AtFault}
 use Rattle.amo_audit.specs.declared.lone_side.LoneSide.{LoneSide}
 use Rattle.amo_audit.specs.declared.lone_sides.LoneSides.{LoneSides}
-use Rattle.amo_audit.specs.Alone.{AreLone, IsLone, IsNew, IsRefusedAt, IsSoundAlone, RefusesAct, RefusesAlone, Represents, side_of}
+use Rattle.amo_audit.specs.Alone.{AreLone, FindsAlone, IsLone, IsNew, IsRefusedAt, IsSoundAlone, RefusesAct, RefusesAlone, Represents, side_of}
 
 -- whether two numbers are compared equal
 equal_numbers : (x y : ℕ) → x ≡ y → is_at (nat_cmp x) y ≡ true
@@ -213,24 +214,48 @@ is_new (Some w) words b is used = λ c. differ (sym (used.1 (λ new. new c)) ∙
     differ : true ≡ false → ⊥
     differ e = cc
 
--- the event at a place is the first that is refused
-pub is_refused : (events : List Event) (place : ℕ) (e : Event) (why : WorldFault) → place < length events → e ≡ get_or events place e → IsSoundAlone (reverse (take place events))
-    → RefusesAlone (reverse (take place events)) e why → IsRefusedAt events (place + 1) why
-is_refused events place e why within is sound refused = record {
-  before = take place events;
-  event = e;
-  after = drop (suc place) events;
-  whole = split_at events place e within ∙ ap (λ (x : Event). take place events ++ x ∷ drop (suc place) events) (sym is);
-  sound = sound;
-  refused = refused;
-  count = ap (λ n. n + 1) (sym (length-take-le place events (omega (arith, within))));
+-- an event that was refused stays the first one
+refused_stays : (events : List Event) (e : Event) (at : ℕ) (why : WorldFault) → IsRefusedAt events at why → IsRefusedAt (events ++ e ∷ []) at why
+refused_stays events e at why found = record {
+  before = found.before;
+  event = found.event;
+  after = found.after ++ e ∷ [];
+  whole = ap (λ (t : List Event). t ++ e ∷ []) found.whole ∙ append_assoc found.before (found.event ∷ found.after) (e ∷ []);
+  sound = found.sound;
+  refused = found.refused;
+  count = found.count;
 }
 
--- one event more was taken
-pub one_taken : (events : List Event) (place : ℕ) (e : Event) (streams : List LoneSides) → place < length events → e ≡ get_or events place e → IsSoundAlone (reverse (take place events))
-    → HasRightReply (reverse (take place events)) e × UsesNewWord (reverse (take place events)) e × Represents streams (e ∷ reverse (take place events))
-    → Represents streams (reverse (take (place + 1) events)) × IsSoundAlone (reverse (take (place + 1) events))
-one_taken events place e streams within is sound (right, new, all) =
-    let next : reverse (take (place + 1) events) ≡ e ∷ reverse (take place events) =
-    ap reverse (take_more events place e within ∙ ap (λ (x : Event). take place events ++ x ∷ []) (sym is)) ∙ reverse_push (take place events) e in
-    (subst (Represents streams) (sym next) all, subst IsSoundAlone (sym next) ((right, sound.0), (new, sound.1)))
+-- what is found of events
+module _ (streams : List LoneSides) (finding : Finding) (events : List Event) (finds : FindsAlone streams finding events) where
+  pub sound_alone : finding ≡ Nothing → Represents streams (reverse events) × IsSoundAlone (reverse events)
+  sound_alone is = subst (λ (f : Finding). FindsAlone streams f events) is finds
+
+  pub refused_alone : (at : ℕ) (why : WorldFault) → finding ≡ AtFault at why → IsRefusedAt events at why
+  refused_alone at why is = subst (λ (f : Finding). FindsAlone streams f events) is finds
+
+  -- and of one more
+  pub behind_fault : (e : Event) (at : ℕ) (why : WorldFault) → finding ≡ AtFault at why → FindsAlone streams finding (events ++ e ∷ [])
+  behind_fault e at why is = subst (λ (f : Finding). FindsAlone streams f (events ++ e ∷ [])) (sym is) (refused_stays events e at why (refused_alone at why is))
+
+  pub one_taken : (now : List LoneSides) (e : Event) → finding ≡ Nothing
+      → ((past : List Event) → Represents streams past → HasRightReply past e × UsesNewWord past e × Represents now (e ∷ past)) → FindsAlone now finding (events ++ e ∷ [])
+  one_taken now e is takes =
+      let (kept, sound) = sound_alone is in
+      let (right, new, all) = takes (reverse events) kept in
+      let next = sym (reverse_push events e) in
+      subst (λ (f : Finding). FindsAlone now f (events ++ e ∷ [])) (sym is) (subst (Represents now) next all, subst IsSoundAlone next ((right, sound.0), (new, sound.1)))
+
+  pub one_refused : (now : List LoneSides) (e : Event) (before : ℕ) (why : WorldFault) → finding ≡ Nothing → before ≡ length events
+      → ((past : List Event) → Represents streams past → RefusesAlone past e why) → FindsAlone now (AtFault (before + 1) why) (events ++ e ∷ [])
+  one_refused now e before why is long refused =
+      let (kept, sound) = sound_alone is in
+      record {
+        before = events;
+        event = e;
+        after = [];
+        whole = refl;
+        sound = sound;
+        refused = refused (reverse events) kept;
+        count = ap (λ n. n + 1) long;
+      }

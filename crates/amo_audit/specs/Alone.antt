@@ -14,6 +14,8 @@ use Rattle.amo_world.specs.declared.fault.WorldFault.{WorldFault}
 use Rattle.amo_world.specs.declared.fault.WorldFault.TheVariants as fault
 use Rattle.amo_world.specs.Stream.{Stream, automaton_of, words_of}
 use Rattle.amo_world.specs.History.{HasRightReply, UsesNewWord, IsRight, IsFresh, is_same_side, stream_after}
+use Rattle.amo_audit.specs.declared.auditor.Finding.{Finding}
+use Rattle.amo_audit.specs.declared.auditor.Finding.TheVariants.{Nothing, AtFault}
 use Rattle.amo_audit.specs.declared.lone_side.LoneSide.{LoneSide}
 use Rattle.amo_audit.specs.declared.lone_sides.LoneSides.{LoneSides}
 use Rattle.amo_audit.specs.declared.verdict.Verdict.{Verdict}
@@ -89,3 +91,8 @@ AreLone kept s = (end : End) → IsLone (side_of kept end) (automaton_of s end) 
 pub record Represents (streams : List LoneSides) (past : List Event) : Type 0 where
   pub count : length streams ≡ 256
   pub each : (place : ℕ) (kept : LoneSides) → slice_get streams place ≡ Some kept → AreLone kept (stream_after (place + 1) past)
+
+-- what was found in the events so far, in the order of time, with these streams kept
+abbrev pub FindsAlone : List LoneSides → Finding → List Event → Type 0
+FindsAlone streams Nothing events = Represents streams (reverse events) × IsSoundAlone (reverse events)
+FindsAlone streams (AtFault at why) events = IsRefusedAt events at why

@@ -1,14 +1,12 @@
 //! The judgement of events of which those of the other side are not there.
-ghost use Rattle.std.specs.Prelude.{◌≡◌, ◌<◌, ◌^◌, ◌∷◌, ◌+◌, ℕ, [], List, length, IfErr, IfOk, OnOk};
+ghost use Rattle.std.specs.Prelude.{IfOk};
 ghost use Rattle.std.specs.List.{All};
-ghost use Rattle.amo_world.specs.declared.event.Event.{Event};
 ghost use Rattle.amo_world.specs.Stream.{IsStream};
-ghost use Rattle.amo_world.specs.History.{HasRightReply, UsesNewWord};
-ghost use Rattle.amo_audit.specs.Alone.{IsRefusedAt, JudgesAlone, RefusesAlone, Represents};
+ghost use Rattle.amo_audit.specs.Alone.{FindsAlone, JudgesAlone};
 
 use crate::Verdict;
-use crate::lone_sides::LoneSides;
-use amo_world::{Event, STREAMS, WorldFault};
+use crate::lone_auditor::LoneAuditor;
+use amo_world::Event;
 use std::alloc::{AllocError, Global};
 
 /// Judges events of which those of the other side may not be there, as in one host's journal: each reply is the protocol's, and no side uses a
@@ -17,49 +15,20 @@ pub fn audit_alone(alloc: Global, events: &[Event]) -> Verdict
     requires { All (λ e. IsStream e.stream) events.now }
     ensures { JudgesAlone events.now result }
 {
-    let Ok(mut streams) = nothing_taken(alloc) else {
-        return Verdict::NoMemory;
-    };
+    match judged_alone(alloc, events) {
+        Ok(auditor) => auditor.verdict(),
+        Err(AllocError) => Verdict::NoMemory,
+    }
+}
+
+/// An auditor that has judged these events.
+fn judged_alone(alloc: Global, events: &[Event]) -> Result<LoneAuditor, AllocError>
+    requires { All (λ e. IsStream e.stream) events.now }
+    ensures { IfOk result (λ auditor. FindsAlone auditor.streams.items auditor.finding events.now) }
+{
+    let mut auditor = LoneAuditor::new(alloc)?;
     for place in 0..events.len() {
-        if let Err(fault) = take(&mut streams, &events[place]) {
-            return refused_at(place, fault);
-        }
+        auditor.judge(place, &events[place])?;
     }
-    Verdict::Yes
-}
-
-/// What is found where the event of this place, counted from 0, is the first that is refused.
-fn refused_at(place: usize, fault: WorldFault) -> Verdict
-    requires { place + 1 < 2 ^ 64 }
-    ensures { (events : List Event) → IsRefusedAt events (place + 1) fault → JudgesAlone events result }
-{
-    match fault {
-        WorldFault::WrongReply => Verdict::WrongReply(place + 1),
-        WorldFault::Unsent => Verdict::Unsent(place + 1),
-        WorldFault::Repeat => Verdict::Repeat(place + 1),
-        WorldFault::NoMemory => Verdict::NoMemory,
-    }
-}
-
-/// One event more, unless it is refused.
-fn take(streams: &mut Vec<LoneSides>, event: &Event) -> Result<(), WorldFault>
-    requires stream { IsStream event.now.stream }
-    requires count { length streams.old.items ≡ 256 }
-    ensures taken { OnOk result ((past : List Event) → Represents streams.old.items past
-        → HasRightReply past event.now × UsesNewWord past event.now × Represents streams.new.items (event.now ∷ past)) }
-    ensures refused { IfErr result (λ fault. (past : List Event) → Represents streams.old.items past → RefusesAlone past event.now fault) }
-{
-    let sides = &mut streams[event.stream as usize - 1];
-    sides.take(event)
-}
-
-/// Each stream, with nothing done yet.
-fn nothing_taken(alloc: Global) -> Result<Vec<LoneSides>, AllocError>
-    ensures { IfOk result (λ streams. Represents streams.items []) }
-{
-    let mut streams = Vec::with_capacity(alloc, STREAMS as usize)?;
-    for number in 1..=STREAMS {
-        streams.push(LoneSides::new(alloc, number))?;
-    }
-    Ok(streams)
+    Ok(auditor)
 }

@@ -40,6 +40,7 @@ mod judgement;
 mod judging;
 mod keeping;
 pub mod laws;
+mod lone_auditor;
 mod lone_side;
 mod lone_sides;
 mod marking;

@@ -8,12 +8,12 @@ ghost use Rattle.amo_audit.specs.Audit.{Finds, IsSound, JudgesEvents};
 ghost use Rattle.amo_audit.specs.Judgement.{AreApart, OfBoth, TellSome};
 ghost use Rattle.amo_audit.specs.Outcomes.{FindsBoth, FindsTwo, FollowsIfSound, GoesOnSoundly, IsAtFault, TellMerge, TellOutcomes, TellOutcomesOfBoth};
 
-use crate::alone::audit_alone;
 use crate::auditor::Auditor;
 use crate::coming::Source;
 use crate::judging::check_apart;
+use crate::lone_auditor::LoneAuditor;
 use crate::merging::{Ending, merge_into};
-use crate::reading::events_of;
+use crate::reading::take_told;
 use crate::site::{Hosted, Offered, Site};
 use crate::{Judgement, Reach, Verdict};
 use amo_journal::{Lines, TakeEvents, open};
@@ -140,14 +140,16 @@ fn check_further(
     }
 }
 
-/// Sees that a journal by itself is right and fresh.
+/// Sees that a journal by itself is right and fresh. No event is kept.
 fn check_alone(alloc: Global, lines: Lines<'_>) -> Result<(), Verdict>
     requires { TellSome lines }
     ensures sound { OnOk result ((events : List Event) × Tell events lines.entry × IsSoundAlone (reverse events)) }
     ensures found { IfErr result (λ verdict. (verdict ≢ Verdict.Yes) × IsAtFault lines.entry verdict) }
 {
-    let events = events_of(alloc, lines)?;
-    match audit_alone(alloc, events.as_slice()) {
+    let Ok(auditor) = LoneAuditor::new(alloc) else {
+        return Err(Verdict::NoMemory);
+    };
+    match take_told(alloc, lines, auditor)?.verdict() {
         Verdict::Yes => Ok(()),
         verdict => Err(verdict),
     }

@@ -1,7 +1,7 @@
 use Rattle.std.proofs.lemmas.Result.{IfErr-weaker, on_ok_weaker}
 use Rattle.amo_world.specs.History.{stream_before}
 use Rattle.amo_audit.proofs.Lone.{all_more, at_stream, refused_there}
-use Rattle.amo_audit.proofs.alone.take.Goals as goal
+use Rattle.amo_audit.proofs.lone_auditor.take.Goals as goal
 
 pub returns-clause-taken : goal.returns-clause-taken
 returns-clause-taken c =

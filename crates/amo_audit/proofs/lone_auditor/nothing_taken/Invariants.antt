@@ -1,6 +1,6 @@
 use Rattle.std.proofs.Common.{◌≡◌, ◌+◌, length}
 use Rattle.amo_audit.proofs.Lone.{AreNew}
-use Rattle.amo_audit.proofs.alone.nothing_taken.Given as goal
+use Rattle.amo_audit.proofs.lone_auditor.nothing_taken.Given as goal
 
 -- the streams so far are those at which nothing happened yet
 abbrev pub invariant-loop-number : goal.invariant-loop-number

@@ -1,7 +1,7 @@
 use Rattle.std.proofs.Common.{◌≡◌, ◌+◌, ◌++◌, ◌∷◌, ap, arith, []}
 use Rattle.std.proofs.lemmas.List.{length_push}
 use Rattle.amo_audit.proofs.Lone.{new_streams}
-use Rattle.amo_audit.proofs.alone.nothing_taken.Goals as goal
+use Rattle.amo_audit.proofs.lone_auditor.nothing_taken.Goals as goal
 
 pub loop-number-preserved : goal.loop-number-preserved
 loop-number-preserved c =
