@@ -116,11 +116,11 @@ pub nothing_emitted : (w : PassState) (recent : List RecentState) → Each (λ r
 nothing_emitted w recent none = each_weaker (λ (r : RecentState). r ≡ nothing_recent) (WereEmitted w) recent (λ r is. subst (WereEmitted w) (sym is) (tt, tt)) none
 
 -- what was written is the packet that was emitted, if there is one
-nothing_spelt : (packet : Option OwnedPacket) (old new : List ℕ) → Writes packet old new None → [] ≡ spelt_by packet
+pub nothing_spelt : (packet : Option OwnedPacket) (old new : List ℕ) → Writes packet old new None → [] ≡ spelt_by packet
 nothing_spelt None old new writes = refl
 nothing_spelt (Some p) old new (spellable, front, some) = cc
 
-front_spelt : (packet : Option OwnedPacket) (old new : List ℕ) (n : ℕ) → Writes packet old new (Some n) → take n new ∷ [] ≡ spelt_by packet
+pub front_spelt : (packet : Option OwnedPacket) (old new : List ℕ) (n : ℕ) → Writes packet old new (Some n) → take n new ∷ [] ≡ spelt_by packet
 front_spelt None old new n (same, none) = cc
 front_spelt (Some p) old new n (spellable, front, some) =
     let count : n ≡ length (spelling p) = cc in

@@ -2,6 +2,7 @@ pub mod Clients
 pub mod Backlogs
 pub mod Conserving
 pub mod Driving
+pub mod Dues
 pub mod Emissions
 pub mod Ending
 pub mod Showing

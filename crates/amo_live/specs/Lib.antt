@@ -2,6 +2,7 @@ pub use Rattle.amo_settings.specs.Limits
 pub mod Backlog
 pub mod Callers
 pub mod Client
+pub mod Due
 pub mod Emitted
 pub mod Fault
 pub mod Host

@@ -1,12 +1,15 @@
 //! The acts of a host: each is an event, then its line in the journal, then a packet that is to leave.
-ghost use Rattle.std.specs.Prelude.{◌≡◌, ◌∷◌, IfOk, OnOk, OnErr, Some};
+ghost use Rattle.std.specs.Prelude.{◌≡◌, ◌∷◌, Contains, IfOk, IfSome, OnOk, OnErr, Some};
 ghost use Rattle.amo_packet.specs.Packet.{body_of};
 ghost use Rattle.amo_core.specs.declared.act.Act.TheVariants as act;
+ghost use Rattle.amo_core.specs.declared.act.Act.TheVariants.{Resend};
 ghost use Rattle.amo_journal.specs.declared.version.Version.TheVariants.{Two};
 ghost use Rattle.amo_journal.specs.Version.{HasBatches};
 ghost use Rattle.amo_book.specs.Pass.{mine};
 ghost use Rattle.amo_host.specs.AtStream.{hastened};
+ghost use Rattle.amo_host.specs.Host.{streams_of};
 ghost use Rattle.amo_host.specs.Station.{BelongTogether, IsStation};
+ghost use Rattle.amo_live.specs.Due.{Resent, repeated_if};
 ghost use Rattle.amo_live.specs.Host.{Delivered, Did, Drives, IsBegun, IsNoted, Looks, Stays, Suits, Tried, comes_back, done, done_of, word_for};
 
 use crate::noting::note_answer;
@@ -67,6 +70,7 @@ impl<L: Link, S: Sink> Host<L, S> {
     pub fn repeat(&mut self, stream: u32, now: u64) -> Result<bool, LiveFault>
         requires { IsNoted S.written self.old }
         ensures looks { IfOk result (Looks self.old self.new stream act.Resend) }
+        ensures timed { IfOk result (λ again. Contains (streams_of self.old.pump.host.modes) stream → self.new.pump ≡ repeated_if again stream now self.old.pump) }
         ensures noted { IsNoted S.written self.new }
         ensures stays { Stays self.old self.new }
     {
@@ -83,6 +87,7 @@ impl<L: Link, S: Sink> Host<L, S> {
     pub fn resend(&mut self, stream: u32, now: u64) -> Result<Option<Mode>, LiveFault>
         requires { IsNoted S.written self.old }
         ensures did { IfOk result (Did self.old self.new stream act.Resend) }
+        ensures resent { IfOk result (λ mode. IfSome mode (Resent now self.old.pump self.new.pump stream)) }
         ensures noted { OnOk result (IsNoted S.written self.new) }
         ensures begun { OnErr result (IsBegun S.written self.new) }
         ensures stays { Stays self.old self.new }
@@ -235,6 +240,7 @@ impl<L: Link, S: Sink> Host<L, S> {
         requires noted { IsNoted S.written self.old }
         requires suits { Suits self.old.journal.version self.old.side stream act }
         ensures did { IfOk result (Did self.old self.new stream act) }
+        ensures resent { act ≡ Resend → IfOk result (λ mode. IfSome mode (Resent now self.old.pump self.new.pump stream)) }
         ensures noted { OnOk result (IsNoted S.written self.new) }
         ensures begun { OnErr result (IsBegun S.written self.new) }
         ensures stays { Stays self.old self.new }
@@ -317,6 +323,7 @@ fn drive(
     requires together { BelongTogether book.now pass.old pump.old × IsStation pump.old }
     requires suits { Suits Two pump.old.host.side stream act.now }
     ensures driven { IfOk result (Drives pump.old pass.old pass.new out.old out.new stream act.now) }
+    ensures resent { act.now ≡ Resend → IfOk result (λ done. IfSome done (λ d. Resent now pump.old pump.new stream d.mode)) }
     ensures failed { OnErr result (pass.new ≡ pass.old) }
     ensures side { pump.new.host.side ≡ pump.old.host.side }
     ensures station { IsStation pump.new × BelongTogether book.now pass.new pump.new }

@@ -7,7 +7,7 @@ ghost use Rattle.amo_journal.specs.Version.{newest};
 ghost use Rattle.amo_book.specs.Book.{Each};
 ghost use Rattle.amo_host.specs.AtStream.{AreCalm, HasMode, IsDue, IsNextDue};
 ghost use Rattle.amo_live.specs.Emitted.{WasEmitted};
-ghost use Rattle.amo_live.specs.Host.{IsNoted, IsOpened, sides_from};
+ghost use Rattle.amo_live.specs.Host.{IsHost, IsNoted, IsOpened, sides_from};
 ghost use Rattle.amo_live.specs.Noted.{Holds, IsSameJournal};
 
 use crate::outbox::Outbox;
@@ -164,6 +164,14 @@ impl<L: Link, S: Sink> Host<L, S> {
             Version::One => read_1(bytes),
             Version::Two => read(bytes),
         }
+    }
+
+    /// How many streams it has, from 1 on.
+    pub fn streams(&self) -> u32
+        ensures streams { result ≡ self.now.streams }
+        ensures host { IsHost self.now }
+    {
+        self.streams
     }
 
     /// The mode of this stream's side, as its last event left it, if the host has the stream.

@@ -4,7 +4,6 @@ ghost use Rattle.amo_core.specs.declared.mode.Mode.TheVariants.{Quiet, Send};
 ghost use Rattle.amo_packet.specs.Packet.{body_of, packet_of};
 ghost use Rattle.amo_packet.specs.Grammar.{Spells, messages_of};
 ghost use Rattle.amo_journal.specs.Version.{newest};
-ghost use Rattle.amo_host.specs.AtStream.{IsNextDue};
 ghost use Rattle.amo_live.specs.Client.{PutsNamed, has};
 ghost use Rattle.amo_live.specs.Host.{Delivered, Did, IsNoted};
 ghost use Rattle.amo_live.specs.Service.{IsAtRest, PutsNone, got_by, new_version, shown_by, spelling_of, start_of, starts_batches, streams_of, words_of};
@@ -12,6 +11,7 @@ ghost use Rattle.amo_live.specs.Shown.{BeginsWithPut, ShowsMore};
 ghost use Rattle.amo_live.specs.Words.{BearsNew, IsNew, StaysDrawn};
 
 mod door;
+mod due;
 mod getting;
 mod notes;
 
@@ -289,13 +289,6 @@ impl<L: Link, S: Sink, W: Lineage> Service<L, S, W> {
         ensures { IsTrue result ↔ IsAtRest self.now }
     {
         self.owed == 0 && self.host.are_calm()
-    }
-
-    /// When a stream is to be sent again next, in microseconds.
-    pub fn next_due(&self) -> Option<u64>
-        ensures { IsNextDue self.now.host.pump.host result }
-    {
-        self.host.next_due()
     }
 
     /// What is known of a stream.
@@ -689,52 +682,6 @@ impl<L: Link, S: Sink, W: Lineage> Service<L, S, W> {
         })?;
         self.tell_answer(end.stream, Word::of(was_got))?;
         self.note_answer(end.stream, lane, was_got);
-        Ok(())
-    }
-
-    /// Sends again what is due.
-    #[tactic(auto, using(crate::proofs::Fresh::bears_none))]
-    pub fn resend(&mut self, now: u64) -> Result<(), LiveFault>
-        requires { IsNoted S.written self.old.host }
-        ensures noted { OnOk result (IsNoted S.written self.new.host) }
-        ensures none_put { OnOk result (PutsNone self.old.host.pass self.new.host.pass) }
-        ensures streams { streams_of self.new ≡ streams_of self.old }
-        ensures shown { OnOk result (ShowsMore (spelling_of self.old) self.old.host.pass self.new.host.pass (shown_by self.old) (shown_by self.new)) }
-        ensures spelling { spelling_of self.new ≡ spelling_of self.old }
-        ensures words { OnOk result (BearsNew W.is_drawn (words_of self.old) (words_of self.new) self.old.host.pass self.new.host.pass) }
-    {
-        let is_due = match self.next_due() {
-            Some(due) => due <= now,
-            None => false,
-        };
-        if !is_due {
-            return Ok(());
-        }
-        let streams = self.setup.streams;
-        'streams: for place in 0..streams {
-            let stream = place.saturating_add(1);
-            if self.host.is_due(stream, now) {
-                self.send_again(stream, now)?;
-            }
-        }
-        Ok(())
-    }
-
-    /// Sends the packet of a stream's mode again. Where it was emitted before, that is no event.
-    #[tactic(auto, using(crate::proofs::Fresh::bears_none))]
-    fn send_again(&mut self, stream: u32, now: u64) -> Result<(), LiveFault>
-        requires { IsNoted S.written self.old.host }
-        ensures noted { OnOk result (IsNoted S.written self.new.host) }
-        ensures none_put { OnOk result (PutsNone self.old.host.pass self.new.host.pass) }
-        ensures streams { streams_of self.new ≡ streams_of self.old }
-        ensures shown { OnOk result (ShowsMore (spelling_of self.old) self.old.host.pass self.new.host.pass (shown_by self.old) (shown_by self.new)) }
-        ensures spelling { spelling_of self.new ≡ spelling_of self.old }
-        ensures words { OnOk result (BearsNew W.is_drawn (words_of self.old) (words_of self.new) self.old.host.pass self.new.host.pass) }
-    {
-        if self.host.repeat(stream, now)? {
-            return Ok(());
-        }
-        self.host.resend(stream, now)?;
         Ok(())
     }
 }

@@ -1,4 +1,4 @@
-use Rattle.std.proofs.Common.{Option, Result, IfOk, refl, sym, ap, subst}
+use Rattle.std.proofs.Common.{Option, Result, IfOk, IfSome, refl, sym, ap, subst}
 use Rattle.amo_packet.specs.declared.packet.OwnedPacket.{OwnedPacket}
 use Rattle.amo_core.specs.declared.act.Act.{Act}
 use Rattle.amo_core.specs.declared.act.Act.TheVariants as act
@@ -9,8 +9,10 @@ use Rattle.amo_host.specs.declared.turned.Kind.TheVariants as kind
 use Rattle.amo_journal.specs.declared.version.Version.TheVariants.{Two}
 use Rattle.amo_live.specs.declared.fault.LiveFault.{LiveFault}
 use Rattle.amo_live.specs.declared.given_word.GivenWord.{GivenWord}
+use Rattle.amo_live.specs.Due.{Resent}
 use Rattle.amo_live.specs.Host.{Drives, Suits, given}
 use Rattle.amo_live.proofs.Driving.{deliver_one, goes_down_or_up, packet_stream, resend_again, start_one, start_together}
+use Rattle.amo_live.proofs.Dues.{resent_by}
 use Rattle.amo_live.proofs.acts.drive.Goals as goal
 
 pub returns-in-Start-clause-driven : goal.returns-in-Start-clause-driven
@@ -60,3 +62,9 @@ returns-in-Recover-clause-driven c =
     subst (λ (a : Act). IfOk c.done_of-in-Recover.result (Drives pump v w out out c.args.stream a)) (sym c.in-Recover.is)
     (subst (λ (r : Result (Option Done) LiveFault). IfOk r (Drives pump v w out out c.args.stream act.Recover)) (sym c.done_of-in-Recover.ensures)
     (goes_down_or_up pump pump c.recover.new.self v w out out c.args.stream c.args.now c.requires.together.1 refl act.Recover kind.Recover out c.recover.result c.recover.ensures.ok c.recover.ensures.busy))
+
+pub returns-in-Resend-clause-resent : goal.returns-in-Resend-clause-resent
+returns-in-Resend-clause-resent c =
+    let pump = c.args.pump.now in let v = c.args.pass.now in let w = c.resend.new.pass in let out = c.args.out.now in let new = c.resend.new.out in
+    λ same. subst (λ (r : Result (Option Done) LiveFault). IfOk r (λ done. IfSome done (λ d. Resent c.args.now pump c.resend.new.self c.args.stream d.mode))) (sym c.done_of-in-Resend.ensures)
+    (resent_by pump c.resend.new.self v w out new c.args.stream c.args.now c.requires.together.1 c.resend.result c.resend.ensures.ok)

@@ -1,5 +1,6 @@
 use Rattle.std.proofs.Common.{◌<◌, length, sym, subst}
 use Rattle.amo_book.specs.Pass.{PassState, mine}
+use Rattle.amo_live.specs.Due.{Resent}
 use Rattle.amo_live.specs.Host.{HostState, IsNoted}
 use Rattle.amo_live.specs.Noted.{Holds}
 use Rattle.amo_live.proofs.Onwards.{begins_whole}
@@ -53,3 +54,7 @@ returns-clause-noted g c =
     let held : IsNoted g.S.Sink.written h = subst (λ (t : HostState g.row.L.Denot g.row.S.Denot). IsNoted g.S.Sink.written t) (sym c.self.view_is) c.requires.noted in
     let grown = grows h c.drive.new.pump c.drive.new.pass c.self.invariant c.drive.ensures.side c.drive.ensures.station c.self.inside.room c.drive.new.out c.args.stream c.args.act c.in-Ok-Some.done (rw c.in-Ok-Some.field-0-is at c.in-Ok-Some.ensures.driven) in
     c.in-Ok.ensures.noted h.pass c.drive.new.pass (sym c.number-pass.ensures.number) grown held
+
+pub returns-clause-resent : goal.returns-clause-resent
+returns-clause-resent g c = λ same.
+    subst (λ (t : HostState g.row.L.Denot g.row.S.Denot). Resent c.args.now t.pump c.drive.new.pump c.args.stream c.in-Ok-Some.done.mode) c.self.view_is (rw c.in-Ok-Some.field-0-is at (c.in-Ok-Some.ensures.resent same))

@@ -3,9 +3,10 @@ use Rattle.amo_live.specs.Host.{IsNoted}
 use Rattle.amo_live.specs.Service.{PutsNone, shown_by, spelling_of, streams_of, words_of}
 use Rattle.amo_live.specs.Shown.{ShowsMore}
 use Rattle.amo_live.specs.Words.{BearsNew}
+use Rattle.amo_live.proofs.Dues.{SendsUpTo}
 use Rattle.amo_live.proofs.service.Service.resend.Given as goal
 
--- the journal has all lines so far, no message was put, and what has happened is shown
+-- the journal has all lines so far, no message was put, and what has happened is shown; of the streams so far, each that was due was sent again
 abbrev pub invariant-streams : goal.invariant-streams
 invariant-streams g l = record {
   noted : IsNoted g.S.Sink.written l.self.host;
@@ -14,4 +15,5 @@ invariant-streams g l = record {
   shown : ShowsMore (spelling_of l.fn.self) l.fn.self.host.pass l.self.host.pass (shown_by l.fn.self) (shown_by l.self);
   spelling : spelling_of l.self ≡ spelling_of l.fn.self;
   words : BearsNew g.W.Lineage.is_drawn (words_of l.fn.self) (words_of l.self) l.fn.self.host.pass l.self.host.pass;
+  sends : SendsUpTo l.place l.now l.fn.self.host l.self.host;
 }
