@@ -2,4 +2,5 @@ pub mod Ends
 pub mod Steps
 pub mod Told
 pub mod Calls
+pub mod Puts
 pub mod Words

@@ -1,4 +1,6 @@
 pub mod Kept
 pub mod Request
 pub mod Answer
+pub mod Heard
+pub mod Puts
 pub mod Turns

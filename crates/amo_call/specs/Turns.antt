@@ -1,26 +1,11 @@
 -- Calls under way.
 use Rattle.std.specs.Prelude.{◌≡◌, ℕ, List}
 use Rattle.amo_call.specs.declared.kept.Progress.TheVariants as progress
-use Rattle.amo_call.specs.declared.putting.Order.{Order}
-use Rattle.amo_call.specs.declared.putting.PutTold.{PutTold}
-use Rattle.amo_call.specs.declared.putting.PutTold.TheVariants as told
 use Rattle.amo_call.specs.declared.taking.TakeTold.{TakeTold}
 use Rattle.amo_call.specs.declared.taking.TakeTold.TheVariants as taken
-use Rattle.amo_call.specs.declared.putting.AfterPut.{AfterPut}
-use Rattle.amo_call.specs.declared.putting.AfterPut.TheVariants as put
 use Rattle.amo_call.specs.declared.taking.AfterTake.{AfterTake}
 use Rattle.amo_call.specs.declared.taking.AfterTake.TheVariants as take
 use Rattle.amo_call.specs.Kept.{kept_text}
-
--- where it is told that a message was put, this is the text of its file: it was put for that claim, by that line
-abbrev pub HasToldPut : Order → List ℕ → PutTold → Type 0
-HasToldPut order saved (told.Put claim line) = saved ≡ kept_text (record { claim = claim; progress = progress.Put line order.message })
-HasToldPut order saved _ = Unit {0}
-
--- the same; and where a put goes on, this is the text of the call that is made next
-abbrev pub HasPut : Order → List ℕ → AfterPut → Type 0
-HasPut order saved (put.Told told) = HasToldPut order saved told
-HasPut order saved (put.Turn turn) = saved ≡ kept_text turn.kept
 
 -- where a message is told that was taken, this is the text of its file: it was taken for that claim, by that line
 abbrev pub HasToldTake : List ℕ → TakeTold → Type 0

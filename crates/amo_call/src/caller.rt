@@ -1,5 +1,6 @@
 //! Who makes calls.
-ghost use Rattle.std.specs.Prelude.{◌≡◌};
+ghost use Rattle.std.specs.Prelude.{◌≡◌, IfNone, IfOk, IfSome};
+ghost use Rattle.amo_call.specs.Heard.{ToQuestion};
 
 use crate::{Kept, Request, Response};
 use amo_door::Word;
@@ -42,43 +43,66 @@ impl From<MessageFault> for CallFault {
 }
 
 /// Who keeps a call in a file and asks a door. What changes something is asked only as the file has it: so whoever finds the file makes the same call.
+///
+/// Contracts see what the file has, and what was answered to what: what is told of a call rests on that alone.
 pub trait Caller {
-    ghost use Rattle.std.specs.Prelude.{◌≡◌, ℕ, List, OnOk};
+    ghost use Rattle.std.specs.Prelude.{◌≡◌, ℕ, List, IfNone, IfOk, IfSome, OnOk};
+    ghost use Rattle.amo_call.specs.Heard.{Heard, ToCall, ToFirst, ToQuestion};
     ghost use Rattle.amo_call.specs.Kept.{kept_text};
 
     /// What the file of the call has.
     ghost saved: { Self → List ℕ };
 
+    /// That the call which the file has was not made since it came there.
+    ghost is_fresh: { Self → Type 0 };
+
+    /// That no answer came to what was asked or made last.
+    ghost is_silent: { Self → Type 0 };
+
+    /// That this was answered.
+    ghost heard: { Heard → Type 0 };
+
     /// Puts what is kept of the call into its file, in the place of what that has.
     fn save(&mut self, kept: &Kept) -> Result<(), CallFault>
-        ensures { OnOk result (saved self.new ≡ kept_text kept.now) };
+        ensures saved { OnOk result (saved self.new ≡ kept_text kept.now) }
+        ensures fresh { OnOk result (is_fresh self.new) };
 
     /// Makes the call that the file has. None where no answer came: then it may have been made.
     fn make(&mut self, kept: &Kept) -> Result<Option<Response>, CallFault>
         requires { saved self.old ≡ kept_text kept.now }
-        ensures { saved self.new ≡ saved self.old };
+        ensures saved { saved self.new ≡ saved self.old }
+        ensures heard { IfOk result (λ answer. IfSome answer (λ response. heard (ToCall kept.now response))) }
+        ensures first { is_fresh self.old → IfOk result (λ answer. IfSome answer (λ response. heard (ToFirst kept.now response))) }
+        ensures silent { IfOk result (λ answer. IfNone answer (is_silent self.new)) };
 
     /// Asks what changes nothing. None where no answer came.
     fn ask(&mut self, request: &Request) -> Result<Option<Response>, CallFault>
-        ensures { saved self.new ≡ saved self.old };
+        ensures saved { saved self.new ≡ saved self.old }
+        ensures heard { IfOk result (λ answer. IfSome answer (λ response. heard (ToQuestion request.now response))) }
+        ensures silent { IfOk result (λ answer. IfNone answer (is_silent self.new)) };
 
     /// Waits a little. Answers whether there is time to try once more.
     fn pause(&mut self) -> bool
-        ensures { saved self.new ≡ saved self.old };
+        ensures saved { saved self.new ≡ saved self.old }
+        ensures silent { is_silent self.old → is_silent self.new };
 }
 
 /// Asks what changes nothing until an answer comes, as long as there is time. None where none came.
 pub(crate) fn ask_until<C: Caller>(
     caller: &mut C,
     request: &Request,
-) -> Result<Option<Response>, CallFault> {
+) -> Result<Option<Response>, CallFault>
+    ensures saved { C.saved caller.new ≡ C.saved caller.old }
+    ensures heard { IfOk result (λ answer. IfSome answer (λ response. C.heard (ToQuestion request.now response))) }
+    ensures silent { IfOk result (λ answer. IfNone answer (C.is_silent caller.new)) }
+{
     'asks: for _ask in 0..u64::MAX {
         let response = caller.ask(request)?;
         if is_answer(&response) || !caller.pause() {
             return Ok(response);
         }
     }
-    Ok(None)
+    Err(CallFault::Strange)
 }
 
 /// Whether an answer came that is more than a wish to be asked later.

@@ -1,8 +1,9 @@
 //! Puts, each once.
-ghost use Rattle.std.specs.Prelude.{◌≡◌, IfOk, IfSome};
-ghost use Rattle.amo_call.specs.declared.putting.Order.{Order};
+ghost use Rattle.std.specs.Prelude.{◌≡◌, ◌↔◌, Some, ◌⊎◌, true, false, IfOk, IfSome, IsTrue, OnOk};
+ghost use Rattle.amo_door.specs.declared.claim.EventPlace.{EventPlace};
+ghost use Rattle.amo_call.specs.Answer.{TellsPut};
 ghost use Rattle.amo_call.specs.Kept.{kept_text};
-ghost use Rattle.amo_call.specs.Turns.{HasPut, HasToldPut};
+ghost use Rattle.amo_call.specs.Puts.{ComesTo, HasPut, IsAnswered, IsNextPut, IsPutting, Resumes, ToldPut};
 
 use crate::answer::{Response, read_conflict, read_fate, read_put, read_state};
 use crate::caller::{ask_until, copied};
@@ -65,49 +66,72 @@ pub fn put<C: Caller>(
     order: &Order,
 ) -> Result<PutTold, CallFault>
     requires { IfSome found (λ kept. C.saved caller.old ≡ kept_text kept) }
-    // What is told to have been put the file says is put: so the same call again asks nothing, and tells the same.
-    ensures { IfOk result (HasToldPut order.now (C.saved caller.new)) }
+    // What is told of a message is what answers told of it, and of each call behind another that the one before it put nothing. What is told to have been put
+    // the file says is put: so the same call again asks nothing, and tells the same.
+    ensures { IfOk result (ToldPut C.heard order.now (ComesTo C.heard order.now found) (C.is_silent caller.new) (C.saved caller.new)) }
 {
-    let mut after = match found {
-        Some(kept) => resume(kept, order),
-        None => begin(alloc, caller, order)?,
-    };
+    let mut after = begin_or_resume(alloc, caller, found, order)?;
     'turns: for _turn in 0..u64::MAX {
         match after {
             AfterPut::Told(told) => return Ok(told),
             AfterPut::Turn(turn) => after = make(alloc, caller, turn, order)?,
         }
     }
-    Ok(PutTold::NoAnswer)
+    Err(CallFault::Strange)
+}
+
+/// Goes on with the call that was found, or names one.
+fn begin_or_resume<C: Caller>(
+    alloc: Global,
+    caller: &mut C,
+    found: Option<Kept>,
+    order: &Order,
+) -> Result<AfterPut, CallFault>
+    requires { IfSome found (λ kept. C.saved caller.old ≡ kept_text kept) }
+    ensures { IfOk result (HasPut C.heard order.now (ComesTo C.heard order.now found) (C.is_fresh caller.new) (C.is_silent caller.new) (C.saved caller.new)) }
+{
+    match found {
+        Some(kept) => Ok(resume(kept, order)),
+        None => begin(alloc, caller, order),
+    }
 }
 
 /// Goes on with the call of a file, where it is that of this message.
 fn resume(kept: Kept, order: &Order) -> AfterPut
-    ensures { HasPut order.now (kept_text kept) result }
+    ensures { Resumes order.now kept result }
 {
     if kept.claim.stream != order.stream {
         return AfterPut::Told(PutTold::OtherCall);
     }
-    match &kept.progress {
-        Progress::Put { line, message } if *message == order.message => {
-            let line = *line;
-            let Kept {
-                claim,
-                progress: _progress,
-            } = kept;
-            AfterPut::Told(PutTold::Put { claim, line })
+    let Kept { claim, progress } = kept;
+    match progress {
+        Progress::Put { line, message } => {
+            if message == order.message {
+                AfterPut::Told(PutTold::Put { claim, line })
+            } else {
+                AfterPut::Told(PutTold::OtherCall)
+            }
         }
-        Progress::Putting { message } if *message == order.message => AfterPut::Turn(PutTurn {
-            kept,
-            is_first: false,
-        }),
-        _ => AfterPut::Told(PutTold::OtherCall),
+        Progress::Putting { message } => {
+            if message == order.message {
+                let progress = Progress::Putting { message };
+                AfterPut::Turn(PutTurn {
+                    kept: Kept { claim, progress },
+                    is_first: false,
+                })
+            } else {
+                AfterPut::Told(PutTold::OtherCall)
+            }
+        }
+        Progress::Taking { .. } | Progress::Taken { .. } | Progress::Done { .. } => {
+            AfterPut::Told(PutTold::OtherCall)
+        }
     }
 }
 
 /// Names a call anew: the next number of the stream, in the life that the host lives. The file has it then.
 fn begin<C: Caller>(alloc: Global, caller: &mut C, order: &Order) -> Result<AfterPut, CallFault>
-    ensures { IfOk result (HasPut order.now (C.saved caller.new)) }
+    ensures { IfOk result (HasPut C.heard order.now (IsNextPut C.heard order.now) (C.is_fresh caller.new) (C.is_silent caller.new) (C.saved caller.new)) }
 {
     let request = Request::state(alloc, order.stream, 0)?;
     let Some(response) = ask_until(caller, &request)? else {
@@ -144,12 +168,13 @@ fn make<C: Caller>(
     turn: PutTurn,
     order: &Order,
 ) -> Result<AfterPut, CallFault>
-    requires { C.saved caller.old ≡ kept_text turn.kept }
-    ensures { IfOk result (HasPut order.now (C.saved caller.new)) }
+    requires saved { C.saved caller.old ≡ kept_text turn.kept }
+    requires putting { IsPutting order.now turn.kept }
+    requires first { turn.is_first ≡ true → C.is_fresh caller.old }
+    ensures { IfOk result (HasPut C.heard order.now (ComesTo C.heard order.now (Some turn.kept)) (C.is_fresh caller.new) (C.is_silent caller.new) (C.saved caller.new)) }
 {
-    let answered = caller.make(&turn.kept)?;
-    let Some(response) = answered else {
-        return Ok(put_again(caller, turn, false));
+    let Some(response) = caller.make(&turn.kept)? else {
+        return Ok(put_again(caller, turn, PutTold::NoAnswer));
     };
     match read_put(&response, &turn.kept.claim) {
         Some(place) => finish(caller, turn, place.line, order),
@@ -165,31 +190,42 @@ fn look_at_refusal<C: Caller>(
     response: Response,
     order: &Order,
 ) -> Result<AfterPut, CallFault>
-    requires { C.saved caller.old ≡ kept_text turn.kept }
-    ensures { IfOk result (HasPut order.now (C.saved caller.new)) }
+    requires saved { C.saved caller.old ≡ kept_text turn.kept }
+    requires putting { IsPutting order.now turn.kept }
+    requires answered { IsAnswered C.heard turn response }
+    requires no_place { (place : EventPlace) → ¬ (TellsPut turn.kept.claim place response) }
+    ensures { IfOk result (HasPut C.heard order.now (ComesTo C.heard order.now (Some turn.kept)) (C.is_fresh caller.new) (C.is_silent caller.new) (C.saved caller.new)) }
 {
+    if is_put_off(response.status) {
+        return Ok(put_again(caller, turn, PutTold::Full));
+    }
     match response.status {
-        408 | 503 => Ok(put_again(caller, turn, true)),
         409 => look_at_conflict(alloc, caller, turn, response, order),
-        410 => look_back(alloc, caller, turn, order),
+        410 => look_back(alloc, caller, turn, &response, order),
         _ => Ok(AfterPut::Told(PutTold::Refused(response))),
     }
 }
 
-/// The call is made again, where there is time; else it is told that no answer came, or that there is no room.
-fn put_again<C: Caller>(caller: &mut C, turn: PutTurn, is_full: bool) -> AfterPut
-    requires { C.saved caller.old ≡ kept_text turn.kept }
-    ensures { (order : Order) → HasPut order (C.saved caller.new) result }
+/// Whether a status asks to try later.
+fn is_put_off(status: u16) -> bool
+    ensures { IsTrue result ↔ ((status ≡ 408) ⊎ (status ≡ 503)) }
+{
+    status == 408 || status == 503
+}
+
+/// The call is made again, where there is time; else this is told.
+fn put_again<C: Caller>(caller: &mut C, turn: PutTurn, told: PutTold) -> AfterPut
+    ensures saved { C.saved caller.new ≡ C.saved caller.old }
+    ensures silent { C.is_silent caller.old → C.is_silent caller.new }
+    ensures again { (result ≡ AfterPut.Turn (record { kept = turn.kept; is_first = false })) ⊎ (result ≡ AfterPut.Told told) }
 {
     if caller.pause() {
         AfterPut::Turn(PutTurn {
             kept: turn.kept,
             is_first: false,
         })
-    } else if is_full {
-        AfterPut::Told(PutTold::Full)
     } else {
-        AfterPut::Told(PutTold::NoAnswer)
+        AfterPut::Told(told)
     }
 }
 
@@ -200,7 +236,8 @@ fn finish<C: Caller>(
     line: u64,
     order: &Order,
 ) -> Result<AfterPut, CallFault>
-    ensures { IfOk result (HasPut order.now (C.saved caller.new)) }
+    ensures told { IfOk result (λ after. after ≡ AfterPut.Told (PutTold.Put turn.kept.claim line)) }
+    ensures saved { OnOk result (C.saved caller.new ≡ kept_text (record { claim = turn.kept.claim; progress = Progress.Put line order.now.message })) }
 {
     let message = order.message.clone()?;
     let Kept {
@@ -227,16 +264,22 @@ fn look_at_conflict<C: Caller>(
     response: Response,
     order: &Order,
 ) -> Result<AfterPut, CallFault>
-    ensures { IfOk result (HasPut order.now (C.saved caller.new)) }
+    requires putting { IsPutting order.now turn.kept }
+    requires answered { IsAnswered C.heard turn response }
+    requires no_place { (place : EventPlace) → ¬ (TellsPut turn.kept.claim place response) }
+    requires status { response.status ≡ 409 }
+    ensures { IfOk result (HasPut C.heard order.now (ComesTo C.heard order.now (Some turn.kept)) (C.is_fresh caller.new) (C.is_silent caller.new) (C.saved caller.new)) }
 {
     let Some(last) = read_conflict(&response, &turn.kept.claim, true) else {
         return Ok(AfterPut::Told(PutTold::Refused(response)));
     };
-    if turn.is_first || last == turn.kept.claim.number {
-        begin(alloc, caller, order)
-    } else {
-        Ok(AfterPut::Told(PutTold::Doubtful))
+    if turn.is_first {
+        return begin(alloc, caller, order);
     }
+    if last == turn.kept.claim.number {
+        return begin(alloc, caller, order);
+    }
+    Ok(AfterPut::Told(PutTold::Doubtful))
 }
 
 /// The host lives another life. Where the message was never put in the one of the call, it is put now; else what became of it is told.
@@ -244,20 +287,46 @@ fn look_back<C: Caller>(
     alloc: Global,
     caller: &mut C,
     turn: PutTurn,
+    response: &Response,
     order: &Order,
 ) -> Result<AfterPut, CallFault>
-    ensures { IfOk result (HasPut order.now (C.saved caller.new)) }
+    requires putting { IsPutting order.now turn.kept }
+    requires answered { IsAnswered C.heard turn response.now }
+    requires status { response.now.status ≡ 410 }
+    ensures { IfOk result (HasPut C.heard order.now (ComesTo C.heard order.now (Some turn.kept)) (C.is_fresh caller.new) (C.is_silent caller.new) (C.saved caller.new)) }
 {
     if turn.is_first {
         return begin(alloc, caller, order);
     }
+    look_at_fate(alloc, caller, turn, order)
+}
+
+/// The host lives another life than that of a call that was made before: what became of its message decides.
+fn look_at_fate<C: Caller>(
+    alloc: Global,
+    caller: &mut C,
+    turn: PutTurn,
+    order: &Order,
+) -> Result<AfterPut, CallFault>
+    requires { IsPutting order.now turn.kept }
+    ensures { IfOk result (HasPut C.heard order.now (ComesTo C.heard order.now (Some turn.kept)) (C.is_fresh caller.new) (C.is_silent caller.new) (C.saved caller.new)) }
+{
     let request = Request::outcome(alloc, &turn.kept.claim)?;
     let Some(response) = ask_until(caller, &request)? else {
         return Ok(AfterPut::Told(PutTold::NoAnswer));
     };
-    match read_fate(&response, &turn.kept.claim) {
-        Some(Fate::Never) => begin(alloc, caller, order),
-        Some(fate) => Ok(AfterPut::Told(PutTold::Became(fate))),
-        None => Ok(AfterPut::Told(PutTold::Refused(response))),
+    let Some(fate) = read_fate(&response, &turn.kept.claim) else {
+        return Ok(AfterPut::Told(PutTold::Refused(response)));
+    };
+    if was_never(&fate) {
+        return begin(alloc, caller, order);
     }
+    Ok(AfterPut::Told(PutTold::Became(fate)))
+}
+
+/// Whether a message was never put in a life that is over.
+fn was_never(fate: &Fate) -> bool
+    ensures { IsTrue result ↔ fate.now ≡ Fate.Never }
+{
+    matches!(fate, Fate::Never)
 }

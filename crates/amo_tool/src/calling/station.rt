@@ -134,6 +134,13 @@ impl<R: AllocGlobal + Clock + Files<File = File> + Net<Stream = TcpStream>> Call
     for Station<'_, R> {
     ghost saved = { λ s. s.text.items };
 
+    // No clause says what a connection carries: whatever came over it counts as an answer.
+    ghost is_fresh = { λ _. Unit {0} };
+
+    ghost is_silent = { λ _. Unit {0} };
+
+    ghost heard = { λ _. Unit {0} };
+
     fn save(&mut self, kept: &Kept) -> Result<(), CallFault> {
         self.keep(kept)
     }

@@ -1,4 +1,25 @@
+use Rattle.std.proofs.Common.{◌≡◌, true, inl, inr, refl, ◌∙◌, arith}
+use Rattle.amo_call.specs.declared.putting.PutTold.TheVariants as told
+use Rattle.amo_call.specs.Puts.{IsFound, IsLater, OfCall}
+use Rattle.amo_call.proofs.Puts.{goes_again}
 use Rattle.amo_call.proofs.putting.look_at_refusal.Goals as goal
 
-pub returns-in-408 : goal.returns-in-408
-returns-in-408 g c = c.put_again.ensures c.args.order.now
+pub returns-then-is_put_off : goal.returns-then-is_put_off
+returns-then-is_put_off g c =
+    let C = g.C.Caller in
+    let caller = c.put_again.new.caller in
+    let kept = c.args.turn.kept in
+    goes_again C.heard c.args.order.now (C.is_fresh caller) (C.is_silent caller) (C.saved caller) c.put_again.result c.args.turn told.Full
+    (c.put_again.ensures.saved ∙ c.requires.saved) c.requires.putting
+    (IsLater kept (IsFound kept refl) c.requires.putting c.args.response c.requires.answered.call (c.is_put_off.ensures.0 c.if-is_put_off.true)) c.put_again.ensures.again
+
+pub returns-in_default : goal.returns-in_default
+returns-in_default g c =
+    let kept = c.args.turn.kept in
+    OfCall kept (IsFound kept refl) c.requires.putting c.requires.answered.call (record {
+      no_place = c.requires.no_place;
+      no_conflict = λ last t. omega (arith, t.status);
+      no_other_life = λ e. omega (arith, e);
+      no_slowness = λ e. let yes : c.is_put_off.result ≡ true = c.is_put_off.ensures.1 (inl e) in let bad : ⊥ = cc (yes, c.if-is_put_off.false) in bad;
+      no_delay = λ e. let yes : c.is_put_off.result ≡ true = c.is_put_off.ensures.1 (inr e) in let bad : ⊥ = cc (yes, c.if-is_put_off.false) in bad;
+    })

@@ -1,0 +1,174 @@
+-- What follows of puts under way.
+use Rattle.std.proofs.Common.{◌≡◌, ℕ, false, List, ◌⊎◌, inl, inr, refl, sym, ◌∙◌, ap, subst}
+use Rattle.std.specs.Prelude.{IfOk, IfSome, OnOk, Option, None, Some, Result, Ok, Err}
+use Rattle.amo_door.specs.declared.claim.Claim.{Claim}
+use Rattle.amo_door.specs.declared.claim.EventPlace.{EventPlace}
+use Rattle.amo_call.specs.declared.answer.Response.{Response}
+use Rattle.amo_call.specs.declared.caller.CallFault.{CallFault}
+use Rattle.amo_call.specs.declared.kept.Kept.{Kept}
+use Rattle.amo_call.specs.declared.kept.Progress.{Progress}
+use Rattle.amo_call.specs.declared.kept.Progress.TheVariants as progress
+use Rattle.amo_call.specs.declared.putting.AfterPut.{AfterPut}
+use Rattle.amo_call.specs.declared.putting.AfterPut.TheVariants as after
+use Rattle.amo_call.specs.declared.putting.Order.{Order}
+use Rattle.amo_call.specs.declared.putting.PutTold.{PutTold}
+use Rattle.amo_call.specs.declared.putting.PutTold.TheVariants as told
+use Rattle.amo_call.specs.declared.putting.PutTurn.{PutTurn}
+use Rattle.amo_call.specs.Answer.{TellsPut}
+use Rattle.amo_call.specs.Heard.{Heard, ToCall}
+use Rattle.amo_call.specs.Kept.{kept_text}
+use Rattle.amo_call.specs.Puts.{ComesTo, IsFound, Begins, GoesOn, HasPut, IsNextPut, IsPutting, IsToldFull, IsLater, IsLast, IsToldRefusal, OfCall, OfState, OfFate, NothingPut, Resumes, ToldPut}
+
+-- the text of a call whose parts are known
+pub text_of_parts : (call : Kept) (claim : Claim) (p : Progress) → call.claim ≡ claim → call.progress ≡ p → kept_text call ≡ kept_text (record { claim = claim; progress = p })
+text_of_parts call claim p e f =
+    ap (λ (c : Claim). kept_text (record { claim = c; progress = call.progress })) e ∙ ap (λ (q : Progress). kept_text (record { claim = claim; progress = q })) f
+
+-- what a call comes to that a put came to, the put comes to
+pub goes_further : (heard : Heard → Type 0) (order : Order) (found : Option Kept) (before call : Kept) → ComesTo heard order found before
+    → ComesTo heard order (Some before) call → ComesTo heard order found call
+goes_further heard order found before call p (IsFound same e) = let is : before ≡ same = cc in subst (λ (k : Kept). ComesTo heard order found k) is p
+goes_further heard order found before call p (Begins next none new) = absurd (let never : ⊥ = cc in never)
+goes_further heard order found before call p (GoesOn middle next q nothing new) =
+    GoesOn middle next (goes_further heard order found before middle p q) nothing new
+
+-- what is told of some calls is told of more
+full_of_more : (heard : Heard → Type 0) (order : Order) (few more : Kept → Type 0) → ((k : Kept) → few k → more k) → IsToldFull heard order few → IsToldFull heard order more
+full_of_more heard order few more f (IsLater call is putting response answered status) = IsLater call (f call is) putting response answered status
+full_of_more heard order few more f (IsLast response state answered told last) = IsLast response state answered told last
+
+refusal_of_more : (heard : Heard → Type 0) (order : Order) (few more : Kept → Type 0) (response : Response) → ((k : Kept) → few k → more k)
+    → IsToldRefusal heard order few response → IsToldRefusal heard order more response
+refusal_of_more heard order few more response f (OfCall call is putting answered none) = OfCall call (f call is) putting answered none
+refusal_of_more heard order few more response f (OfState answered none) = OfState answered none
+refusal_of_more heard order few more response f (OfFate call is putting answered none) = OfFate call (f call is) putting answered none
+
+told_of_more : (heard : Heard → Type 0) (order : Order) (few more : Kept → Type 0) (silent : Type 0) (saved : List ℕ) (told : PutTold) → ((k : Kept) → few k → more k)
+    → ToldPut heard order few silent saved told → ToldPut heard order more silent saved told
+told_of_more heard order few more silent saved (told.Put claim line) f t = (t.0, record { call = t.1.call; is_reached = f t.1.call t.1.is_reached; claim_is = t.1.claim_is; by = t.1.by })
+told_of_more heard order few more silent saved (told.Became what) f t = record {
+  call = t.call;
+  is_reached = f t.call t.is_reached;
+  putting = t.putting;
+  response = t.response;
+  answered = t.answered;
+  told = t.told;
+  ever = t.ever;
+}
+told_of_more heard order few more silent saved told.Doubtful f t = record {
+  call = t.call;
+  is_reached = f t.call t.is_reached;
+  putting = t.putting;
+  response = t.response;
+  answered = t.answered;
+  last = t.last;
+  told = t.told;
+  other = t.other;
+}
+told_of_more heard order few more silent saved told.Full f t = full_of_more heard order few more f t
+told_of_more heard order few more silent saved told.NoAnswer f t = t
+told_of_more heard order few more silent saved told.OtherCall f t = record { call = t.call; is_reached = f t.call t.is_reached; other = t.other; same = t.same }
+told_of_more heard order few more silent saved (told.Refused response) f t = refusal_of_more heard order few more response f t
+
+pub of_more : (heard : Heard → Type 0) (order : Order) (few more : Kept → Type 0) (fresh silent : Type 0) (saved : List ℕ) (after : AfterPut) → ((k : Kept) → few k → more k)
+    → HasPut heard order few fresh silent saved after → HasPut heard order more fresh silent saved after
+of_more heard order few more fresh silent saved (after.Told told) f t = told_of_more heard order few more silent saved told f t
+of_more heard order few more fresh silent saved (after.Turn turn) f t = record { is_saved = t.is_saved; is_reached = f turn.kept t.is_reached; putting = t.putting; first = t.first }
+
+-- a first call begins a put
+pub begins : (heard : Heard → Type 0) (order : Order) (fresh silent : Type 0) (saved : List ℕ) (after : AfterPut)
+    → HasPut heard order (IsNextPut heard order) fresh silent saved after → HasPut heard order (ComesTo heard order None) fresh silent saved after
+begins heard order fresh silent saved after t =
+    of_more heard order (IsNextPut heard order) (ComesTo heard order None) fresh silent saved after (λ k new. Begins k refl new) t
+
+-- behind a call that put nothing comes another one
+pub goes_on : (heard : Heard → Type 0) (order : Order) (fresh silent : Type 0) (saved : List ℕ) (after : AfterPut) (before : Kept) → NothingPut heard before
+    → HasPut heard order (IsNextPut heard order) fresh silent saved after → HasPut heard order (ComesTo heard order (Some before)) fresh silent saved after
+goes_on heard order fresh silent saved after before nothing t =
+    of_more heard order (IsNextPut heard order) (ComesTo heard order (Some before)) fresh silent saved after (λ k new. GoesOn before k (IsFound before refl) nothing new) t
+
+-- what a turn comes to, the put comes to
+pub turns_on : (heard : Heard → Type 0) (order : Order) (found : Option Kept) (fresh silent : Type 0) (saved : List ℕ) (after : AfterPut) (before : Kept)
+    → ComesTo heard order found before → HasPut heard order (ComesTo heard order (Some before)) fresh silent saved after
+    → HasPut heard order (ComesTo heard order found) fresh silent saved after
+turns_on heard order found fresh silent saved after before is t =
+    of_more heard order (ComesTo heard order (Some before)) (ComesTo heard order found) fresh silent saved after (λ k q. goes_further heard order found before k is q) t
+
+-- a call is made again, or this is told
+pub goes_again : (heard : Heard → Type 0) (order : Order) (fresh silent : Type 0) (saved : List ℕ) (result : AfterPut) (turn : PutTurn) (told : PutTold)
+    → saved ≡ kept_text turn.kept → IsPutting order turn.kept → ToldPut heard order (ComesTo heard order (Some turn.kept)) silent saved told
+    → (result ≡ after.Turn (record { kept = turn.kept; is_first = false })) ⊎ (result ≡ after.Told told)
+    → HasPut heard order (ComesTo heard order (Some turn.kept)) fresh silent saved result
+goes_again heard order fresh silent saved result turn told is putting why (inl e) =
+    subst (λ (a : AfterPut). HasPut heard order (ComesTo heard order (Some turn.kept)) fresh silent saved a) (sym e) (record {
+      is_saved = is;
+      is_reached = IsFound turn.kept refl;
+      putting = putting;
+      first = λ bad. absurd (let never : ⊥ = cc in never);
+    })
+goes_again heard order fresh silent saved result turn told is putting why (inr e) =
+    subst (λ (a : AfterPut). HasPut heard order (ComesTo heard order (Some turn.kept)) fresh silent saved a) (sym e) why
+
+-- the message of a call was put
+pub is_finished : (heard : Heard → Type 0) (order : Order) (fresh silent : Type 0) (saved : List ℕ) (result : AfterPut) (call : Kept) (place : EventPlace) (response : Response)
+    → IsPutting order call → heard (ToCall call response) → TellsPut call.claim place response → result ≡ after.Told (told.Put call.claim place.line)
+    → saved ≡ kept_text (record { claim = call.claim; progress = progress.Put place.line order.message })
+    → HasPut heard order (ComesTo heard order (Some call)) fresh silent saved result
+is_finished heard order fresh silent saved result call place response putting answered tells e is =
+    subst (λ (a : AfterPut). HasPut heard order (ComesTo heard order (Some call)) fresh silent saved a) (sym e) (
+      is,
+      record {
+        call = call;
+        is_reached = IsFound call refl;
+        claim_is = refl;
+        by = inr (putting, record { response = response; answered = answered; place = place; told = tells; line_is = refl });
+      },
+    )
+
+-- what is known of a call that was found
+pub is_resumed : (heard : Heard → Type 0) (order : Order) (fresh silent : Type 0) (saved : List ℕ) (result : AfterPut) (call : Kept) → saved ≡ kept_text call
+    → Resumes order call result → HasPut heard order (ComesTo heard order (Some call)) fresh silent saved result
+is_resumed heard order fresh silent saved (after.Turn turn) call is (same, putting, again) = record {
+  is_saved = is ∙ ap kept_text (sym same);
+  is_reached = IsFound turn.kept (ap Some (sym same));
+  putting = putting;
+  first = λ e. absurd (again e);
+}
+is_resumed heard order fresh silent saved (after.Told (told.Put claim line)) call is (same, put) = (
+  is ∙ text_of_parts call claim (progress.Put line order.message) same put.message,
+  record {
+    call = call;
+    is_reached = IsFound call refl;
+    claim_is = same;
+    by = inl put;
+  },
+)
+is_resumed heard order fresh silent saved (after.Told told.OtherCall) call is other = record { call = call; is_reached = IsFound call refl; other = other; same = is }
+is_resumed heard order fresh silent saved (after.Told (told.Became what)) call is never = absurd never
+is_resumed heard order fresh silent saved (after.Told told.Doubtful) call is never = absurd never
+is_resumed heard order fresh silent saved (after.Told told.Full) call is never = absurd never
+is_resumed heard order fresh silent saved (after.Told told.NoAnswer) call is never = absurd never
+is_resumed heard order fresh silent saved (after.Told (told.Refused response)) call is never = absurd never
+
+-- the same of what may have failed
+pub begins_ok : (heard : Heard → Type 0) (order : Order) (fresh silent : Type 0) (saved : List ℕ) (r : Result AfterPut CallFault)
+    → IfOk r (HasPut heard order (IsNextPut heard order) fresh silent saved) → IfOk r (HasPut heard order (ComesTo heard order None) fresh silent saved)
+begins_ok heard order fresh silent saved (Ok after) t = begins heard order fresh silent saved after t
+begins_ok heard order fresh silent saved (Err fault) t = tt
+
+pub goes_on_ok : (heard : Heard → Type 0) (order : Order) (fresh silent : Type 0) (saved : List ℕ) (r : Result AfterPut CallFault) (before : Kept) → NothingPut heard before
+    → IfOk r (HasPut heard order (IsNextPut heard order) fresh silent saved) → IfOk r (HasPut heard order (ComesTo heard order (Some before)) fresh silent saved)
+goes_on_ok heard order fresh silent saved (Ok after) before nothing t = goes_on heard order fresh silent saved after before nothing t
+goes_on_ok heard order fresh silent saved (Err fault) before nothing t = tt
+
+pub is_finished_ok : (heard : Heard → Type 0) (order : Order) (fresh silent : Type 0) (saved : List ℕ) (r : Result AfterPut CallFault) (call : Kept) (place : EventPlace) (response : Response)
+    → IsPutting order call → heard (ToCall call response) → TellsPut call.claim place response → IfOk r (λ a. a ≡ after.Told (told.Put call.claim place.line))
+    → OnOk r (saved ≡ kept_text (record { claim = call.claim; progress = progress.Put place.line order.message }))
+    → IfOk r (HasPut heard order (ComesTo heard order (Some call)) fresh silent saved)
+is_finished_ok heard order fresh silent saved (Ok a) call place response putting answered tells e is =
+    is_finished heard order fresh silent saved a call place response putting answered tells e is
+is_finished_ok heard order fresh silent saved (Err fault) call place response putting answered tells e is = tt
+
+-- what a value has, at what it is
+pub at_some : {A : Type 0} (r : Option A) (P : A → Type 0) (x : A) → r ≡ Some x → IfSome r P → P x
+at_some {A} r P x e some = subst (λ (o : Option A). IfSome o P) e some

@@ -1,0 +1,57 @@
+use Rattle.std.proofs.Common.{◌≡◌, ◌+◌, ◌<◌, ◌^◌, true, refl, ap, arith, rules}
+use Rattle.amo_call.specs.declared.answer.Response.{Response}
+use Rattle.amo_call.specs.declared.answer.StreamState.{StreamState}
+use Rattle.amo_call.specs.declared.kept.Progress.TheVariants as progress
+use Rattle.amo_call.specs.Answer.{TellsState}
+use Rattle.amo_call.specs.Heard.{ToQuestion}
+use Rattle.amo_call.specs.Puts.{IsLast, OfState}
+use Rattle.amo_call.proofs.Puts.{at_some}
+use Rattle.amo_call.proofs.Steps.{at_none}
+use Rattle.amo_call.proofs.putting.begin.Goals as goal
+
+pub returns-in_default-read_state : goal.returns-in_default-read_state
+returns-in_default-read_state g c =
+    let heard = g.C.Caller.heard in
+    OfState (record {
+      request = c.in_ok-request.request;
+      asked = record { method_is = c.in_ok-request.ensures.method; target_is = c.in_ok-request.ensures.target };
+      answered = at_some c.in_ok-response.field-0 (λ (r : Response). heard (ToQuestion c.in_ok-request.request r)) c.in-Some.response c.in-Some.is c.in_ok-response.ensures.heard;
+    })
+    (at_none c.read_state.result ((state : StreamState) → ¬ (TellsState c.args.order.now.stream true state c.in-Some.response)) c.in_default-read_state.is c.read_state.ensures.none)
+
+pub returns-in_default-checked_add : goal.returns-in_default-checked_add
+returns-in_default-checked_add g c =
+    let heard = g.C.Caller.heard in
+    let told = c.in-Some-read_state.ensures.found in
+    let fits : c.in-Some-read_state.state.last < 2 ^ 64 = told.fits in
+    let none : ¬ (c.in-Some-read_state.state.last + 1 < 2 ^ 64) = c.in_default-checked_add.ensures in
+    IsLast c.in-Some.response c.in-Some-read_state.state (record {
+      request = c.in_ok-request.request;
+      asked = record { method_is = c.in_ok-request.ensures.method; target_is = c.in_ok-request.ensures.target };
+      answered = at_some c.in_ok-response.field-0 (λ (r : Response). heard (ToQuestion c.in_ok-request.request r)) c.in-Some.response c.in-Some.is c.in_ok-response.ensures.heard;
+    }) told (omega (arith, fits, none))
+
+pub returns : goal.returns
+returns g c =
+    let heard = g.C.Caller.heard in
+    let same : c.in_ok-clone.field-0 ≡ c.args.order.now.message = search rules in
+    record {
+      is_saved = c.in_ok-save.ensures.saved;
+      is_reached = record {
+        putting = record { stream = refl; message = ap progress.Putting same };
+        by = c.copied.ensures;
+        response = c.in-Some.response;
+        answered = record {
+          request = c.in_ok-request.request;
+          asked = record { method_is = c.in_ok-request.ensures.method; target_is = c.in_ok-request.ensures.target };
+          answered = at_some c.in_ok-response.field-0 (λ (r : Response). heard (ToQuestion c.in_ok-request.request r)) c.in-Some.response c.in-Some.is c.in_ok-response.ensures.heard;
+        };
+        state = c.in-Some-read_state.state;
+        told = c.in-Some-read_state.ensures.found;
+        life = refl;
+        number = omega (arith, c.in-Some-checked_add.ensures);
+        fits = omega (arith, c.in-Some-checked_add.ensures);
+      };
+      putting = record { stream = refl; message = ap progress.Putting same };
+      first = λ _. c.in_ok-save.ensures.fresh;
+    }

@@ -1,0 +1,44 @@
+use Rattle.std.proofs.Common.{ℕ, true, refl, subst, arith}
+use Rattle.amo_call.specs.Answer.{TellsConflict}
+use Rattle.amo_call.specs.Puts.{IsFound, IsTaken, OfCall, WasRefused}
+use Rattle.amo_call.proofs.Puts.{goes_on_ok}
+use Rattle.amo_call.proofs.Steps.{at_none}
+use Rattle.amo_call.proofs.putting.look_at_conflict.Goals as goal
+
+pub returns-in_default : goal.returns-in_default
+returns-in_default g c =
+    let kept = c.args.turn.kept in
+    let status = c.requires.status in
+    OfCall kept (IsFound kept refl) c.requires.putting c.requires.answered.call (record {
+      no_place = c.requires.no_place;
+      no_conflict = at_none c.read_conflict.result ((last : ℕ) → ¬ (TellsConflict kept.claim true last c.args.response)) c.in_default.is c.read_conflict.ensures.none;
+      no_other_life = λ e. omega (arith, e, status);
+      no_slowness = λ e. omega (arith, e, status);
+      no_delay = λ e. omega (arith, e, status);
+    })
+
+pub returns-then-turn : goal.returns-then-turn
+returns-then-turn g c =
+    let C = g.C.Caller in
+    let caller = c.begin.new.caller in
+    goes_on_ok C.heard c.args.order.now (C.is_fresh caller) (C.is_silent caller) (C.saved caller) c.begin.result c.args.turn.kept
+    (WasRefused c.args.response c.in-Some.last (c.requires.answered.first c.if-turn.true) c.in-Some.ensures.found) c.begin.ensures
+
+pub returns-then-last-turn : goal.returns-then-last-turn
+returns-then-last-turn g c =
+    let C = g.C.Caller in
+    let caller = c.begin-then-last-turn.new.caller in
+    goes_on_ok C.heard c.args.order.now (C.is_fresh caller) (C.is_silent caller) (C.saved caller) c.begin-then-last-turn.result c.args.turn.kept
+    (IsTaken c.args.response c.requires.answered.call (subst (λ (n : ℕ). TellsConflict c.args.turn.kept.claim true n c.args.response) c.if-last-turn.true c.in-Some.ensures.found)) c.begin-then-last-turn.ensures
+
+pub returns : goal.returns
+returns g c = record {
+  call = c.args.turn.kept;
+  is_reached = IsFound c.args.turn.kept refl;
+  putting = c.requires.putting;
+  response = c.args.response;
+  answered = c.requires.answered.call;
+  last = c.in-Some.last;
+  told = c.in-Some.ensures.found;
+  other = c.if-last-turn.false;
+}
