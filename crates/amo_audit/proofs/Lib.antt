@@ -18,3 +18,5 @@ pub mod Lone
 pub mod Senders
 pub mod Exchanged
 pub mod Furthest
+pub mod Parts
+pub mod Come

@@ -15,3 +15,5 @@ pub mod Explanation
 pub mod Outcomes
 pub mod Alone
 pub mod Sender
+pub mod Parts
+pub mod Pieces

@@ -4,6 +4,8 @@
 //! - [`audit`] judges bytes as a journal of either version: [`Verdict::Yes`] comes only where they are a journal of a right, honest and
 //!   fresh history, which then serves each of its streams. Otherwise the verdict names the first fault and its line: a malformed line
 //!   comes before a gap, and a gap before the first event at fault, in the order in which a world finds faults.
+//! - [`PiecesAudit`] judges a journal in pieces, or in one, while they are read, each once: its verdict is one on the text that they spell
+//!   together.
 //! - [`report`] writes the line that tells what is found of a journal, or of two that are merged, and answers the exit status.
 //! - [`explain`] writes, of a journal that is judged yes, the run of the at-most-once queue that its clients saw of each stream; of
 //!   other bytes it answers the verdict, which [`tell`] writes. [`explain_both`] does so of two journals. What may still be got is not lost
@@ -36,6 +38,7 @@ mod both;
 mod coming;
 mod explaining;
 mod hosts;
+mod judged_lines;
 mod judgement;
 mod judging;
 mod keeping;
@@ -47,6 +50,7 @@ mod marking;
 mod merge_fault;
 mod merging;
 mod outcomes;
+mod pieces_audit;
 mod reach;
 mod reading;
 mod reporting;
@@ -56,6 +60,7 @@ mod sender_found;
 mod side;
 mod sides;
 mod site;
+mod text_audit;
 mod verdict;
 mod whose;
 
@@ -69,6 +74,7 @@ pub use judgement::Judgement;
 pub use merge_fault::MergeFault;
 pub use merging::merge;
 pub use outcomes::{PutOutcomes, outcomes_of};
+pub use pieces_audit::PiecesAudit;
 pub use reach::Reach;
 pub use reporting::{report, tell, tell_judgement};
 pub use sender::sender_events;
