@@ -1,21 +1,22 @@
 //! Audits journals, and explains them.
-ghost use Rattle.std.specs.Prelude.{◌≡◌, ◌<◌};
+ghost use Rattle.std.specs.Prelude.{◌≡◌, ◌<◌, ◌∷◌, ℕ, List, OnOk};
+ghost use Rattle.amo_audit.specs.Pieces.{HaveCome};
 
 use crate::failure::Failure;
-use crate::pieces::Journal;
+use crate::pieces::{Journal, Names};
 use crate::watched::Watched;
 use amo_audit::{
-    Judgement, Reach, Verdict, Whose, audit, audit_alone, explain, explain_both, outcomes_of,
-    report, tell_judgement, whose_are,
+    Judgement, PiecesAudit, Reach, Verdict, Whose, audit, audit_alone, explain, explain_both,
+    outcomes_of, report, tell, tell_judgement, whose_are,
 };
 use amo_journal::{JournalFault, open, read_journal};
 use amo_text::Out;
 use std::cell::Cell;
-use std::io;
 use std::io::{BufWriter, Printer, Write};
 use std::marker::Brand;
 use std::rt::Files;
 use std::sync::ledger::{Blank, Ledger};
+use std::{fs, io};
 use thiserror::Error;
 
 /// Audits the journal of a name, or the journals of two processes, tells the verdict, and answers the status to end with.
@@ -24,7 +25,11 @@ pub(crate) fn audit_files<R: AllocGlobal + Eprint + Files + Print>(
     file: &str,
     second: Option<&str>,
 ) -> Result<u8, Failure> {
-    let first = Journal::read(rt, file)?;
+    let names = Names::find(rt, file)?;
+    if second.is_none() && names.can_be_read_again(rt) {
+        return audit_streamed(rt, file, &names);
+    }
+    let first = Journal::read_of(rt, names)?;
     let second = match second {
         Some(file) => Some(Journal::read(rt, file)?),
         None => None,
@@ -40,6 +45,46 @@ pub(crate) fn audit_files<R: AllocGlobal + Eprint + Files + Print>(
         second.tell_missing(rt);
     }
     Ok(status)
+}
+
+/// Audits the journal of this name in these files, each of which is read a block at a time. Only where it is in pieces, of which one is at fault, it
+/// is read once more, for the place of the line.
+fn audit_streamed<R: AllocGlobal + Eprint + Files + Print>(
+    rt: &R,
+    file: &str,
+    names: &Names,
+) -> Result<u8, Failure> {
+    let verdict = audit_pieces(rt, names.pieces())?;
+    let status = write_verdict::<R, Brand>(rt, verdict, Blank::new(1))?;
+    if status != 0 && names.are_several() {
+        if let Ok(journal) = Journal::read(rt, file) {
+            journal.tell_place(rt, line_of(verdict));
+        }
+    }
+    names.tell_missing(rt);
+    Ok(status)
+}
+
+/// The verdict on a journal in the files of these names.
+fn audit_pieces<R: AllocGlobal + Files>(rt: &R, names: &[String]) -> Result<Verdict, Failure> {
+    let Ok(mut audit) = PiecesAudit::new(rt.alloc()) else {
+        return Err(Failure::NoMemory);
+    };
+    for name in names {
+        if let Err(error) = add_piece(rt, &mut audit, name.as_str()) {
+            return Err(Failure::of_file(rt.alloc(), name.as_str(), error));
+        }
+    }
+    Ok(audit.verdict())
+}
+
+/// Has the file of this name audited as the next piece.
+fn add_piece<R: AllocGlobal + Files>(rt: &R, audit: &mut PiecesAudit, name: &str) -> io::Result<()>
+    ensures { OnOk result ((piece : List ℕ) × ((pieces : List (List ℕ)) → HaveCome audit.old pieces → HaveCome audit.new (piece ∷ pieces))) }
+{
+    let mut file = fs::open(rt, name)?;
+    audit.add(&mut file)?;
+    Ok(())
 }
 
 /// Tells where the line stands that was named of a journal in pieces, or where two journals are at fault of which one is in pieces.
@@ -113,6 +158,27 @@ fn audit_bytes<R: AllocGlobal + Print, L: Ledger>(
     let watched = Watched::new(io::writer(rt), &cause);
     let mut out = Out::<Watched<'_, Printer<'_, R>>, L>::new(watched, blank);
     let told = report(rt.alloc(), first, second, &mut out);
+    out.into_inner().flush().map_err(Failure::of_output)?;
+    match told {
+        Ok(status) => Ok(status),
+        Err(fault) => Err(Failure::of_report(fault, cause.get())),
+    }
+}
+
+/// Tells this verdict on standard output, and answers the status to end with. What was written has left when it answers.
+fn write_verdict<R: AllocGlobal + Print, L: Ledger>(
+    rt: &R,
+    verdict: Verdict,
+    blank: Blank,
+) -> Result<u8, Failure>
+    requires name { blank.name ≡ L.name }
+    requires parts { blank.parts ≡ L.parts }
+    requires some { 0 < L.parts }
+{
+    let cause = Cell::new(None);
+    let watched = Watched::new(io::writer(rt), &cause);
+    let mut out = Out::<Watched<'_, Printer<'_, R>>, L>::new(watched, blank);
+    let told = tell(rt.alloc(), verdict, &mut out);
     out.into_inner().flush().map_err(Failure::of_output)?;
     match told {
         Ok(status) => Ok(status),

@@ -81,6 +81,19 @@ impl Names {
         self.pieces.len() > 1
     }
 
+    /// Whether it can be read again where a line is to be found: where it is in several files, none of these is a pipe or a device.
+    pub(crate) fn can_be_read_again<R: Files>(&self, rt: &R) -> bool {
+        if !self.are_several() {
+            return true;
+        }
+        for name in &self.pieces {
+            if !is_file(rt, name.as_str()) {
+                return false;
+            }
+        }
+        true
+    }
+
     /// Tells on standard error which piece is missing between the others, if one is.
     pub(crate) fn tell_missing<R: Eprint>(&self, rt: &R) {
         if let Some(name) = self.missing.as_ref() {
@@ -99,7 +112,14 @@ pub(crate) struct Journal {
 impl Journal {
     /// Reads the journal of this name.
     pub(crate) fn read<R: AllocGlobal + Files>(rt: &R, name: &str) -> Result<Journal, Failure> {
-        let names = Names::find(rt, name)?;
+        Journal::read_of(rt, Names::find(rt, name)?)
+    }
+
+    /// Reads the journal in these files.
+    pub(crate) fn read_of<R: AllocGlobal + Files>(
+        rt: &R,
+        names: Names,
+    ) -> Result<Journal, Failure> {
         let mut pieces = Pieces::new(rt.alloc());
         for piece in names.pieces() {
             if let Err(error) = add_file(rt, &mut pieces, piece.as_str()) {
@@ -171,6 +191,14 @@ fn is_there<R: Files>(rt: &R, name: &str) -> bool {
     match fs::symlink_metadata(rt, name) {
         Ok(_) => true,
         Err(error) => error.kind() != ErrorKind::NotFound,
+    }
+}
+
+/// Whether this is the name of a file, and of no pipe, device or directory.
+fn is_file<R: Files>(rt: &R, name: &str) -> bool {
+    match fs::metadata(rt, name) {
+        Ok(found) => found.is_file(),
+        Err(_) => false,
     }
 }
 
