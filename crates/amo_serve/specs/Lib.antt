@@ -4,3 +4,5 @@ pub mod Lane
 pub mod Fates
 pub mod Reign
 pub mod Past
+pub mod Archive
+pub mod Ending

@@ -1,4 +1,7 @@
 //! What a host with a door reads of its own journal, for those who ask.
+ghost use Rattle.std.specs.Prelude.{IfOk};
+ghost use Rattle.amo_serve.specs.Archive.{BeginsToRead};
+
 use crate::client::Client;
 use crate::door::Door;
 use crate::gets::read_gets;
@@ -27,7 +30,9 @@ impl Archive {
         path: &str,
         lives: Vec<Life>,
         doubts: Vec<Span>,
-    ) -> Result<Archive, AllocError> {
+    ) -> Result<Archive, AllocError>
+        ensures { IfOk result (BeginsToRead path.now lives.items doubts.items) }
+    {
         Ok(Archive {
             alloc,
             records: Records::new(alloc, path)?,

@@ -1,4 +1,9 @@
 //! How a host with a door comes to its end, when it is asked to.
+ghost use Rattle.std.specs.Prelude.{◌≡◌, ◌↔◌, Bool, None, Some, false, IsTrue, IfSome};
+ghost use Rattle.amo_live.specs.Service.{IsAtRest};
+ghost use Rattle.amo_object.specs.declared.step.End.TheVariants.{Sender};
+ghost use Rattle.amo_serve.specs.Ending.{begun, earlier, end_of, ended_of};
+
 use crate::client::Client;
 use crate::door::{Door, push};
 use crate::responder::Responder;
@@ -27,7 +32,9 @@ pub(crate) struct Farewell {
 
 impl Farewell {
     /// It was not asked to.
-    pub(crate) fn new(limits: Limits) -> Farewell {
+    pub(crate) fn new(limits: Limits) -> Farewell
+        ensures { result ≡ record { limits = limits; since = None } }
+    {
         Farewell {
             limits,
             since: None,
@@ -35,12 +42,16 @@ impl Farewell {
     }
 
     /// It was asked to, now or before.
-    fn begin(&mut self, now: u64) {
+    fn begin(&mut self, now: u64)
+        ensures { self.new ≡ begun self.old now }
+    {
         self.since = Some(self.since.unwrap_or(now));
     }
 
     /// When it ends at the latest, if it does.
-    fn end(&self) -> Option<u64> {
+    fn end(&self) -> Option<u64>
+        ensures { result ≡ end_of self.now }
+    {
         let limit = match self.limits.wait {
             Some(wait) => wait,
             None if self.limits.lingers => LINGER,
@@ -50,7 +61,9 @@ impl Farewell {
     }
 
     /// When it looks up at the latest.
-    pub(crate) fn until(&self, due: Option<u64>) -> Option<u64> {
+    pub(crate) fn until(&self, due: Option<u64>) -> Option<u64>
+        ensures { result ≡ earlier due (end_of self.now) }
+    {
         match (due, self.end()) {
             (Some(due), Some(end)) => Some(due.min(end)),
             (due, None) => due,
@@ -59,7 +72,9 @@ impl Farewell {
     }
 
     /// How the host ends, if it does now. A receiver that was not told how long it is to wait has no last packet of its own to wait for.
-    fn ended(&self, is_at_rest: bool, holds: bool, now: u64) -> Option<Ended> {
+    fn ended(&self, is_at_rest: bool, holds: bool, now: u64) -> Option<Ended>
+        ensures { result ≡ ended_of self.now is_at_rest holds now }
+    {
         if self.since.is_some() && is_at_rest && !holds {
             return Some(Ended::AtRest);
         }
@@ -76,7 +91,11 @@ impl Farewell {
 
 impl<L: Link, S: Sink, W: Lineage> Responder<L, S, W> {
     /// How the host ends, if it does now.
-    pub(crate) fn ended(&self, farewell: &mut Farewell, now: u64) -> Option<Ended> {
+    pub(crate) fn ended(&self, farewell: &mut Farewell, now: u64) -> Option<Ended>
+        ensures goes_on { self.now.ends ≡ false → (result ≡ None) × (farewell.new ≡ farewell.old) }
+        ensures ends { IsTrue self.now.ends → (rests holds : Bool) × (IsTrue rests ↔ IsAtRest self.now.service) × (self.now.identity.side ≡ Sender → holds ≡ false)
+            × (farewell.new ≡ begun farewell.old now) × (result ≡ ended_of farewell.new rests holds now) }
+    {
         if !self.ends {
             return None;
         }

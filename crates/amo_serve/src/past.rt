@@ -122,7 +122,8 @@ impl Past {
 
     /// Nothing was read yet of the journal of a host with these lives, of which these lines are doubtful.
     pub fn new(alloc: Global, lives: Vec<Life>, doubts: Vec<Span>) -> Result<Past, AllocError>
-        ensures { IfOk result (λ past. HasRead past []) }
+        ensures read { IfOk result (λ past. HasRead past []) }
+        ensures given { IfOk result (λ past. (past.lives ≡ lives) × (past.doubts ≡ doubts)) }
     {
         Ok(Past {
             followers: SenderFollowers::new(alloc)?,

@@ -1,4 +1,7 @@
 //! The journal of a host at work, as it is read beside the host: its pieces, and where a line stands in them.
+ghost use Rattle.std.specs.Prelude.{IfOk};
+ghost use Rattle.amo_serve.specs.Archive.{IsUnread};
+
 use amo_disk::Cause;
 use amo_door::Refusal;
 use amo_journal::{Lines, Version};
@@ -94,8 +97,10 @@ impl From<AllocError> for ReadFault {
 }
 
 impl Records {
-    /// The journal of this path.
-    pub fn new(alloc: Global, path: &str) -> Result<Records, AllocError> {
+    /// The journal of this path. Nothing of it is read before it is asked for.
+    pub fn new(alloc: Global, path: &str) -> Result<Records, AllocError>
+        ensures { IfOk result (IsUnread path.now) }
+    {
         Ok(Records {
             alloc,
             path: String::from_str(alloc, path)?,
