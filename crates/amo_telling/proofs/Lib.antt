@@ -5,3 +5,4 @@ pub mod Journals
 pub mod LineByLine
 pub mod GoingOn
 pub mod Pairs
+pub mod Untolds

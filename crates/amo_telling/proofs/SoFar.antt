@@ -62,7 +62,7 @@ whose (e ∷ events) = by_receivers (has_receivers (e ∷ events))
     by_receivers false = ap (λ (b : Bool). if b then Whole else OfSender) (sym (some (eqb_tells (length (e ∷ events)) 0)))
 
 -- the next line
-numbered_push : (n k : ℕ) (events : List Event) (l : Numbered) → k ≡ n + length events → l.number ≡ k → numbered n events ++ l ∷ [] ≡ numbered n (events ++ l.event ∷ [])
+pub numbered_push : (n k : ℕ) (events : List Event) (l : Numbered) → k ≡ n + length events → l.number ≡ k → numbered n events ++ l ∷ [] ≡ numbered n (events ++ l.event ∷ [])
 numbered_push n k [] l here is =
     let same : l.number ≡ n = omega arith in
     ap (λ (m : ℕ). line m ∷ []) same

@@ -5,3 +5,5 @@ pub mod Got
 pub mod Gets
 pub mod Alone
 pub mod Whole
+pub mod Unanswered
+pub mod Untold

@@ -8,6 +8,8 @@
 //!   unknown, and settled where it is final all the same.
 //! - [`Gets`] reads a receiver's journal part by part, whole or as it grows, and writes a line for each message that a get answered, as far as
 //!   it reads; [`Reading`] is how far that was.
+//! - [`Untold`] reads a sender's journal part by part, from where a life begins, and writes a line for each put that no ack answered: what a
+//!   sender that starts again tells. [`Progress`] is how far it reads.
 //!
 //! Where one of two journals goes on, the other may be a copy that lacks lines, and no put is told to be gone that may have been got there.
 //! What a loss of power may have changed is told of no put: of journals of which [`Asked`] names doubtful lines, what would be gone there is unknown.
@@ -17,7 +19,8 @@
 //!
 //! What became of puts is made a text, which is then written. Of two journals no events lie in memory, of one alone all of them.
 //!
-//! Lines are defined in `specs/Shown.antt`, what is told of puts in `specs/Outcomes.antt` and `specs/Alone.antt`, and of gets in `specs/Got.antt`.
+//! Lines are defined in `specs/Shown.antt`, what is told of puts in `specs/Outcomes.antt` and `specs/Alone.antt`, of gets in `specs/Got.antt`, and of
+//! puts that had no answer in `specs/Untold.antt` and `specs/Unanswered.antt`.
 #![tactic(auto)]
 
 mod alone;
@@ -27,11 +30,14 @@ mod further;
 mod gets;
 mod listing;
 mod outcomes;
+mod put;
 mod put_outcome;
 mod puts;
 mod reading;
 mod shown;
 mod telling;
+mod unanswered;
+mod untold;
 mod whole;
 
 pub use alone::tell_outcomes_of_sender;
@@ -41,4 +47,6 @@ pub use gets::Gets;
 pub use outcomes::tell_outcomes;
 pub use reading::Reading;
 pub use telling::Telling;
+pub use unanswered::Progress;
+pub use untold::Untold;
 pub use whole::whole_lines;

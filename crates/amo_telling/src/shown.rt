@@ -3,8 +3,10 @@ ghost use Rattle.std.specs.Prelude.{◌≡◌, ◌++◌, OnOk};
 ghost use Rattle.std.specs.List.{flat_map, list_any};
 ghost use Rattle.std.specs.Str.{chars};
 ghost use Rattle.amo_telling.specs.Shown.{escaped, event_shown, got_line, hex_shown, is_hidden, is_text, line_end, line_front, message_shown, outcome_field, outcome_line, outcome_members, text_shown};
+ghost use Rattle.amo_telling.specs.Unanswered.{told_field, told_front, told_line, told_member};
 
 use crate::put_outcome::PutOutcome;
+use crate::unanswered::Told;
 use amo_outcomes::{Outcome, SenderOutcome};
 use amo_text::{push_decimal, push_hex};
 use std::alloc::AllocError;
@@ -54,6 +56,63 @@ pub(crate) fn push_outcome(
         text.extend_from_slice(field_of(outcome).as_bytes())?;
     }
     push_end(text, message, json)
+}
+
+/// Appends the line by which a sender that starts again tells of a message of an earlier life.
+pub(crate) fn push_told(
+    text: &mut Vec<u8>,
+    number: u64,
+    stream: u32,
+    told: Told,
+    message: &[u8],
+    json: bool,
+) -> Result<(), AllocError>
+    ensures { OnOk result (text.new.items ≡ text.old.items ++ told_line json number stream told message.now) }
+{
+    push_told_front(text, number, stream, told, json)?;
+    push_end(text, message, json)
+}
+
+/// Appends the front of such a line, up to the message.
+fn push_told_front(
+    text: &mut Vec<u8>,
+    number: u64,
+    stream: u32,
+    told: Told,
+    json: bool,
+) -> Result<(), AllocError>
+    ensures { OnOk result (text.new.items ≡ text.old.items ++ told_front json number stream told) }
+{
+    if json {
+        text.extend_from_slice(b"{\"stream\":")?;
+        push_decimal(text, stream as u64)?;
+        text.extend_from_slice(told_member(told).as_bytes())?;
+        push_decimal(text, number)?;
+        text.extend_from_slice(b",")
+    } else {
+        push_decimal(text, stream as u64)?;
+        text.extend_from_slice(told_field(told).as_bytes())
+    }
+}
+
+/// What is told of a put of an earlier life, as a field of a line.
+fn told_field(told: Told) -> &'static str
+    ensures { result.now ≡ told_field told }
+{
+    match told {
+        Told::Gone => " gone ",
+        Told::Unknown => " unknown ",
+    }
+}
+
+/// What is told of it, as members of an object, up to the number of its line.
+fn told_member(told: Told) -> &'static str
+    ensures { result.now ≡ told_member told }
+{
+    match told {
+        Told::Gone => ",\"event\":\"gone\",\"line\":",
+        Told::Unknown => ",\"event\":\"unknown\",\"line\":",
+    }
 }
 
 /// What is told of a put, as a field of a line.

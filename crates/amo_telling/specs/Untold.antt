@@ -1,0 +1,95 @@
+-- What a sender that starts again tells of the puts of its earlier lives.
+use Rattle.std.specs.Prelude.{◌≡◌, ◌≢◌, ◌⊎◌, ℕ, ◌+◌, ◌-◌, ◌^◌, ◌<◌, Bool, true, false, Option, Some, None, List, [], ◌∷◌, ◌++◌, get_or, length, map, reverse, set}
+use Rattle.std.specs.List.{AllByRecursion, Contains, flat_map}
+use Rattle.std.specs.List.Sorted.{IsStrictlySortedBy}
+use Rattle.std.specs.Ordering.{nat_cmp}
+use Rattle.std.specs.BTreeMap.{get}
+use Rattle.amo_journal.specs.declared.lines.Lines.{Lines}
+use Rattle.amo_journal.specs.Journal.{SpellsLines, numbered}
+use Rattle.amo_core.specs.declared.act.Act.{Act}
+use Rattle.amo_core.specs.declared.act.Act.TheVariants as act
+use Rattle.amo_core.specs.declared.reply.Reply.TheVariants as reply
+use Rattle.amo_world.specs.declared.event.Event.{Event}
+use Rattle.amo_world.specs.History.{IsRight}
+use Rattle.amo_outcomes.specs.declared.sender_followers.SenderFollowers.{SenderFollowers}
+use Rattle.amo_outcomes.specs.SenderFollowers.{HaveFollowedSenders}
+use Rattle.amo_outcomes.specs.declared.sender_outcome.SenderOutcome.{SenderOutcome}
+use Rattle.amo_outcomes.specs.declared.sender_outcome.SenderOutcome.TheVariants.{Unknown}
+use Rattle.amo_outcomes.specs.SenderOutcome.{HasSenderOutcome}
+use Rattle.amo_lives.specs.declared.doubt.Span.{Span}
+use Rattle.amo_telling.specs.declared.unanswered.Progress.{Progress}
+use Rattle.amo_telling.specs.declared.put.Put.{Put}
+use Rattle.amo_telling.specs.declared.untold.Untold.{Untold}
+use Rattle.amo_telling.specs.Outcomes.{puts_in}
+use Rattle.amo_telling.specs.Told.{Counts}
+use Rattle.amo_telling.specs.Unanswered.{StopsBy, is_ack, is_answer}
+
+-- In a journal that is read from the line of number `first` on, the newest event of which is the first here, the line of this number tells that this
+-- message was put on a stream, which took so many before it there.
+pub record IsPutAt (first : ℕ) (past : List Event) (number stream place : ℕ) (message : List ℕ) : Type 0 where
+  pub later : List Event
+  pub e : Event
+  pub before : List Event
+  pub splits : past ≡ later ++ e ∷ before
+  pub number_is : number ≡ first + length before
+  pub stream_is : e.stream ≡ stream
+  pub place_is : puts_in stream before ≡ place
+  pub act_is : e.act ≡ act.Put message
+  pub reply_is : e.reply ≡ reply.Ok
+
+-- An ack answers a put: it was sent, and not settled what became of it, and by the ack it is.
+abbrev pub IsAnsweredBy : ℕ → List Event → Event → ℕ → Type 0
+IsAnsweredBy stream past e place = (is_ack e.act ≡ true) × HasSenderOutcome stream past place (Unknown false)
+    × ((outcome : SenderOutcome) × HasSenderOutcome stream (e ∷ past) place outcome × (is_answer outcome ≡ true))
+
+-- one did
+abbrev pub IsAnswered : ℕ → List Event → ℕ → Type 0
+IsAnswered stream [] place = ⊥
+IsAnswered stream (e ∷ past) place = IsAnsweredBy stream past e place ⊎ IsAnswered stream past place
+
+-- a put, as it is kept
+abbrev pub IsKept : (ℕ → Option Put) → ℕ → ℕ → ℕ → List ℕ → Type 0
+IsKept kept number stream place message = (put : Put) × (kept number ≡ Some put) × (put.stream ≡ stream) × (put.place ≡ place) × (put.message.items ≡ message)
+
+-- the events of these lines were read, the newest of which is the first: each put is kept, unless an ack answered it, and nothing else is
+pub record HasRead (untold : Untold) (first : ℕ) (past : List Event) : Type 0 where
+  pub followed : IsRight past → HaveFollowedSenders untold.followers past
+  pub counted : Counts untold.counts past
+  pub next_is : untold.next ≡ first + length past
+  pub kept : (number : ℕ) (put : Put) → get nat_cmp untold.puts number ≡ Some put → IsPutAt first past number put.stream put.place put.message.items
+  pub all : (number stream place : ℕ) (message : List ℕ) → IsPutAt first past number stream place message
+      → IsKept (get nat_cmp untold.puts) number stream place message ⊎ (IsRight past → IsAnswered stream past place)
+
+-- the put that is kept of this number was sent, and it is not settled what became of it
+abbrev pub IsSent : Untold → ℕ → Type 0
+IsSent untold number = (put : Put) × (get nat_cmp untold.puts number ≡ Some put)
+    × ((past : List Event) → HaveFollowedSenders untold.followers past → HasSenderOutcome put.stream past put.place (Unknown false))
+
+-- and an ack comes
+abbrev pub IsSentHere : Untold → Act → ℕ → Type 0
+IsSentHere untold a number = (is_ack a ≡ true) × IsSent untold number
+
+-- it was answered, by the events that were followed since
+abbrev pub IsAnsweredBehind : Untold → SenderFollowers → ℕ → Type 0
+IsAnsweredBehind old now number = (put : Put) × (get nat_cmp old.puts number ≡ Some put) × ((outcome : SenderOutcome) × (is_answer outcome ≡ true)
+    × ((past : List Event) → HaveFollowedSenders now past → HasSenderOutcome put.stream past put.place outcome))
+
+-- of these puts some are kept no more, which were answered
+abbrev pub Drops : Untold → Untold → List ℕ → Type 0
+Drops old new sent = (number : ℕ) → (get nat_cmp new.puts number ≡ get nat_cmp old.puts number)
+    ⊎ ((get nat_cmp new.puts number ≡ None) × Contains sent number × IsAnsweredBehind old old.followers number)
+
+-- a put that a stream takes is kept, under the number of the next line, and counted
+pub record KeepsPut (old new : Untold) (stream : ℕ) (message : List ℕ) : Type 0 where
+  pub counts : get_or old.counts (stream - 1) 0 + 1 < 2 ^ 64 → new.counts ≡ set old.counts (stream - 1) (get_or old.counts (stream - 1) 0 + 1)
+  pub kept : IsKept (get nat_cmp new.puts) old.next stream (get_or old.counts (stream - 1) 0) message
+  pub others : (number : ℕ) → number ≢ old.next → get nat_cmp new.puts number ≡ get nat_cmp old.puts number
+
+-- behind the lines of past events these begin with those of others, which go on with the numbers, and are read no further
+pub record GoesOn (untold : Untold) (first : ℕ) (past : List Event) (lines : Lines) (rest : List ℕ) (progress : Progress) : Type 0 where
+  pub events : List Event
+  pub front : List ℕ
+  pub whole : lines.text.now ≡ front ++ rest
+  pub read : SpellsLines lines.version front (numbered (first + length past) events)
+  pub have : HasRead untold first (reverse events ++ past)
+  pub stops : StopsBy lines.version (first + (length past + length events)) rest progress

@@ -1,0 +1,267 @@
+//! What a sender that starts again tells of the messages of its earlier lives.
+ghost use Rattle.std.specs.Prelude.{◌≡◌, IfOk, length};
+
+use crate::put::Put;
+use crate::shown::push_told;
+use crate::unanswered::{Progress, is_ack, is_answer, is_open, stopped, told_of};
+use amo_journal::{Lines, line_in_front};
+use amo_lives::Span;
+use amo_object::End;
+use amo_outcomes::{SenderFollowers, SenderOutcome};
+use amo_world::{Act, Event, Reply, STREAMS};
+use std::alloc::{AllocError, Global};
+use std::collections::BTreeMap;
+
+/// A reader of a sender's journal that knows which puts were not answered. It begins where a life does: its crash leaves each stream without a
+/// message. Of what it has read it keeps the puts that were not answered, and of the others a mark of one byte.
+#[derive(Drop)]
+pub struct Untold {
+    alloc: Global,
+    followers: SenderFollowers,
+    /// How many puts each stream took, that of stream 1 first.
+    counts: [usize; STREAMS as usize],
+    /// Those that no ack answered, by the numbers of their lines.
+    puts: BTreeMap<u64, Put>,
+    /// The numbers of those of each stream that a crash has not forgotten, that of stream 1 first.
+    pending: Vec<Vec<u64>>,
+    /// The number of the next line.
+    next: u64,
+    ghost all: { length pending.items ≡ 256 },
+}
+
+impl Untold {
+    ghost use Rattle.std.specs.Prelude.{◌+◌, ◌<◌, ◌≤◌, ◌≢◌, ◌⊎◌, ◌^◌, ◌∷◌, ℕ, List, [], Some, false, IfSome, IsTrue, OnOk};
+    ghost use Rattle.std.specs.List.{Contains};
+    ghost use Rattle.std.specs.Ordering.{nat_cmp};
+    ghost use Rattle.std.specs.BTreeMap.{get};
+    ghost use Rattle.amo_outcomes.specs.SenderFollowers.{HaveFollowedSenders};
+    ghost use Rattle.amo_outcomes.specs.SenderOutcome.{HasSenderOutcome};
+    ghost use Rattle.amo_world.specs.declared.event.Event.{Event};
+    ghost use Rattle.amo_world.specs.History.{IsRight};
+    ghost use Rattle.amo_world.specs.Stream.{IsStream};
+    ghost use Rattle.amo_telling.specs.declared.put.Put.{Put};
+    ghost use Rattle.amo_core.specs.declared.act.Act.TheVariants as act;
+    ghost use Rattle.amo_core.specs.declared.reply.Reply.TheVariants as reply;
+    ghost use Rattle.amo_telling.specs.Outcomes.{is_put};
+    ghost use Rattle.amo_telling.specs.Untold.{Drops, GoesOn, HasRead, IsAnsweredBehind, IsSent, IsSentHere, KeepsPut};
+
+    /// Nothing was read. The first line is to be of this number.
+    pub fn new(alloc: Global, first: u64) -> Result<Untold, AllocError>
+        ensures { IfOk result (λ untold. HasRead untold first []) }
+    {
+        Ok(Untold {
+            alloc,
+            followers: SenderFollowers::new(alloc)?,
+            counts: [0; STREAMS as usize],
+            puts: BTreeMap::new(alloc),
+            pending: no_numbers(alloc)?,
+            next: first,
+        })
+    }
+
+    /// The number of the next line.
+    pub fn next(&self) -> u64
+        ensures { (first : ℕ) (past : List Event) → HasRead self.now first past → result ≡ first + length past }
+    {
+        self.next
+    }
+
+    /// Reads lines that go on where it stopped. Answers what is left behind the lines that were read, and why.
+    ///
+    /// Where memory is refused, the reader is of no use any more.
+    pub fn read_on<'a>(&mut self, lines: Lines<'a>) -> Result<(Lines<'a>, Progress), AllocError>
+        ensures version { IfOk result (λ read. read.0.version ≡ lines.entry.version) }
+        ensures read { IfOk result (λ read. (first : ℕ) (past : List Event) → HasRead self.old first past
+            → GoesOn self.new first past lines.entry read.0.text.now read.1) }
+    {
+        let mut rest = lines;
+        while !rest.text.is_empty() {
+            let Some((line, more)) = line_in_front(self.alloc, rest)? else {
+                let progress = stopped(rest.text);
+                return Ok((rest, progress));
+            };
+            if !self.goes_on(line.number) {
+                return Ok((rest, Progress::Gap));
+            }
+            self.take(&line.event)?;
+            rest = more;
+        }
+        Ok((rest, Progress::Whole))
+    }
+
+    /// Whether the line of this number comes next, and another one can come behind it.
+    fn goes_on(&self, number: u64) -> bool
+        ensures yes { IsTrue result → (number ≡ self.now.next) × (self.now.next + 1 < 2 ^ 64) }
+        ensures no { result ≡ false → (number ≢ self.now.next) ⊎ (2 ^ 64 ≤ self.now.next + 1) }
+    {
+        number == self.next && self.next < u64::MAX
+    }
+
+    /// One event more.
+    fn take(&mut self, event: &Event) -> Result<(), AllocError>
+        requires stream { IsStream event.now.stream }
+        requires few { self.old.next + 1 < 2 ^ 64 }
+        ensures { OnOk result ((first : ℕ) (past : List Event) → HasRead self.old first past → HasRead self.new first (event.now ∷ past)) }
+    {
+        let sent = self.sent_before(event)?;
+        self.followers.follow(event)?;
+        self.drop_answered(event.stream as usize - 1, sent.as_slice())?;
+        self.note(event)?;
+        self.next += 1;
+        Ok(())
+    }
+
+    /// Of the stream of an ack that comes, the puts that were sent, and of which it is not settled what became of them.
+    fn sent_before(&self, event: &Event) -> Result<Vec<u64>, AllocError>
+        requires { IsStream event.now.stream }
+        ensures { IfOk result (λ sent. (number : ℕ) → Contains sent.items number → IsSentHere self.now event.now.act number) }
+    {
+        let mut sent = Vec::new(self.alloc);
+        if !is_ack(&event.act) {
+            return Ok(sent);
+        }
+        for number in &self.pending[event.stream as usize - 1] {
+            if self.is_sent(*number) {
+                sent.push(*number)?;
+            }
+        }
+        Ok(sent)
+    }
+
+    /// Whether the put on the line of this number was sent, and it is not settled what became of it.
+    fn is_sent(&self, number: u64) -> bool
+        ensures { IsTrue result → IsSent self.now number }
+    {
+        match self.outcome(number) {
+            Some(outcome) => is_open(outcome),
+            None => false,
+        }
+    }
+
+    /// What became of the put on the line of this number, if it is kept.
+    fn outcome(&self, number: u64) -> Option<SenderOutcome>
+        ensures { IfSome result (λ outcome. (put : Put) × (get nat_cmp self.now.puts number ≡ Some put)
+            × ((past : List Event) → HaveFollowedSenders self.now.followers past → HasSenderOutcome put.stream past put.place outcome)) }
+    {
+        let put = self.puts.get(&number)?;
+        self.followers.outcome(put.stream, put.place)
+    }
+
+    /// Those of these puts of a stream that an ack has answered are kept no more.
+    fn drop_answered(&mut self, place: usize, sent: &[u64]) -> Result<(), AllocError>
+        requires { place < 256 }
+        ensures same { (self.new.followers ≡ self.old.followers) × (self.new.counts ≡ self.old.counts) × (self.new.next ≡ self.old.next) }
+        ensures dropped { Drops self.old self.new sent.now }
+    {
+        if sent.is_empty() {
+            return Ok(());
+        }
+        for number in sent {
+            self.drop_if_answered(*number);
+        }
+        self.close_dropped(place)
+    }
+
+    /// The put on the line of this number is kept no more, if an ack has answered it.
+    fn drop_if_answered(&mut self, number: u64)
+        ensures same { (self.new.followers ≡ self.old.followers) × (self.new.counts ≡ self.old.counts) × (self.new.next ≡ self.old.next) }
+        ensures dropped { Drops self.old self.new (number ∷ []) }
+    {
+        if self.is_answered(number) {
+            self.puts.remove(&number);
+        }
+    }
+
+    /// Whether an ack has answered the put on the line of this number.
+    fn is_answered(&self, number: u64) -> bool
+        ensures { IsTrue result → IsAnsweredBehind self.now self.now.followers number }
+    {
+        match self.outcome(number) {
+            Some(outcome) => is_answer(outcome),
+            None => false,
+        }
+    }
+
+    /// The puts of a stream that are kept no more are not open.
+    fn close_dropped(&mut self, place: usize) -> Result<(), AllocError>
+        requires { place < 256 }
+        ensures { self.new ≡ record self.old { pending = self.new.pending; all = self.new.all } }
+    {
+        let mut pending = Vec::new(self.alloc);
+        for number in &self.pending[place] {
+            if self.puts.contains_key(number) {
+                pending.push(*number)?;
+            }
+        }
+        self.pending[place] = pending;
+        Ok(())
+    }
+
+    /// A put that was taken is kept, and is open; a crash forgets those that are.
+    fn note(&mut self, event: &Event) -> Result<(), AllocError>
+        requires { IsStream event.now.stream }
+        ensures same { (self.new.followers ≡ self.old.followers) × (self.new.next ≡ self.old.next) }
+        ensures kept { OnOk result ((m : List ℕ) → event.now.act ≡ act.Put m → event.now.reply ≡ reply.Ok → KeepsPut self.old self.new event.now.stream m) }
+        ensures none { is_put event.now.act event.now.reply ≡ false → (self.new.counts ≡ self.old.counts) × (self.new.puts ≡ self.old.puts) }
+    {
+        match (&event.act, &event.reply) {
+            (Act::Put(message), Reply::Ok) => self.keep(event.stream, message.bytes()),
+            (Act::Crash, _) if event.side == End::Sender => {
+                self.pending[event.stream as usize - 1].clear();
+                Ok(())
+            }
+            _ => Ok(()),
+        }
+    }
+
+    /// A put that was taken is kept, and is open.
+    fn keep(&mut self, stream: u32, message: &[u8]) -> Result<(), AllocError>
+        requires { IsStream stream }
+        ensures same { (self.new.followers ≡ self.old.followers) × (self.new.next ≡ self.old.next) }
+        ensures kept { OnOk result (KeepsPut self.old self.new stream message.now) }
+    {
+        let place = stream as usize - 1;
+        let taken = self.counts[place];
+        let put = Put {
+            stream,
+            place: taken,
+            message: Vec::from_slice(self.alloc, message)?,
+        };
+        self.counts[place] = taken.saturating_add(1);
+        self.puts.insert(self.next, put)?;
+        self.pending[place].push(self.next)?;
+        Ok(())
+    }
+
+    /// A line for each put that no ack answered, in the order of their lines: `STREAM gone MESSAGE` where it was not sent, so that the crash at
+    /// hand or an earlier one forgot it for good, and `STREAM unknown MESSAGE` where it was, or where a loss of power may have taken the line
+    /// that tells so; these lines are doubtful. In JSON it has the number of the put's line.
+    pub fn tell(&self, doubts: &[Span], json: bool) -> Result<Vec<u8>, AllocError> {
+        let mut text = Vec::new(self.alloc);
+        for (number, put) in self.puts.iter() {
+            let outcome = self.followers.outcome(put.stream, put.place);
+            if let Some(told) = told_of(outcome, *number, doubts) {
+                push_told(
+                    &mut text,
+                    *number,
+                    put.stream,
+                    told,
+                    put.message.as_slice(),
+                    json,
+                )?;
+            }
+        }
+        Ok(text)
+    }
+}
+
+/// No numbers on any stream.
+fn no_numbers(alloc: Global) -> Result<Vec<Vec<u64>>, AllocError>
+    ensures { IfOk result (λ numbers. length numbers.items ≡ 256) }
+{
+    let mut numbers = Vec::with_capacity(alloc, STREAMS as usize)?;
+    for _stream in 0..STREAMS {
+        numbers.push(Vec::new(alloc))?;
+    }
+    Ok(numbers)
+}
