@@ -1,6 +1,10 @@
 //! A journal that is read while a host writes it: piece after piece, each from where reading stopped.
+ghost use Rattle.std.specs.Prelude.{◌≤◌, IfOk, length};
+
 use crate::failure::Failure;
 use crate::pieces::{numbers_of, piece_name};
+use amo_journal::Version;
+use amo_text::{cut, read_decimal};
 use std::alloc::Global;
 use std::fs::{self, File};
 use std::io::{self, ErrorKind};
@@ -9,6 +13,9 @@ use std::rt::Files;
 
 /// Which file it is, whatever its name: its device, and its number there.
 type Identity = (u64, u64);
+
+/// How many bytes of a piece are read for the number of its first line: more than a heading and a number have.
+const FRONT: usize = 32;
 
 /// A journal that is followed. Its pieces come in the order of their numbers, and the file of its own name last.
 #[derive(Drop)]
@@ -47,6 +54,22 @@ impl Followed {
             last: 0,
             piece: None,
         })
+    }
+
+    /// The journal of this name, of which nothing was read, from the piece on that has the line of this number. The pieces before it are passed.
+    pub(crate) fn from_line<R: AllocGlobal + Files<File = File>>(
+        rt: &R,
+        name: &str,
+        line: u64,
+    ) -> Result<Followed, Failure> {
+        let mut followed = Followed::new(rt.alloc(), name)?;
+        followed.look_for_pieces(rt)?;
+        let passed = pieces_before(rt, name, followed.numbers.as_slice(), line)?;
+        if let Some(last) = followed.numbers.as_slice()[..passed].last() {
+            followed.last = *last;
+        }
+        followed.passed = passed;
+        Ok(followed)
     }
 
     /// The name of the file that is read, or that is waited for.
@@ -214,6 +237,50 @@ impl Piece {
             return Err(io::Error::from(ErrorKind::InvalidData));
         }
         self.file.read_at(room, self.offset)
+    }
+}
+
+/// How many of the pieces of these numbers stand before the one that has the line of this number, or would have it.
+fn pieces_before<R: AllocGlobal + Files<File = File>>(
+    rt: &R,
+    name: &str,
+    numbers: &[u64],
+    line: u64,
+) -> Result<usize, Failure>
+    ensures { IfOk result (λ count. count ≤ length numbers.now) }
+{
+    if begins_before(rt, name, line) {
+        return Ok(numbers.len());
+    }
+    for back in 1..numbers.len() {
+        let place = numbers.len() - back;
+        let piece = piece_name(rt.alloc(), name, numbers[place])?;
+        if begins_before(rt, piece.as_str(), line) {
+            return Ok(place);
+        }
+    }
+    Ok(0)
+}
+
+/// Whether the first line of the piece of this name has this number or a smaller one. Where that is not told it has not: then a piece before it is
+/// read, and reading this one tells why.
+fn begins_before<R: Files<File = File>>(rt: &R, name: &str, line: u64) -> bool {
+    match first_number(rt, name) {
+        Ok(Some(first)) => first <= line,
+        Ok(None) | Err(_) => false,
+    }
+}
+
+/// The number of the first line of the piece of this name, if it has one.
+fn first_number<R: Files<File = File>>(rt: &R, name: &str) -> io::Result<Option<u64>> {
+    let file = fs::open(rt, name)?;
+    let mut front = [0u8; FRONT];
+    let count = file.read_at(&mut front, 0)?;
+    let bytes = &front[..count.min(front.len())];
+    let line = bytes.strip_prefix(Version::Two.heading()).unwrap_or(bytes);
+    match cut(line, b' ') {
+        Some((number, _)) => Ok(read_decimal(number)),
+        None => Ok(None),
     }
 }
 

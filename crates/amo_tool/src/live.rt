@@ -3,6 +3,7 @@ ghost use Rattle.std.specs.Prelude.{◌≡◌, ◌<◌, ◌≤◌};
 ghost use Rattle.amo_settings.specs.Limits.{IsHostWithin};
 
 use crate::failure::Failure;
+use crate::retelling::{Manner, tell_untold};
 use crate::stopping::{hang_bell, take_down_bell};
 use amo_disk::{Cause, Disk, Opened, open};
 use amo_live::{Ended, HostLives, LiveFault, OpenedLives, Plan, ProcessFault, Socket, run_process};
@@ -170,6 +171,14 @@ fn run_opened<
     let why = Cell::new(None);
     let words = open_lives::<R, N>(rt, file.as_str(), &plan, start.lines, &why, lives)?;
     tell_of_start(rt, host.listen.as_str(), port, path, start.lines);
+    let mut output = output;
+    if plan.setup.side == End::Sender {
+        let manner = Manner {
+            json: plan.setup.spelling.json,
+            sync: plan.limits.sync,
+        };
+        tell_untold(rt, path, start.lines, manner, &mut output)?;
+    }
     let bell = hang_bell(rt, path)?;
     let number = socket.number();
     let ran = run_process(

@@ -4,6 +4,7 @@
 //!
 //! `amo_arguments` reads the program's arguments, and answers as `amo_settings` what they choose. `replaying`, `running`, `live`,
 //! `serving`, `calling`, `judging`, `telling`, `got` and `following` do it, `pieces` reads the journals that are judged, and `followed` one that grows;
+//! `retelling` is what a sender that starts again tells of its earlier lives, and `told_file` how far that was told;
 //! `progress` shows how far a run is, `failure` is why they cannot, and `watched` keeps why a write failed.
 #![tactic(auto)]
 
@@ -21,10 +22,12 @@ mod live;
 mod pieces;
 mod progress;
 mod replaying;
+mod retelling;
 mod running;
 mod serving;
 mod stopping;
 mod telling;
+mod told_file;
 mod watched;
 
 use crate::calling::call_door;

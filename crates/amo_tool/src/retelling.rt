@@ -1,0 +1,276 @@
+//! Tells, where a sender starts again, what became of the messages of its earlier lives that had no answer.
+use crate::doubts::Doubts;
+use crate::failure::Failure;
+use crate::followed::Followed;
+use crate::got::ROOM;
+use crate::told_file::ToldFile;
+use amo_journal::{Lines, Version, line_in_front, open};
+use amo_telling::{Progress, Untold, whole_lines};
+use amo_text::{cut, read_decimal};
+use amo_world::Act;
+use std::alloc::{AllocError, Global};
+use std::fs::File;
+use std::io::Write;
+use std::rt::Files;
+use thiserror::Error;
+
+/// How a sender's start tells.
+#[derive(Clone, Copy)]
+pub(crate) struct Manner {
+    /// Each line is a JSON object.
+    pub(crate) json: bool,
+    /// What it keeps is to be on the disk.
+    pub(crate) sync: bool,
+}
+
+/// Tells on standard output what became of each message that was put on the lines of this journal, which has so many, and that was neither answered
+/// nor told. Then these lines are kept as told. Whoever calls has the journal.
+pub(crate) fn tell_untold<R: AllocGlobal + Eprint + Files<File = File>, O: Write>(
+    rt: &R,
+    journal: &str,
+    lines: u64,
+    manner: Manner,
+    output: &mut O,
+) -> Result<(), Failure> {
+    let told = ToldFile::read(rt, journal)?;
+    let first = told.first_untold(rt, lines);
+    if first < lines {
+        let mut retelling = Retelling::new(rt, journal, first)?;
+        if !retelling.read(rt)? {
+            return Ok(());
+        }
+        retelling.show(rt, manner.json, output)?;
+    }
+    told.keep(rt, lines, manner.sync)
+}
+
+/// From where on lines are read.
+#[derive(Clone, Copy)]
+enum Sought {
+    /// From the line of this number on.
+    Line(u64),
+    /// From the next start of a host on, as its first crash tells. Lines in front of it are missing.
+    Start,
+}
+
+/// A journal that is read, part by part.
+#[derive(Drop)]
+struct Retelling<'a> {
+    journal: Followed,
+    room: Vec<u8>,
+    found: Found<'a>,
+}
+
+impl<'a> Retelling<'a> {
+    /// The journal of this name, from the line of this number on. Nothing was read.
+    fn new<R: AllocGlobal + Files<File = File>>(
+        rt: &R,
+        name: &'a str,
+        first: u64,
+    ) -> Result<Retelling<'a>, Failure> {
+        Ok(Retelling {
+            journal: Followed::from_line(rt, name, first)?,
+            room: vec![in rt.alloc(); 0u8; ROOM]?,
+            found: Found {
+                alloc: rt.alloc(),
+                name,
+                version: Version::One,
+                sought: Sought::Line(first),
+                untold: None,
+            },
+        })
+    }
+
+    /// Reads the lines to their end. Answers whether each of them is one; if not, standard error is told of it.
+    fn read<R: AllocGlobal + Eprint + Files<File = File>>(
+        &mut self,
+        rt: &R,
+    ) -> Result<bool, Failure> {
+        'parts: for _part in 0..u64::MAX {
+            let count = self.journal.fill(self.room.as_mut_slice())?;
+            let length = whole_lines(self.come(count)).len();
+            let is_read = if length > 0 {
+                self.read_part(rt, length)?
+            } else if count > 0 {
+                false
+            } else if self.journal.go_on(rt)? {
+                true
+            } else {
+                break;
+            };
+            if !is_read {
+                let _ = rt.eprintln(Told::Malformed(self.journal.file()));
+                return Ok(false);
+            }
+        }
+        Ok(true)
+    }
+
+    /// So many of the bytes that were read.
+    fn come(&self, count: usize) -> &[u8] {
+        let room = self.room.as_slice();
+        &room[..count.min(room.len())]
+    }
+
+    /// Reads lines of a piece, which have so many bytes. Answers whether each of them is one.
+    fn read_part<R: Eprint>(&mut self, rt: &R, length: usize) -> Result<bool, Failure> {
+        let room = self.room.as_slice();
+        let bytes = &room[..length.min(room.len())];
+        let is_beginning = self.journal.is_at_beginning();
+        let is_read = self.found.read(rt, bytes, is_beginning)?;
+        self.journal.pass(length);
+        Ok(is_read)
+    }
+
+    /// Shows what became of the messages that were not answered.
+    fn show<R: AllocGlobal + Files<File = File>, O: Write>(
+        &self,
+        rt: &R,
+        json: bool,
+        output: &mut O,
+    ) -> Result<(), Failure> {
+        let Some(untold) = self.found.untold.as_ref() else {
+            return Ok(());
+        };
+        let doubts = Doubts::read(rt, self.found.name)?;
+        let text = untold.tell(doubts.spans(), json)?;
+        output
+            .write_all(text.as_slice())
+            .map_err(Failure::of_output)?;
+        output.flush().map_err(Failure::of_output)
+    }
+}
+
+/// What was found in the lines of a journal.
+#[derive(Drop)]
+struct Found<'a> {
+    alloc: Global,
+    name: &'a str,
+    version: Version,
+    sought: Sought,
+    /// What was read from there on, once it has come.
+    untold: Option<Untold>,
+}
+
+impl Found<'_> {
+    /// Reads whole lines, with which a piece begins, or which go on in it. Answers whether each of them is one.
+    fn read<R: Eprint>(
+        &mut self,
+        rt: &R,
+        bytes: &[u8],
+        is_beginning: bool,
+    ) -> Result<bool, Failure> {
+        let mut rest = if is_beginning {
+            open(bytes)
+        } else {
+            Lines {
+                version: self.version,
+                text: bytes,
+            }
+        };
+        self.version = rest.version;
+        'gaps: for _gap in 0..bytes.len() {
+            rest = self.seek(rt, rest)?;
+            let Some(untold) = self.untold.as_mut() else {
+                break;
+            };
+            let (left, progress) = untold.read_on(rest)?;
+            rest = left;
+            match progress {
+                Progress::Gap => self.pass_gap(rt, left),
+                Progress::Whole | Progress::Malformed => break,
+            }
+        }
+        Ok(rest.text.is_empty())
+    }
+
+    /// Lines are missing in front of these: what was read is not told.
+    fn pass_gap<R: Eprint>(&mut self, rt: &R, lines: Lines<'_>) {
+        if let (Some(untold), Some(number)) = (self.untold.as_ref(), number_in_front(lines.text)) {
+            tell_missing(rt, self.name, untold.next(), number);
+        }
+        self.untold = None;
+        self.sought = Sought::Start;
+    }
+
+    /// These lines without those in front of what is sought, which begins once it has come.
+    fn seek<'l, R: Eprint>(&mut self, rt: &R, lines: Lines<'l>) -> Result<Lines<'l>, AllocError> {
+        if self.untold.is_some() {
+            return Ok(lines);
+        }
+        let mut rest = lines;
+        if let Sought::Line(sought) = self.sought {
+            rest.text = from_line(lines.text, sought);
+            match number_in_front(rest.text) {
+                Some(number) if number == sought => self.begin(number)?,
+                Some(number) => {
+                    tell_missing(rt, self.name, sought, number);
+                    self.sought = Sought::Start;
+                }
+                None => {}
+            }
+        }
+        match self.sought {
+            Sought::Start => self.seek_start(rest),
+            Sought::Line(_) => Ok(rest),
+        }
+    }
+
+    /// These lines from the first one on by which a host notes a crash at its start.
+    fn seek_start<'l>(&mut self, lines: Lines<'l>) -> Result<Lines<'l>, AllocError> {
+        let mut rest = lines;
+        'lines: for _line in 0..lines.text.len() {
+            let Some((line, more)) = line_in_front(self.alloc, rest)? else {
+                break;
+            };
+            if line.event.act == Act::Crash {
+                self.begin(line.number)?;
+                break;
+            }
+            rest = more;
+        }
+        Ok(rest)
+    }
+
+    /// The line of this number comes next, with which a life begins.
+    fn begin(&mut self, number: u64) -> Result<(), AllocError> {
+        self.untold = Some(Untold::new(self.alloc, number)?);
+        Ok(())
+    }
+}
+
+/// These lines from the first one on that has no smaller number than this one.
+fn from_line(lines: &[u8], number: u64) -> &[u8] {
+    let mut rest = lines;
+    'lines: for _line in 0..lines.len() {
+        match number_in_front(rest) {
+            Some(other) if other < number => {}
+            _ => break,
+        }
+        let Some((_line, behind)) = cut(rest, b'\n') else {
+            break;
+        };
+        rest = behind;
+    }
+    rest
+}
+
+/// The number in front of a line.
+fn number_in_front(line: &[u8]) -> Option<u64> {
+    let (number, _) = cut(line, b' ')?;
+    read_decimal(number)
+}
+
+/// Tells on standard error that the lines of these numbers are missing, from the first one to before the last.
+fn tell_missing<R: Eprint>(rt: &R, journal: &str, first: u64, end: u64) {
+    let _ = rt.eprintln(Told::Missing(journal, first, end.saturating_sub(1)));
+}
+
+/// What is told of a journal on a line of its own.
+#[derive(Debug, Drop, Error)]
+enum Told<'a> {
+    #[error("amo: {0}: lines {1} to {2} are missing: of messages put there, or behind them before a start, nothing is told")]
+    Missing(&'a str, u64, u64),
+    #[error("amo: {0}: a line is malformed: what became of earlier messages is not told")]
+    Malformed(&'a str),
+}
