@@ -7,3 +7,4 @@ pub mod Tails
 pub mod Parts
 pub mod Shelves
 pub mod Together
+pub mod Standings

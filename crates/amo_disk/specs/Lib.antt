@@ -7,3 +7,4 @@ pub mod Shelf
 pub mod Beginning
 pub mod Start
 pub mod Gathered
+pub mod Standing

@@ -1,7 +1,7 @@
 //! Pieces of a journal in files.
-use crate::Folder;
 use crate::hold::begin_behind;
 use crate::names::{piece_name, sync_names};
+use crate::{Folder, Standing};
 use std::alloc::Global;
 use std::fs::File;
 use std::io::{self, ErrorKind, Write};
@@ -16,7 +16,8 @@ const MOST_NUMBERS: u32 = 1000;
 /// How long the name of a piece is not looked up again, in microseconds: the system takes longer for that than to write a line.
 const LOOKS_APART: u64 = 10_000;
 
-/// Pieces of a journal in files of one directory: the newest has the journal's name, and those before it have numbers behind that.
+/// Pieces of a journal in files of one directory: the newest has the journal's name, and those before it have numbers behind that. How they stand is
+/// noted behind each call of the system that succeeds: contracts see that count, and not the files.
 #[derive(Drop)]
 pub struct Directory<'r, R: Clock + Files<File = File>> {
     rt: &'r R,
@@ -26,8 +27,7 @@ pub struct Directory<'r, R: Clock + Files<File = File>> {
     highest: u64,
     newest: File,
     written: Written,
-    // When its name was looked up last.
-    looked: Option<Instant>,
+    standing: Standing,
 }
 
 /// The file that was written, and how long it is, if nobody else changed it.
@@ -36,6 +36,8 @@ struct Written {
     device: u64,
     inode: u64,
     length: u64,
+    // When its name was looked up last.
+    looked: Option<Instant>,
 }
 
 impl Written {
@@ -46,7 +48,27 @@ impl Written {
             device: found.dev(),
             inode: found.ino(),
             length,
+            looked: None,
         })
+    }
+
+    /// Whether the newest piece, which this file is, is as it was written: nobody cut it, added to it or took it away, and it had its name, which is this
+    /// path, a moment ago.
+    fn is_as_written<R: Clock + Files<File = File>>(
+        &mut self,
+        rt: &R,
+        file: &File,
+        path: &str,
+    ) -> io::Result<bool> {
+        let now = Instant::now(rt)?;
+        let apart = Duration::from_micros(LOOKS_APART);
+        match self.looked {
+            Some(looked) if now.duration_since(looked) < apart => self.is_whole(file),
+            _ => {
+                self.looked = Some(now);
+                self.is_at(rt, path)
+            }
+        }
     }
 
     /// Whether this, which is that file, is as long, and has some name.
@@ -87,62 +109,75 @@ impl<'r, R: Clock + Files<File = File>> Directory<'r, R> {
             highest,
             newest,
             written,
-            looked: None,
+            standing: Standing {
+                bytes: false,
+                names: false,
+                is_closed: false,
+            },
         })
-    }
-
-    /// Whether the newest piece is as it was written: nobody cut it, added to it or took it away, and it had its name a moment ago.
-    fn is_as_written(&mut self) -> io::Result<bool> {
-        let now = Instant::now(self.rt)?;
-        let apart = Duration::from_micros(LOOKS_APART);
-        match self.looked {
-            Some(looked) if now.duration_since(looked) < apart => {
-                self.written.is_whole(&self.newest)
-            }
-            _ => {
-                self.looked = Some(now);
-                self.written.is_at(self.rt, self.path.as_str())
-            }
-        }
     }
 }
 
 impl<R: Clock + Files<File = File>> Folder for Directory<'_, R> {
-    ghost use Rattle.std.specs.Prelude.{None};
+    ghost use Rattle.std.specs.Prelude.{None, Some};
 
     ghost pieces = { λ _. None };
+
+    ghost standing = { λ d. Some d.standing };
 
     /// Where somebody else cut the piece, added to it, removed or moved it, as a rotation of logs does, the next host would not find there what was written:
     /// nothing more is appended. A move under load is noticed some milliseconds later, all else at once.
     fn append(&mut self, bytes: &[u8]) -> io::Result<usize> {
-        if !self.is_as_written()? {
+        if !self
+            .written
+            .is_as_written(self.rt, &self.newest, self.path.as_str())?
+        {
             return Err(io::Error::from(ErrorKind::InvalidData));
         }
         let count = self.newest.write(bytes)?;
         self.written.length = self.written.length.saturating_add(count as u64);
+        self.standing.bytes = false;
         Ok(count)
     }
 
     fn sync(&mut self) -> io::Result<()> {
-        self.newest.sync_data()
-    }
-
-    fn close(&mut self) -> io::Result<()> {
-        self.highest = give_number(self.rt, self.alloc, self.path.as_str(), self.highest)?;
+        self.newest.sync_data()?;
+        self.standing.bytes = true;
         Ok(())
     }
 
-    /// The file before keeps its lock until the new one has its own: it is closed last.
+    /// Where some of its bytes are not on the disk, it is refused.
+    fn close(&mut self) -> io::Result<()> {
+        if !self.standing.bytes {
+            return Err(io::Error::from(ErrorKind::InvalidInput));
+        }
+        self.highest = give_number(self.rt, self.alloc, self.path.as_str(), self.highest)?;
+        self.standing.names = false;
+        self.standing.is_closed = true;
+        Ok(())
+    }
+
+    /// The file before keeps its lock until the new one has its own: it is closed last. Where it was not closed, or some of its bytes are not on the
+    /// disk, a new one is refused.
     fn begin(&mut self) -> io::Result<()> {
+        if !self.standing.is_closed || !self.standing.bytes {
+            return Err(io::Error::from(ErrorKind::InvalidInput));
+        }
         let newest = begin_behind(self.rt, self.path.as_str())?;
         self.written = Written::of(&newest, 0)?;
-        self.looked = None;
         let _closed = mem::replace(&mut self.newest, newest);
+        self.standing.names = false;
+        self.standing.is_closed = false;
         Ok(())
     }
 
+    /// Where they are there, nothing is asked of the system.
     fn sync_names(&mut self) -> io::Result<()> {
-        sync_names(self.rt, self.alloc, self.path.as_str())
+        if !self.standing.names {
+            sync_names(self.rt, self.alloc, self.path.as_str())?;
+            self.standing.names = true;
+        }
+        Ok(())
     }
 }
 

@@ -1,10 +1,8 @@
 //! Sinks that can be put on their disk.
 ghost use Rattle.std.specs.Prelude.{◌≡◌, ◌+◌, OnOk, OnErr};
 
-use crate::{Cause, Directory, Disk, Roll};
+use crate::{Cause, Disk, Syncs};
 use amo_text::{Sink, SinkFault};
-use std::fs::File;
-use std::rt::{Clock, Files};
 use std::sync::ledger::Ledger;
 
 /// A sink that can be put on its disk.
@@ -38,13 +36,10 @@ pub trait Durable: Sink {
         ensures failed { OnErr result (Self.failures self.new ≡ Self.failures self.old + 1) };
 }
 
-/// What is left of files nobody tells.
-impl<R: Clock + Files<File = File>, L: Ledger> Durable for Disk<'_, Roll<Directory<'_, R>>, L> {
-    ghost use Rattle.std.specs.Prelude.{None};
+impl<W: Syncs, L: Ledger> Durable for Disk<'_, W, L> {
+    ghost flushed = { λ d. W.contents d.writer };
 
-    ghost flushed = { λ _. None };
-
-    ghost on_disk = { λ _. None };
+    ghost on_disk = { λ d. W.on_disk d.writer };
 
     /// Each write was a call of the system.
     fn flush(&mut self) -> Result<(), SinkFault> {
@@ -52,27 +47,7 @@ impl<R: Clock + Files<File = File>, L: Ledger> Durable for Disk<'_, Roll<Directo
     }
 
     fn sync(&mut self) -> Result<(), SinkFault> {
-        match self.writer.sync() {
-            Ok(()) => Ok(()),
-            Err(error) => Err(self.failed(Cause::from(error))),
-        }
-    }
-}
-
-/// The same of one file.
-impl<L: Ledger> Durable for Disk<'_, File, L> {
-    ghost use Rattle.std.specs.Prelude.{None};
-
-    ghost flushed = { λ _. None };
-
-    ghost on_disk = { λ _. None };
-
-    fn flush(&mut self) -> Result<(), SinkFault> {
-        Ok(())
-    }
-
-    fn sync(&mut self) -> Result<(), SinkFault> {
-        match self.writer.sync_data() {
+        match self.writer.put_on_disk() {
             Ok(()) => Ok(()),
             Err(error) => Err(self.failed(Cause::from(error))),
         }

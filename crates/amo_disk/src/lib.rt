@@ -5,7 +5,8 @@
 //! as F.000001, and a new F is begun. A piece of a journal of version 2 begins with the heading of that version.
 //!
 //! - A [`Roll`] is the writer that does so. What it was written is what it was handed: nobody above sees that there are pieces.
-//! - A [`Folder`] has the pieces. [`Directory`] is one of files, and [`Shelf`] one in memory.
+//! - A [`Folder`] has the pieces, and keeps count of what of them is on the disk, as a [`Standing`]. [`Directory`] is one of files, and [`Shelf`] one in memory.
+//! - What is handed to a writer that [`Syncs`] can be put on its disk.
 //! - A [`Disk`] is a sink over a roll, or any other writer, and keeps why a call failed. [`Gathered`] hands on together what it was handed one by one.
 //! - [`open`] opens a journal at its end, and tells the number of the next line. It costs the same behind ten lines and behind a million.
 //! - [`laws`]: read as one, the pieces are the text that was written.
@@ -16,7 +17,8 @@
 //! their numbers, and F, which may be missing, or have no whole line. A piece that is closed is on the disk before it gets its number, so that a
 //! loss of power leaves a beginning of the journal.
 //!
-//! What a tail tells stands in `specs/Tail.antt`, what a folder does in `specs/Folder.antt`, and what is kept of its pieces in `specs/Kept.antt`.
+//! What a tail tells stands in `specs/Tail.antt`, what a folder does in `specs/Folder.antt` and `specs/Standing.antt`, and what is kept of its pieces in
+//! `specs/Kept.antt`.
 //! Lists of pieces have the newest first.
 #![tactic(auto)]
 
@@ -36,7 +38,9 @@ mod opening;
 mod returns;
 mod roll;
 mod shelf;
+mod standing;
 mod start;
+mod syncs;
 mod tail;
 
 pub use directory::Directory;
@@ -49,5 +53,7 @@ pub use gathered::Gathered;
 pub use opening::{Opened, Wanted, open};
 pub use roll::Roll;
 pub use shelf::Shelf;
+pub use standing::Standing;
 pub use start::Start;
+pub use syncs::Syncs;
 pub use tail::{Tail, TailFault, read_tail};

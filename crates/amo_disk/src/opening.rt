@@ -3,9 +3,8 @@ ghost use Rattle.std.specs.Prelude.{◌≡◌, ◌<◌, ◌≤◌, [], length, I
 
 use crate::beginning::{agree, begins_heading, begins_journal};
 use crate::hold::{Held, hold};
-use crate::names::sync_names;
 use crate::tail::LONGEST_LINE;
-use crate::{Cause, Directory, Disk, Ending, Gathered, OpenFault, Roll, Start};
+use crate::{Cause, Directory, Disk, Ending, Folder, Gathered, OpenFault, Roll, Start};
 use amo_journal::Version;
 use amo_object::End;
 use std::alloc::{AllocError, Global};
@@ -83,7 +82,6 @@ pub fn open<'a, 'r, R: Clock + Files<File = File>, L: Ledger>(
     let length = make_whole(&held, &found, version)?;
     if wanted.sync {
         held.newest.sync_all()?;
-        sync_names(rt, alloc, path)?;
     }
     let Found { start, zeros, .. } = found;
     let Held {
@@ -91,7 +89,10 @@ pub fn open<'a, 'r, R: Clock + Files<File = File>, L: Ledger>(
         highest,
         ..
     } = held;
-    let directory = Directory::new(rt, alloc, name, highest, newest, length)?;
+    let mut directory = Directory::new(rt, alloc, name, highest, newest, length)?;
+    if wanted.sync {
+        directory.sync_names()?;
+    }
     let roll = Roll::new(directory, version, wanted.piece, wanted.sync, length);
     Ok(Opened {
         disk: Gathered::new(alloc, Disk::new(roll, cause, blank)),

@@ -6,6 +6,7 @@ ghost use Rattle.amo_journal.specs.Version.{heading};
 ghost use Rattle.amo_disk.specs.declared.newest.Newest.{Newest};
 ghost use Rattle.amo_disk.specs.Folder.{BeginsInPart, BeginsWith, Grows, Stays};
 ghost use Rattle.amo_disk.specs.Kept.{Grown, HasRoom, HaveClosed, IsAlone, IsKept, spelt_known};
+ghost use Rattle.amo_disk.specs.Standing.{is_on_disk};
 
 use crate::Folder;
 use crate::newest::{Newest, part_within};
@@ -68,11 +69,16 @@ impl<F: Folder> Roll<F> {
         &self.folder
     }
 
-    /// Puts the newest piece on the disk. Those before it are there.
+    /// Puts the pieces on the disk, and their names. A call that fails takes nothing from there.
+    #[tactic(auto, using(crate::proofs::Standings::all_synced, crate::proofs::Standings::still_there, crate::proofs::Standings::still_behind))]
     pub fn sync(&mut self) -> io::Result<()>
         ensures kept { Keeps (spelt_known self.old.version (F.pieces self.old.folder)) (spelt_known self.new.version (F.pieces self.new.folder)) }
+        ensures on_disk { OnOk result (is_on_disk (F.standing self.new.folder) ≡ true) }
+        ensures still { OnErr result (is_on_disk (F.standing self.old.folder) ≡ true → is_on_disk (F.standing self.new.folder) ≡ true) }
     {
-        self.folder.sync()
+        self.folder.sync()?;
+        self.folder.sync_names()?;
+        Ok(())
     }
 }
 
@@ -161,9 +167,11 @@ fn append_part<F: Folder>(
 
 /// Closes the newest piece and begins another one, with the heading of this version. What is closed is on the disk first, so that a loss of power
 /// leaves no gap between pieces.
+#[tactic(auto, using(crate::proofs::Standings::all_synced))]
 fn begin_piece<F: Folder>(folder: &mut F, version: Version, sync: bool) -> io::Result<()>
     ensures begun { OnOk result (BeginsWith (F.pieces folder.old) (F.pieces folder.new) (heading version)) }
     ensures in_part { OnErr result (BeginsInPart (F.pieces folder.old) (F.pieces folder.new) (heading version)) }
+    ensures on_disk { OnOk result (sync ≡ true → is_on_disk (F.standing folder.new) ≡ true) }
 {
     folder.sync()?;
     folder.close()?;
