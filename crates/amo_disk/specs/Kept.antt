@@ -80,8 +80,9 @@ pub record Grown (version : Version) (limit : ℕ) (old new : Option (List (List
 abbrev pub IsAlone : ℕ → List (List ℕ) → Type 0
 IsAlone length_is pieces = (piece : List ℕ) × (pieces ≡ piece ∷ []) × (length piece ≡ length_is) × IsWhole piece
 
--- pieces that grow: their folder, the version of the journal, and how long a piece is to be
+-- pieces that grow: their folder, the version of the journal, how long a piece is to be, and whether a new one is put on the disk
 pub record RollState (F : Type 0) : Type 0 where
   pub folder : F
   pub version : Version
   pub limit : ℕ
+  pub sync : Bool

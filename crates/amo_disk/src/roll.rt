@@ -15,7 +15,8 @@ use std::io::{self, ErrorKind, Write};
 use std::marker::Model;
 
 /// The pieces of a journal in a folder. What is written goes to the newest one. Where that is long enough and its last line whole, a write closes it
-/// and begins another one first. Contracts see the folder, the version of the journal, and how long a piece is to be.
+/// and begins another one first. Contracts see the folder, the version of the journal, how long a piece is to be, and whether a new one is put on the
+/// disk.
 #[derive(Drop)]
 pub struct Roll<F: Folder> {
     folder: F,
@@ -33,7 +34,7 @@ impl<F: Folder> Model for Roll<F> {
 
     ghost Value = { RollState F };
 
-    ghost view = { λ r. record { folder = r.folder; version = r.version; limit = r.limit } };
+    ghost view = { λ r. record { folder = r.folder; version = r.version; limit = r.limit; sync = r.sync } };
 
     ghost invariant = { λ r. (6 < r.limit) × IfSome (F.pieces r.folder) (IsKept r.version r.limit r.newest r.is_broken) };
 }
@@ -44,7 +45,7 @@ impl<F: Folder> Roll<F> {
     pub fn new(folder: F, version: Version, limit: u64, sync: bool, length: u64) -> Roll<F>
         requires limit { 6 < limit }
         requires newest { IfSome (F.pieces folder) (IsAlone length) }
-        ensures { result ≡ record { folder = folder; version = version; limit = limit } }
+        ensures { result ≡ record { folder = folder; version = version; limit = limit; sync = sync } }
     {
         let newest = Newest {
             length,
@@ -73,6 +74,7 @@ impl<F: Folder> Roll<F> {
     #[tactic(auto, using(crate::proofs::Standings::all_synced, crate::proofs::Standings::still_there, crate::proofs::Standings::still_behind))]
     pub fn sync(&mut self) -> io::Result<()>
         ensures kept { Keeps (spelt_known self.old.version (F.pieces self.old.folder)) (spelt_known self.new.version (F.pieces self.new.folder)) }
+        ensures same { self.new ≡ record self.old { folder = self.new.folder } }
         ensures on_disk { OnOk result (is_on_disk (F.standing self.new.folder) ≡ true) }
         ensures still { OnErr result (is_on_disk (F.standing self.old.folder) ≡ true → is_on_disk (F.standing self.new.folder) ≡ true) }
     {
