@@ -1,5 +1,5 @@
 //! Opens a journal at its end.
-ghost use Rattle.std.specs.Prelude.{◌≡◌, ◌<◌, ◌≤◌, [], length, IfOk};
+ghost use Rattle.std.specs.Prelude.{◌≡◌, ◌<◌, ◌≤◌, [], length, true, IfOk, IfSome};
 
 use crate::beginning::{agree, begins_heading, begins_journal};
 use crate::hold::{Held, hold};
@@ -66,6 +66,8 @@ pub fn open<'a, 'r, R: Clock + Files<File = File>, L: Ledger>(
     requires some { 0 < L.parts }
     requires piece { 6 < wanted.now.piece }
     ensures calm { IfOk result (λ opened. (opened.disk.sink.failures ≡ 0) × (opened.disk.waiting ≡ [])) }
+    ensures roll { IfOk result (λ opened. (opened.disk.sink.writer.limit ≡ wanted.now.piece) × (opened.disk.sink.writer.sync ≡ wanted.now.sync)) }
+    ensures on_disk { IfOk result (λ opened. wanted.now.sync ≡ true → IfSome (⟦<Directory<'r, R> as Folder>⟧.standing opened.disk.sink.writer.folder) (λ standing. standing.names ≡ true)) }
 {
     let name = String::from_str(alloc, path)?;
     let held = hold(rt, alloc, path)?;
