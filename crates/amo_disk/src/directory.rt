@@ -1,4 +1,7 @@
 //! Pieces of a journal in files.
+ghost use Rattle.std.specs.Prelude.{◌≡◌, true, OnOk};
+ghost use Rattle.amo_disk.specs.Standing.{is_on_disk};
+
 use crate::hold::begin_behind;
 use crate::names::{piece_name, sync_names};
 use crate::{Folder, Standing};
@@ -115,6 +118,16 @@ impl<'r, R: Clock + Files<File = File>> Directory<'r, R> {
                 is_closed: false,
             },
         })
+    }
+
+    /// Puts the newest piece on the disk, with all that the system keeps of a file, and the names.
+    pub(crate) fn settle(&mut self) -> io::Result<()>
+        ensures { OnOk result (is_on_disk (⟦<Directory<'r, R> as Folder>⟧.standing self.new) ≡ true) }
+    {
+        self.newest.sync_all()?;
+        self.standing.bytes = true;
+        self.sync_names()?;
+        Ok(())
     }
 }
 

@@ -1,5 +1,6 @@
 //! Opens a journal at its end.
-ghost use Rattle.std.specs.Prelude.{◌≡◌, ◌<◌, ◌≤◌, [], length, true, IfOk, IfSome};
+ghost use Rattle.std.specs.Prelude.{◌≡◌, ◌<◌, ◌≤◌, [], length, true, IfOk};
+ghost use Rattle.amo_disk.specs.Standing.{is_on_disk};
 
 use crate::beginning::{agree, begins_heading, begins_journal};
 use crate::hold::{Held, hold};
@@ -67,7 +68,7 @@ pub fn open<'a, 'r, R: Clock + Files<File = File>, L: Ledger>(
     requires piece { 6 < wanted.now.piece }
     ensures calm { IfOk result (λ opened. (opened.disk.sink.failures ≡ 0) × (opened.disk.waiting ≡ [])) }
     ensures roll { IfOk result (λ opened. (opened.disk.sink.writer.limit ≡ wanted.now.piece) × (opened.disk.sink.writer.sync ≡ wanted.now.sync)) }
-    ensures on_disk { IfOk result (λ opened. wanted.now.sync ≡ true → IfSome (⟦<Directory<'r, R> as Folder>⟧.standing opened.disk.sink.writer.folder) (λ standing. standing.names ≡ true)) }
+    ensures on_disk { IfOk result (λ opened. wanted.now.sync ≡ true → is_on_disk (⟦<Directory<'r, R> as Folder>⟧.standing opened.disk.sink.writer.folder) ≡ true) }
 {
     let name = String::from_str(alloc, path)?;
     let held = hold(rt, alloc, path)?;
@@ -82,9 +83,6 @@ pub fn open<'a, 'r, R: Clock + Files<File = File>, L: Ledger>(
     };
     let version = found.start.version.unwrap_or(wanted.version);
     let length = make_whole(&held, &found, version)?;
-    if wanted.sync {
-        held.newest.sync_all()?;
-    }
     let Found { start, zeros, .. } = found;
     let Held {
         newest,
@@ -93,7 +91,7 @@ pub fn open<'a, 'r, R: Clock + Files<File = File>, L: Ledger>(
     } = held;
     let mut directory = Directory::new(rt, alloc, name, highest, newest, length)?;
     if wanted.sync {
-        directory.sync_names()?;
+        directory.settle()?;
     }
     let roll = Roll::new(directory, version, wanted.piece, wanted.sync, length);
     Ok(Opened {
