@@ -4,3 +4,4 @@ pub mod Told
 pub mod Calls
 pub mod Puts
 pub mod Words
+pub mod Measures

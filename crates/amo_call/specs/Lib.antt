@@ -4,3 +4,4 @@ pub mod Answer
 pub mod Heard
 pub mod Puts
 pub mod Turns
+pub mod Pages

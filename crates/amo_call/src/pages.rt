@@ -1,6 +1,10 @@
 //! What a door tells of its journal.
+ghost use Rattle.std.specs.Prelude.{◌≡◌, ℕ, List, [], ◌++◌, ◌∷◌, IfNone, IfOk, IfSome, OnOk, codes};
+ghost use Rattle.amo_door.specs.Answer.{got_front, got_message, line_value, more_end};
+ghost use Rattle.amo_call.specs.Pages.{TellsLines, TellsNextLine, TellsPage, first_line, line_behind};
+
 use crate::answer::Response;
-use crate::scan::{behind, behind_number, number_before, quoted_in_front};
+use crate::scan::{before, behind, behind_number, number_before, quoted_in_front};
 use amo_door::{Answer, GotMessage, GotPage};
 use amo_packet::{MAX_MESSAGE, Message, MessageFault};
 use amo_text::{next_line, read_decimal, read_hex};
@@ -8,6 +12,9 @@ use std::alloc::{AllocError, AllocFailed, Global};
 
 /// The name of the measure of the number of a journal's next line, with the space behind it.
 const NEXT_LINE: &[u8] = b"amo_journal_next_line ";
+
+/// What stands behind the messages of a page that tells of no line.
+const NO_LINES: &[u8] = b"],\"from\":null,\"next\":null,\"more\":false}";
 
 /// A page of what was got of a stream, as far as it is of use to who wants the first message of it.
 #[derive(Debug, Drop)]
@@ -30,17 +37,20 @@ pub struct PageLines {
 }
 
 /// The number of the journal's next line, where an answer tells what the host counted.
-pub fn read_next_line(response: &Response) -> Option<u64> {
+pub fn read_next_line(response: &Response) -> Option<u64>
+    ensures found { IfSome result (λ line. TellsNextLine line response.now) }
+    ensures none { IfNone result ((line : ℕ) → ¬ (TellsNextLine line response.now)) }
+{
     if response.status != 200 {
         return None;
     }
     let mut rest = response.body.as_slice();
     'lines: for _line in 0..rest.len() {
-        let (line, behind) = next_line(rest)?;
-        if let Some(digits) = line.strip_prefix(NEXT_LINE) {
+        let (text, more) = next_line(rest)?;
+        if let Some(digits) = behind(text, NEXT_LINE) {
             return read_decimal(digits);
         }
-        rest = behind;
+        rest = more;
     }
     None
 }
@@ -51,18 +61,20 @@ pub fn read_page(
     response: &Response,
     stream: u32,
     from: u64,
-) -> Result<Option<Page>, AllocError> {
-    let body = response.body.as_slice();
+) -> Result<Option<Page>, AllocError>
+    ensures found { IfOk result (λ read. IfSome read (λ page. TellsPage stream from page response.now)) }
+{
     if response.status != 200 {
         return Ok(None);
     }
+    let body = response.body.as_slice();
     let Some(lines) = read_lines(body, from) else {
         return Ok(None);
     };
     let Some(got) = behind_front(body, stream) else {
         return Ok(None);
     };
-    if got.starts_with(b"]") {
+    if let Some(_rest) = behind(got, b"]") {
         return Ok(Some(Page { first: None, lines }));
     }
     let Some(first) = read_first(alloc, got)? else {
@@ -83,7 +95,9 @@ fn as_told(
     body: &[u8],
     stream: u32,
     first: GotMessage,
-) -> Result<Option<GotMessage>, AllocError> {
+) -> Result<Option<GotMessage>, AllocError>
+    ensures { IfOk result (λ told. IfSome told (λ got. (rest : List ℕ) × (body.now ≡ got_front stream ++ got_message got ++ rest))) }
+{
     let mut messages = Vec::new(alloc);
     push(&mut messages, first)?;
     let mut page = GotPage {
@@ -94,53 +108,87 @@ fn as_told(
     };
     let told = Answer::got(alloc, stream, &page)?;
     // What stands behind the messages is told of other lines.
-    let end = b"],\"from\":null,\"next\":null,\"more\":false}".len();
-    let front = told.body.len().saturating_sub(end);
-    if body.starts_with(&told.body[..front]) {
-        Ok(page.messages.pop())
-    } else {
-        Ok(None)
+    let Some(front) = before(told.body.as_slice(), NO_LINES) else {
+        return Ok(None);
+    };
+    match behind(body, front) {
+        Some(_rest) => Ok(page.messages.pop()),
+        None => Ok(None),
     }
 }
 
 /// What stands behind the front of a page of this stream.
-fn behind_front(body: &[u8], stream: u32) -> Option<&[u8]> {
+fn behind_front(body: &[u8], stream: u32) -> Option<&[u8]>
+    ensures { IfSome result (λ rest. body.now ≡ got_front stream ++ rest.now) }
+{
     let rest = behind_number(behind(body, b"{\"stream\":")?, stream as u64, b',')?;
     behind(rest, b"\"got\":[")
 }
 
 /// Which lines a page tells of, to who asked from this one on: no bracket stands behind its messages.
-fn read_lines(body: &[u8], from: u64) -> Option<PageLines> {
-    let (first, rest) = line_before(behind(behind_last(body, b']')?, b",\"from\":")?)?;
-    let (last, rest) = line_before(behind(rest, b"\"next\":")?)?;
-    let more = match rest {
-        b"\"more\":true}" => true,
-        b"\"more\":false}" => false,
-        _ => return None,
-    };
-    Some(PageLines {
-        from: first.unwrap_or(from),
-        behind: match last {
-            Some(last) => last.saturating_add(1),
-            None => from,
-        },
-        more,
-    })
+fn read_lines(body: &[u8], from: u64) -> Option<PageLines>
+    ensures { IfSome result (λ lines. TellsLines from lines body.now) }
+{
+    let parts = last_cut(body, b']')?;
+    let named = read_names(parts.1)?;
+    Some(lines_of(from, named.0, named.1, named.2))
 }
 
-/// What stands behind the last such byte.
-fn behind_last(text: &[u8], byte: u8) -> Option<&[u8]> {
-    let mut found = None;
-    for place in 0..text.len() {
+/// The first line and the last one that the end of a page names, and whether it tells of more.
+fn read_names(end: &[u8]) -> Option<(Option<u64>, Option<u64>, bool)>
+    ensures { IfSome result (λ named. end.now ≡ codes ",\"from\":" ++ line_value named.0 ++ codes ",\"next\":" ++ line_value named.1 ++ more_end named.2) }
+{
+    let names = behind(end, b",\"from\":")?;
+    let (first, rest) = line_before(names)?;
+    let next = behind(rest, b"\"next\":")?;
+    let (last, tail) = line_before(next)?;
+    let more = read_more(tail)?;
+    Some((first, last, more))
+}
+
+/// Whether there are more lines, in what is behind the comma at the last one.
+fn read_more(text: &[u8]) -> Option<bool>
+    ensures { IfSome result (λ more. 44 ∷ text.now ≡ more_end more) }
+{
+    match text {
+        b"\"more\":true}" => Some(true),
+        b"\"more\":false}" => Some(false),
+        _ => None,
+    }
+}
+
+/// The lines that a page tells of which names these, to who asked from this one on.
+fn lines_of(from: u64, first: Option<u64>, last: Option<u64>, more: bool) -> PageLines
+    ensures { result ≡ record { from = first_line first from; behind = line_behind last from; more = more } }
+{
+    let behind = match last {
+        Some(last) => last.saturating_add(1),
+        None => from,
+    };
+    PageLines {
+        from: first.unwrap_or(from),
+        behind,
+        more,
+    }
+}
+
+/// What stands in front of the last such byte, and behind it.
+fn last_cut(text: &[u8], byte: u8) -> Option<(&[u8], &[u8])>
+    ensures { IfSome result (λ parts. text.now ≡ parts.0.now ++ byte ∷ parts.1.now) }
+{
+    for back in 0..text.len() {
+        let place = text.len() - 1 - back;
         if text[place] == byte {
-            found = Some(&text[place + 1..]);
+            return Some((&text[..place], &text[place + 1..]));
         }
     }
-    found
+    None
 }
 
 /// The number of a line, or null, in front of a text up to a comma, and what stands behind that.
-fn line_before(text: &[u8]) -> Option<(Option<u64>, &[u8])> {
+fn line_before(text: &[u8]) -> Option<(Option<u64>, &[u8])>
+    ensures { IfSome result (λ parts. text.now ≡ line_value parts.0 ++ 44 ∷ parts.1.now) }
+{
     if let Some(rest) = behind(text, b"null,") {
         return Some((None, rest));
     }
@@ -205,7 +253,9 @@ fn bytes_of_text(alloc: Global, text: &[u8]) -> Result<Option<Vec<u8>>, AllocErr
 }
 
 /// Puts a message at a list's end.
-fn push(messages: &mut Vec<GotMessage>, message: GotMessage) -> Result<(), AllocError> {
+fn push(messages: &mut Vec<GotMessage>, message: GotMessage) -> Result<(), AllocError>
+    ensures { OnOk result (messages.new.items ≡ messages.old.items ++ message ∷ []) }
+{
     match messages.push(message) {
         Ok(()) => Ok(()),
         Err(AllocFailed { .. }) => Err(AllocError),
