@@ -4,4 +4,5 @@ pub mod Told
 pub mod Calls
 pub mod Puts
 pub mod Words
+pub mod Takes
 pub mod Measures

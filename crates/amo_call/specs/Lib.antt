@@ -5,3 +5,4 @@ pub mod Heard
 pub mod Puts
 pub mod Turns
 pub mod Pages
+pub mod Takes

@@ -1,6 +1,8 @@
 //! Takes, of which each message comes again until it is done.
-ghost use Rattle.std.specs.Prelude.{◌≡◌, IfOk, IfSome};
+ghost use Rattle.std.specs.Prelude.{◌≡◌, ◌↔◌, ℕ, List, Some, ◌⊎◌, IfOk, IfSome, IsTrue};
+ghost use Rattle.amo_call.specs.Heard.{ToCall};
 ghost use Rattle.amo_call.specs.Kept.{done_of, kept_text};
+ghost use Rattle.amo_call.specs.Takes.{ComesToTake, IsFirstTake, IsNextTake, IsOver, IsTaking, TakesBy, TellsTakenFor, ToldTake, after_of, take_behind};
 ghost use Rattle.amo_call.specs.Turns.{HasTake, HasToldTake};
 
 use crate::answer::{Response, read_state};
@@ -50,19 +52,18 @@ pub fn take<C: Caller>(
 ) -> Result<TakeTold, CallFault>
     requires { IfSome found (λ kept. C.saved caller.old ≡ kept_text kept) }
     // A message that is told is in the file: so the same call again asks nothing, and tells the same.
-    ensures { IfOk result (HasToldTake (C.saved caller.new)) }
+    ensures saved { IfOk result (HasToldTake (C.saved caller.new)) }
+    // What is told of a take is what answers told of it, and of each call in the place of another that the one before it took nothing.
+    ensures told { IfOk result (ToldTake C.heard stream (TakesBy C.heard stream by.now found) (C.is_silent caller.new) (C.saved caller.new)) }
 {
-    let mut after = match found {
-        Some(kept) => resume(caller, kept, stream)?,
-        None => start(alloc, caller, stream, by)?,
-    };
+    let mut after = start_or_resume(alloc, caller, found, stream, by)?;
     'turns: for _turn in 0..u64::MAX {
         match after {
             AfterTake::Told(told) => return Ok(told),
             AfterTake::Turn(kept) => after = make(alloc, caller, kept, by)?,
         }
     }
-    Ok(TakeTold::NoAnswer)
+    Err(CallFault::Strange)
 }
 
 /// The call whose message is done, where the file has one that was taken, or is done already. None where none was taken.
@@ -79,10 +80,29 @@ pub fn done(kept: Kept) -> Option<Kept>
     })
 }
 
+/// Goes on with the call that was found, or names one.
+fn start_or_resume<C: Caller>(
+    alloc: Global,
+    caller: &mut C,
+    found: Option<Kept>,
+    stream: u32,
+    by: &Word,
+) -> Result<AfterTake, CallFault>
+    requires { IfSome found (λ kept. C.saved caller.old ≡ kept_text kept) }
+    ensures saved { IfOk result (HasTake (C.saved caller.new)) }
+    ensures told { IfOk result (ComesToTake C.heard stream (TakesBy C.heard stream by.now found) (C.is_silent caller.new) (C.saved caller.new)) }
+{
+    match found {
+        Some(kept) => resume(caller, kept, stream),
+        None => start(alloc, caller, stream, by),
+    }
+}
+
 /// Goes on with the call of a file, where it is a take of this stream. Behind a message that is done the next one is taken.
 fn resume<C: Caller>(caller: &mut C, kept: Kept, stream: u32) -> Result<AfterTake, CallFault>
     requires { C.saved caller.old ≡ kept_text kept }
-    ensures { IfOk result (HasTake (C.saved caller.new)) }
+    ensures saved { IfOk result (HasTake (C.saved caller.new)) }
+    ensures told { (by : List ℕ) → IfOk result (ComesToTake C.heard stream (TakesBy C.heard stream by (Some kept)) (C.is_silent caller.new) (C.saved caller.new)) }
 {
     if kept.claim.stream != stream {
         return Ok(AfterTake::Told(TakeTold::OtherCall));
@@ -95,7 +115,8 @@ fn resume<C: Caller>(caller: &mut C, kept: Kept, stream: u32) -> Result<AfterTak
 
 /// What comes of the call of a file now: what it took is told, or it is made.
 fn go_on(kept: Kept) -> AfterTake
-    ensures { HasTake (kept_text kept) result }
+    ensures saved { HasTake (kept_text kept) result }
+    ensures value { result ≡ after_of kept }
 {
     let Kept { claim, progress } = kept;
     match progress {
@@ -116,7 +137,8 @@ fn go_on(kept: Kept) -> AfterTake
 
 /// Names the call behind that of a message that is done, which was taken by this line.
 fn take_next<C: Caller>(caller: &mut C, claim: Claim, line: u64) -> Result<AfterTake, CallFault>
-    ensures { IfOk result (HasTake (C.saved caller.new)) }
+    ensures saved { IfOk result (HasTake (C.saved caller.new)) }
+    ensures told { IfOk result (λ after. after ≡ AfterTake.Turn (take_behind claim line)) }
 {
     let kept = Kept {
         claim: Claim {
@@ -140,7 +162,8 @@ fn start<C: Caller>(
     stream: u32,
     by: &Word,
 ) -> Result<AfterTake, CallFault>
-    ensures { IfOk result (HasTake (C.saved caller.new)) }
+    ensures saved { IfOk result (HasTake (C.saved caller.new)) }
+    ensures told { IfOk result (ComesToTake C.heard stream (IsFirstTake C.heard stream by.now) (C.is_silent caller.new) (C.saved caller.new)) }
 {
     let request = Request::counts(alloc)?;
     let Some(response) = ask_until(caller, &request)? else {
@@ -160,7 +183,8 @@ fn begin<C: Caller>(
     from: u64,
     by: &Word,
 ) -> Result<AfterTake, CallFault>
-    ensures { IfOk result (HasTake (C.saved caller.new)) }
+    ensures saved { IfOk result (HasTake (C.saved caller.new)) }
+    ensures told { IfOk result (ComesToTake C.heard stream (IsNextTake C.heard stream by.now from) (C.is_silent caller.new) (C.saved caller.new)) }
 {
     let request = Request::state(alloc, stream, 0)?;
     let Some(response) = ask_until(caller, &request)? else {
@@ -189,32 +213,61 @@ fn make<C: Caller>(
     kept: Kept,
     by: &Word,
 ) -> Result<AfterTake, CallFault>
-    requires { C.saved caller.old ≡ kept_text kept }
-    ensures { IfOk result (HasTake (C.saved caller.new)) }
+    requires saved { C.saved caller.old ≡ kept_text kept }
+    requires taking { (from : ℕ) × IsTaking kept.claim.stream from kept }
+    ensures saved { IfOk result (HasTake (C.saved caller.new)) }
+    ensures told { IfOk result (ComesToTake C.heard kept.claim.stream (TakesBy C.heard kept.claim.stream by.now (Some kept)) (C.is_silent caller.new) (C.saved caller.new)) }
 {
     let Some(response) = caller.make(&kept)? else {
-        return Ok(take_again(caller, kept, false));
+        return Ok(take_again(caller, kept, TakeTold::NoAnswer));
     };
+    look_at_answer(alloc, caller, kept, response, by)
+}
+
+/// The door answered a take so.
+fn look_at_answer<C: Caller>(
+    alloc: Global,
+    caller: &mut C,
+    kept: Kept,
+    response: Response,
+    by: &Word,
+) -> Result<AfterTake, CallFault>
+    requires saved { C.saved caller.old ≡ kept_text kept }
+    requires taking { (from : ℕ) × IsTaking kept.claim.stream from kept }
+    requires answered { C.heard (ToCall kept response) }
+    ensures saved { IfOk result (HasTake (C.saved caller.new)) }
+    ensures told { IfOk result (ComesToTake C.heard kept.claim.stream (TakesBy C.heard kept.claim.stream by.now (Some kept)) (C.is_silent caller.new) (C.saved caller.new)) }
+{
+    if is_nothing(response.status) {
+        return Ok(take_again(caller, kept, TakeTold::Nothing));
+    }
     match response.status {
         200 => finish(alloc, caller, kept.claim, response),
-        204 | 408 | 503 => Ok(take_again(caller, kept, true)),
         409 => Ok(AfterTake::Told(TakeTold::Doubtful)),
         410 => look_back(alloc, caller, kept, by),
         _ => Ok(AfterTake::Told(TakeTold::Refused(response))),
     }
 }
 
-/// The call is made again, where there is time; else it is told that no answer or no message came.
-fn take_again<C: Caller>(caller: &mut C, kept: Kept, is_answered: bool) -> AfterTake
-    requires { C.saved caller.old ≡ kept_text kept }
-    ensures { HasTake (C.saved caller.new) result }
+/// Whether a status tells that no message came for now, or asks to try later.
+fn is_nothing(status: u16) -> bool
+    ensures { IsTrue result ↔ ((status ≡ 204) ⊎ ((status ≡ 408) ⊎ (status ≡ 503))) }
+{
+    status == 204 || status == 408 || status == 503
+}
+
+/// The call is made again, where there is time; else this is told.
+fn take_again<C: Caller>(caller: &mut C, kept: Kept, told: TakeTold) -> AfterTake
+    requires saved { C.saved caller.old ≡ kept_text kept }
+    requires told { HasToldTake (C.saved caller.old) told }
+    ensures saved { HasTake (C.saved caller.new) result }
+    ensures silent { C.is_silent caller.old → C.is_silent caller.new }
+    ensures again { (result ≡ AfterTake.Turn kept) ⊎ (result ≡ AfterTake.Told told) }
 {
     if caller.pause() {
         AfterTake::Turn(kept)
-    } else if is_answered {
-        AfterTake::Told(TakeTold::Nothing)
     } else {
-        AfterTake::Told(TakeTold::NoAnswer)
+        AfterTake::Told(told)
     }
 }
 
@@ -225,7 +278,9 @@ fn finish<C: Caller>(
     claim: Claim,
     response: Response,
 ) -> Result<AfterTake, CallFault>
-    ensures { IfOk result (HasTake (C.saved caller.new)) }
+    requires { response.status ≡ 200 }
+    ensures saved { IfOk result (HasTake (C.saved caller.new)) }
+    ensures told { IfOk result (TellsTakenFor claim response) }
 {
     let Some(line) = response.line else {
         return Err(CallFault::Strange);
@@ -244,7 +299,8 @@ fn keep<C: Caller>(
     line: u64,
     message: Message,
 ) -> Result<AfterTake, CallFault>
-    ensures { IfOk result (HasTake (C.saved caller.new)) }
+    ensures saved { IfOk result (HasTake (C.saved caller.new)) }
+    ensures told { IfOk result (λ after. after ≡ AfterTake.Told (TakeTold.Taken claim line message)) }
 {
     let kept = Kept {
         claim,
@@ -261,13 +317,16 @@ fn look_back<C: Caller>(
     kept: Kept,
     by: &Word,
 ) -> Result<AfterTake, CallFault>
-    ensures { IfOk result (HasTake (C.saved caller.new)) }
+    requires taking { (from : ℕ) × IsTaking kept.claim.stream from kept }
+    requires over { IsOver C.heard kept }
+    ensures saved { IfOk result (HasTake (C.saved caller.new)) }
+    ensures told { IfOk result (ComesToTake C.heard kept.claim.stream (TakesBy C.heard kept.claim.stream by.now (Some kept)) (C.is_silent caller.new) (C.saved caller.new)) }
 {
     let stream = kept.claim.stream;
-    let Progress::Taking { from } = kept.progress else {
+    let Progress::Taking { from: first } = kept.progress else {
         return Ok(AfterTake::Told(TakeTold::OtherCall));
     };
-    let mut from = from;
+    let mut from = first;
     'pages: for _page in 0..u64::MAX {
         let request = Request::got(alloc, stream, from)?;
         let Some(response) = ask_until(caller, &request)? else {
@@ -279,13 +338,13 @@ fn look_back<C: Caller>(
         if page.lines.from > from {
             return Ok(AfterTake::Told(TakeTold::Doubtful));
         }
-        if let Some(first) = page.first {
-            return keep(caller, kept.claim, first.line, first.message);
+        if let Some(got) = page.first {
+            return keep(caller, kept.claim, got.line, got.message);
         }
         from = page.lines.behind;
         if !page.lines.more {
-            break;
+            return begin(alloc, caller, stream, from, by);
         }
     }
-    begin(alloc, caller, stream, from, by)
+    Err(CallFault::Strange)
 }
