@@ -1,5 +1,5 @@
 //! The receiver of a stream.
-ghost use Rattle.std.specs.Prelude.{◌≡◌};
+ghost use Rattle.std.specs.Prelude.{◌≡◌, Ok};
 ghost use Rattle.amo_core.specs.Receiver as table;
 ghost use Rattle.amo_core.specs.declared.act.Act.TheVariants as act;
 
@@ -106,21 +106,30 @@ impl Receiver {
     pub fn get(&mut self) -> Result<Message, GetRefusal>
         ensures row { table.row self.old act.Get ≡ silent self.new (get_reply result) }
     {
-        match mem::replace(&mut self.mode, ReceiverMode::Down) {
+        match self.mode {
+            ReceiverMode::Rcvd(_, _) => Ok(self.take_first()),
             ReceiverMode::Down => Err(GetRefusal::Down),
-            ReceiverMode::Rcvd(id, messages) => {
-                let (message, rest) = messages.split_first();
-                self.mode = match rest {
-                    Some(rest) => ReceiverMode::Rcvd(id, rest),
-                    None => ReceiverMode::Ack(id),
-                };
-                Ok(message)
-            }
-            other => {
-                self.mode = other;
-                Err(GetRefusal::Nothing)
-            }
+            _ => Err(GetRefusal::Nothing),
         }
+    }
+
+    /// Takes the first of the messages that are held.
+    // By itself, since the mode moves out and back: no other get makes room for a batch.
+    #[inline(never)]
+    fn take_first(&mut self) -> Message
+        requires { table.kind self.old.mode ≡ Mode.Rcvd }
+        ensures { table.row self.old act.Get ≡ silent self.new (get_reply (Ok result)) }
+    {
+        let ReceiverMode::Rcvd(id, messages) = mem::replace(&mut self.mode, ReceiverMode::Down)
+        else {
+            unreachable!()
+        };
+        let (message, rest) = messages.split_first();
+        self.mode = match rest {
+            Some(rest) => ReceiverMode::Rcvd(id, rest),
+            None => ReceiverMode::Ack(id),
+        };
+        message
     }
 
     /// The kind of the mode.

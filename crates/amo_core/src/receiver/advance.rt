@@ -9,7 +9,7 @@ ghost use Rattle.amo_core.specs.declared.act.Act.TheVariants as act;
 use crate::outcome::write_emission;
 use crate::receiver::{Receiver, ReceiverMode};
 use crate::{Act, Advanced, Messages, Outcome, Reply};
-use amo_packet::{MAX_PACKET, Message, OwnedBody};
+use amo_packet::{Batch, MAX_PACKET, Message, OwnedBody};
 
 impl Receiver {
     /// Makes an act, exactly as its row says. What it emits is written at the front of the buffer.
@@ -65,9 +65,7 @@ impl Receiver {
             OwnedBody::Send(id, message) => {
                 self.advance_on_send(id, message);
             }
-            OwnedBody::Batch(id, batch) => {
-                self.advance_on_batch(id, Messages::of(batch.into_messages()));
-            }
+            OwnedBody::Batch(id, batch) => self.advance_on_messages(id, batch),
             OwnedBody::Cleanup(id) => self.advance_on_cleanup(id),
             OwnedBody::Accept(_, _) | OwnedBody::Ack(_, _) => {}
         }
@@ -89,7 +87,6 @@ impl Receiver {
     }
 
     /// Holds a message that was sent under the identifier accepted, and says whether it was.
-    // Beside the batch, or each send that is dropped makes room for a batch first.
     #[inline(always)]
     pub(crate) fn advance_on_send(&mut self, id: u64, message: Message) -> bool
         ensures state { self.new ≡ (table.send self.old self.old.mode id message).state }
@@ -98,9 +95,27 @@ impl Receiver {
     {
         let accepted = self.is_accepting(id);
         if accepted {
-            self.mode = ReceiverMode::Rcvd(id, Messages::from(message));
+            self.hold(id, message);
         }
         accepted
+    }
+
+    /// Holds a message that was sent under the identifier accepted.
+    // By itself, or each send that is dropped makes room for a batch first.
+    #[inline(never)]
+    fn hold(&mut self, id: u64, message: Message)
+        requires { is_accepting self.old.mode id ≡ true }
+        ensures { table.send self.old self.old.mode id message ≡ done self.new None }
+    {
+        self.mode = ReceiverMode::Rcvd(id, Messages::from(message));
+    }
+
+    /// Takes a batch. All that is copied for one stays here.
+    #[inline(never)]
+    fn advance_on_messages(&mut self, id: u64, batch: Batch)
+        ensures { self.new ≡ (table.batch self.old self.old.mode id batch).state }
+    {
+        self.advance_on_batch(id, Messages::of(batch.into_messages()));
     }
 
     /// Holds messages that were sent together under the identifier accepted, and says whether they were.
