@@ -55,6 +55,8 @@ impl KeptSide {
 
     /// Notes what the act will emit, unless the act would use up a word again. A packet that this side did not emit before
     /// gets the next place of the log, which has room for it then. Where it is refused nothing has changed.
+    // Inlined up to the world's calls, as all that an event passes through: what is noted does not travel through memory.
+    #[inline(always)]
     pub(crate) fn note(
         &mut self,
         alloc: Global,
@@ -83,6 +85,8 @@ impl KeptSide {
     }
 
     /// Makes the act, whose emission was noted.
+    // Inlined up to the world's calls: the act is not copied at each call between.
+    #[inline(always)]
     pub(crate) fn advance(&mut self, act: Act)
         ensures state { self.new.automaton ≡ (row self.old.automaton act).state }
         ensures index { self.new.index ≡ self.old.index }

@@ -66,6 +66,7 @@ impl KeptStream {
     }
 
     /// Notes what the act will emit, unless the act would use up a word again; see [`KeptSide::note`].
+    #[inline(always)]
     pub(crate) fn note(
         &mut self,
         alloc: Global,
@@ -85,6 +86,7 @@ impl KeptStream {
     }
 
     /// Makes the act of an event, whose emission was noted.
+    #[inline(always)]
     pub(crate) fn advance(&mut self, side: End, act: Act)
         ensures state { (side_of self.new side).automaton ≡ (row (side_of self.old side).automaton act).state }
         ensures index { (side_of self.new side).index ≡ (side_of self.old side).index }
