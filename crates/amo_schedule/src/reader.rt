@@ -43,6 +43,8 @@ fn read_put(fields: &[u8]) -> Option<LineText<'_>>
 }
 
 /// The get of which this is the field after the first.
+// Each kind of line that is frequent is read where it is asked for, so that it is not copied out of one result into another.
+#[inline(always)]
 fn read_get(field: &[u8]) -> Option<ScheduleLine>
     ensures { ReadsAs (codes "get" ++ 32 ∷ field.now) result }
 {
@@ -50,6 +52,7 @@ fn read_get(field: &[u8]) -> Option<ScheduleLine>
 }
 
 /// The ack of which this is the field after the first.
+#[inline(always)]
 fn read_ack(field: &[u8]) -> Option<ScheduleLine>
     ensures { ReadsAs (codes "ack" ++ 32 ∷ field.now) result }
 {
@@ -82,6 +85,7 @@ fn read_batch(fields: &[u8]) -> Option<ScheduleLine>
 }
 
 /// The delivery of which these are the fields after the first.
+#[inline(always)]
 fn read_deliver(fields: &[u8]) -> Option<ScheduleLine>
     ensures { ReadsAs (codes "deliver" ++ 32 ∷ fields.now) result }
 {
@@ -90,6 +94,7 @@ fn read_deliver(fields: &[u8]) -> Option<ScheduleLine>
 }
 
 /// The resending of which these are the fields after the first.
+#[inline(always)]
 fn read_resend(fields: &[u8]) -> Option<ScheduleLine>
     ensures { ReadsAs (codes "resend" ++ 32 ∷ fields.now) result }
 {
@@ -114,6 +119,7 @@ fn read_recover(fields: &[u8]) -> Option<ScheduleLine>
 }
 
 /// A line that is no put, as its text has it.
+#[inline(always)]
 fn other<'a>(line: Option<ScheduleLine>) -> Option<LineText<'a>>
     ensures { (text : List ℕ) → ReadsAs text line → Parses text result }
 {
