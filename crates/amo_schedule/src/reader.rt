@@ -3,6 +3,7 @@ ghost use Rattle.std.specs.Prelude.{◌≡◌, ◌≢◌, ◌<◌, ◌^◌, ℕ,
 ghost use Rattle.std.specs.Fmt.{decimal};
 ghost use Rattle.amo_object.specs.declared.step.End.{End};
 ghost use Rattle.amo_packet.specs.Stream.{IsStream};
+ghost use Rattle.amo_text.specs.Act.{act_field};
 ghost use Rattle.amo_text.specs.Side.{letter_of};
 ghost use Rattle.amo_schedule.specs.Schedule.{ReadsAs, Parses};
 
@@ -129,6 +130,24 @@ fn other<'a>(line: Option<ScheduleLine>) -> Option<LineText<'a>>
     }
 }
 
+/// The line with this name, which is no put, of which these are the fields after the first.
+fn read_other(name: ActName, fields: &[u8]) -> Option<ScheduleLine>
+    requires { name ≢ ActName.Put }
+    ensures { ReadsAs (act_field name ++ 32 ∷ fields.now) result }
+{
+    match name {
+        ActName::Put => unreachable!(),
+        ActName::Get => read_get(fields),
+        ActName::Ack => read_ack(fields),
+        ActName::Start => read_start(fields),
+        ActName::Batch => read_batch(fields),
+        ActName::Resend => read_resend(fields),
+        ActName::Deliver => read_deliver(fields),
+        ActName::Crash => read_crash(fields),
+        ActName::Recover => read_recover(fields),
+    }
+}
+
 /// The line of which this is the text, without its end.
 fn parse(text: &[u8]) -> Option<LineText<'_>>
     ensures { Parses text.now result }
@@ -136,14 +155,7 @@ fn parse(text: &[u8]) -> Option<LineText<'_>>
     let (name, fields) = next_field(text)?;
     match read_act_name(name)? {
         ActName::Put => read_put(fields),
-        ActName::Get => other(read_get(fields)),
-        ActName::Ack => other(read_ack(fields)),
-        ActName::Start => other(read_start(fields)),
-        ActName::Batch => other(read_batch(fields)),
-        ActName::Resend => other(read_resend(fields)),
-        ActName::Deliver => other(read_deliver(fields)),
-        ActName::Crash => other(read_crash(fields)),
-        ActName::Recover => other(read_recover(fields)),
+        act => other(read_other(act, fields)),
     }
 }
 
