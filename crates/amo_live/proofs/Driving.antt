@@ -1,5 +1,5 @@
 -- What a call of a pump did at a stream.
-use Rattle.std.proofs.Common.{◌≡◌, ℕ, Bool, true, false, List, Option, Some, None, Result, Ok, Err, IfOk, IfErr, OnErr, slice_get, sym, ap, ◌∙◌, subst}
+use Rattle.std.proofs.Common.{◌≡◌, ℕ, Bool, true, false, List, Option, Some, None, Result, Ok, Err, IfNone, IfOk, IfErr, OnErr, inl, inr, slice_get, sym, ap, ◌∙◌, subst}
 use Rattle.std.proofs.lemmas.Option.{same_Some}
 use Rattle.amo_object.specs.declared.step.End.{End}
 use Rattle.amo_object.specs.declared.step.End.TheVariants.{Sender, Receiver}
@@ -28,7 +28,7 @@ use Rattle.amo_host.proofs.StationLemmas.{for_charge, mode_at_place}
 use Rattle.amo_journal.specs.declared.version.Version.{Version}
 use Rattle.amo_journal.specs.Journal.{HasAct}
 use Rattle.amo_live.specs.declared.given_word.GivenWord.{GivenWord}
-use Rattle.amo_live.specs.Host.{Drives, done_of, given, word_for}
+use Rattle.amo_live.specs.Host.{Drives, MayNotBegin, done_of, given, word_for}
 
 abbrev to_come : GivenWord → ℕ → Option ℕ
 to_come words = given words.word
@@ -64,9 +64,9 @@ module _ (first s t : Station GivenWord) (v w : PassState) (old new : List ℕ) 
   start_one word (Ok (turned.Did side named (kind.Deliver drawn) done)) plain gave starts none = absurd starts
   start_one word (Ok (turned.Did side named kind.Crash done)) plain gave starts none = absurd starts
   start_one word (Ok (turned.Did side named kind.Recover done)) plain gave starts none = absurd starts
-  start_one word (Err pump_fault.Busy) plain gave starts none = none.pass
+  start_one word (Err pump_fault.Busy) plain gave starts none = tt
   start_one word (Err pump_fault.NoMemory) plain gave starts none = tt
-  start_one word (Err pump_fault.NoWord) plain gave starts none = none.pass
+  start_one word (Err pump_fault.NoWord) plain gave starts none = tt
 
   pub start_together : (word : ℕ) (r : Result Turned PumpFault) → s.batches ≡ true → s.words.word ≡ Some word → IfOk r (StartsAt to_come stream now s t v w old new) → OnErr r (NoEvent s t v w old new)
       → IfOk (done_of r) (Drives first v w old new stream (act.Batch word))
@@ -80,9 +80,19 @@ module _ (first s t : Station GivenWord) (v w : PassState) (old new : List ℕ) 
   start_together word (Ok (turned.Did side named (kind.Deliver drawn) done)) plain gave starts none = absurd starts
   start_together word (Ok (turned.Did side named kind.Crash done)) plain gave starts none = absurd starts
   start_together word (Ok (turned.Did side named kind.Recover done)) plain gave starts none = absurd starts
-  start_together word (Err pump_fault.Busy) plain gave starts none = none.pass
+  start_together word (Err pump_fault.Busy) plain gave starts none = tt
   start_together word (Err pump_fault.NoMemory) plain gave starts none = tt
-  start_together word (Err pump_fault.NoWord) plain gave starts none = none.pass
+  start_together word (Err pump_fault.NoWord) plain gave starts none = tt
+
+  -- a start that begins nothing could not
+  pub begins_none : (r : Result Turned PumpFault) → IfOk r (StartsAt to_come stream now s t v w old new) → IfOk (done_of r) (λ done. IfNone done (MayNotBegin first.host stream))
+  begins_none (Ok turned.Idle) (place, at, not, nothing) = subst (λ (h : Host). MayNotBegin h stream) own (inr (place, at, not))
+  begins_none (Ok turned.Stranger) (absent, nothing) = subst (λ (h : Host). MayNotBegin h stream) own (inl absent)
+  begins_none (Ok (turned.Unread fault)) starts = absurd starts
+  begins_none (Ok (turned.Did side named k done)) starts = tt
+  begins_none (Err pump_fault.Busy) starts = tt
+  begins_none (Err pump_fault.NoMemory) starts = tt
+  begins_none (Err pump_fault.NoWord) starts = tt
 
   -- the packet of the mode again
   pub resend_again : (r : Result Turned PumpFault) → IfOk r (ResendsAt stream now s t v w old new) → IfErr r (λ fault. Nothing s t v w old new × (fault ≡ pump_fault.Busy)) → IfOk (done_of r) (Drives first v w old new stream act.Resend)
@@ -95,9 +105,9 @@ module _ (first s t : Station GivenWord) (v w : PassState) (old new : List ℕ) 
   resend_again (Ok (turned.Did side named (kind.Deliver drawn) done)) resends busy = absurd resends
   resend_again (Ok (turned.Did side named kind.Crash done)) resends busy = absurd resends
   resend_again (Ok (turned.Did side named kind.Recover done)) resends busy = absurd resends
-  resend_again (Err pump_fault.Busy) resends busy = busy.0.1
+  resend_again (Err pump_fault.Busy) resends busy = tt
   resend_again (Err pump_fault.NoMemory) resends busy = tt
-  resend_again (Err pump_fault.NoWord) resends busy = busy.0.1
+  resend_again (Err pump_fault.NoWord) resends busy = tt
 
   -- a packet is delivered with the word that was given for it
   word_of : (body : OwnedBody) (rest : GivenWord) (word drawn : ℕ) → s.words.word ≡ Some word → word ≡ word_for body word → DrewFor to_come body s.words rest drawn → drawn ≡ word
@@ -121,9 +131,9 @@ module _ (first s t : Station GivenWord) (v w : PassState) (old new : List ℕ) 
       (subst (λ (k : ℕ). Happened s t v w old new place now (act.Deliver p k) false side named done) (word_of p.body t.words word drawn gave own drew) h)
   deliver_one p word (Ok (turned.Did side named kind.Crash done)) of gave own delivers none = absurd delivers
   deliver_one p word (Ok (turned.Did side named kind.Recover done)) of gave own delivers none = absurd delivers
-  deliver_one p word (Err pump_fault.Busy) of gave own delivers none = none.pass
+  deliver_one p word (Err pump_fault.Busy) of gave own delivers none = tt
   deliver_one p word (Err pump_fault.NoMemory) of gave own delivers none = tt
-  deliver_one p word (Err pump_fault.NoWord) of gave own delivers none = none.pass
+  deliver_one p word (Err pump_fault.NoWord) of gave own delivers none = tt
 
   -- a crash and a recovery
   silently_at : (place : ℕ) (a : Act) (side : End) (named : ℕ) (done : drive.Done) (before after buffer : List ℕ) → named ≡ stream → done.length ≡ None → Happened s t v w before after place now a false side named done
@@ -141,9 +151,9 @@ module _ (first s t : Station GivenWord) (v w : PassState) (old new : List ℕ) 
   goes_down_or_up a k buffer (Ok turned.Stranger) (absent, same, still) busy = still
   goes_down_or_up a k buffer (Ok (turned.Unread fault)) goes busy = absurd goes
   goes_down_or_up a k buffer (Ok (turned.Did side named j done)) (place, at, here, kind_is, silent, words, (before, after, h)) busy = silently_at place a side named done before after buffer here silent h
-  goes_down_or_up a k buffer (Err pump_fault.Busy) goes busy = busy.1
+  goes_down_or_up a k buffer (Err pump_fault.Busy) goes busy = tt
   goes_down_or_up a k buffer (Err pump_fault.NoMemory) goes busy = tt
-  goes_down_or_up a k buffer (Err pump_fault.NoWord) goes busy = busy.1
+  goes_down_or_up a k buffer (Err pump_fault.NoWord) goes busy = tt
 
 -- an act for a stream is a packet's of that stream
 pub packet_stream : (version : Version) (side : End) (stream : ℕ) (p : OwnedPacket) (word : ℕ) → HasAct version side stream (act.Deliver p word) → p.stream ≡ stream

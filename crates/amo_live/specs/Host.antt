@@ -1,5 +1,6 @@
 -- A live host: one side of its streams, a link, and a journal that is ahead of all that leaves.
-use Rattle.std.specs.Prelude.{◌≡◌, ℕ, zero, suc, min, ◌<◌, ◌≤◌, ◌⊎◌, Bool, true, false, Option, Some, None, Result, Ok, Err, List, [], ◌∷◌, ◌++◌, length}
+use Rattle.std.specs.Prelude.{◌≡◌, ◌≢◌, ℕ, zero, suc, min, ◌<◌, ◌≤◌, ◌⊎◌, Bool, true, false, Option, Some, None, Result, Ok, Err, List, [], ◌∷◌, ◌++◌, length, slice_get}
+use Rattle.std.specs.List.{Contains}
 use Rattle.amo_object.specs.declared.step.End.{End}
 use Rattle.amo_object.specs.declared.step.End.TheVariants.{Sender}
 use Rattle.amo_packet.specs.declared.packet.OwnedPacket.{OwnedPacket}
@@ -20,7 +21,8 @@ use Rattle.amo_book.specs.Book.{BookState}
 use Rattle.amo_book.specs.Charge.{ChargeState}
 use Rattle.amo_book.specs.Drive.{Driven}
 use Rattle.amo_book.specs.declared.drive.Done as drive
-use Rattle.amo_host.specs.AtStream.{HasMode}
+use Rattle.amo_host.specs.AtStream.{HasMode, MayBegin}
+use Rattle.amo_host.specs.Host.{Host, streams_of}
 use Rattle.amo_host.specs.Station.{BelongTogether, IsStation, Station}
 use Rattle.amo_host.specs.declared.fault.PumpFault.{PumpFault}
 use Rattle.amo_host.specs.declared.fault.PumpFault.TheVariants as pump_fault
@@ -144,12 +146,26 @@ Drives s v w old new stream a None = w ≡ v
 Drives s v w old new stream a (Some done) =
     (c : ChargeState) × (c.side ≡ s.host.side) × (c.stream ≡ stream) × Driven v w c (record c { mode = done.mode }) a old new done × HasMode s.host stream c.mode
 
--- what is made of the answer of a pump: where it had nothing to do, or could not do it now, there was no event
+-- what is made of the answer of a pump: where it had nothing to do there was no event, and where it could not do it the host cannot go on
 abbrev pub done_of : Result Turned PumpFault → Result (Option drive.Done) LiveFault
 done_of (Ok (turned.Did side stream kind done)) = Ok (Some done)
 done_of (Ok _) = Ok None
 done_of (Err pump_fault.NoMemory) = Err live_fault.NoMemory
-done_of (Err _) = Ok None
+done_of (Err _) = Err live_fault.Busy
+
+-- a handshake begins by this act
+abbrev pub is_start : Act → Bool
+is_start (act.Start word) = true
+is_start (act.Batch word) = true
+is_start _ = false
+
+-- none may begin on this stream: a pump has no such charge, its sender is not at rest, or no permit is free
+abbrev pub MayNotBegin : Host → ℕ → Type 0
+MayNotBegin h stream = (¬ (Contains (streams_of h.modes) stream)) ⊎ ((place : ℕ) × (slice_get (streams_of h.modes) place ≡ Some stream) × (¬ (MayBegin h place)))
+
+-- nor on one of a host, which has so many, and may receive
+abbrev pub MayNotStart : {L S : Type 0} → HostState L S → ℕ → Type 0
+MayNotStart h stream = (h.side ≢ Sender) ⊎ ((¬ ((1 ≤ stream) × (stream ≤ h.streams))) ⊎ MayNotBegin h.pump.host stream)
 
 -- a host of this side of so many streams: no event was made, nothing is to leave, and a handshake may be open on as many of them as a window has permits
 pub record IsOpened {L S : Type 0} (side : End) (streams : ℕ) (link : L) (journal : JournalState S) (h : HostState L S) : Type 0 where

@@ -1,5 +1,5 @@
 //! The acts of a host: each is an event, then its line in the journal, then a packet that is to leave.
-ghost use Rattle.std.specs.Prelude.{◌≡◌, ◌∷◌, Contains, IfOk, IfSome, OnOk, OnErr, Some};
+ghost use Rattle.std.specs.Prelude.{◌≡◌, ◌∷◌, Contains, IfNone, IfOk, IfSome, OnOk, OnErr, Some, true};
 ghost use Rattle.amo_packet.specs.Packet.{body_of};
 ghost use Rattle.amo_core.specs.declared.act.Act.TheVariants as act;
 ghost use Rattle.amo_core.specs.declared.act.Act.TheVariants.{Resend};
@@ -10,7 +10,7 @@ ghost use Rattle.amo_host.specs.AtStream.{hastened};
 ghost use Rattle.amo_host.specs.Host.{streams_of};
 ghost use Rattle.amo_host.specs.Station.{BelongTogether, IsStation};
 ghost use Rattle.amo_live.specs.Due.{Resent, repeated_if};
-ghost use Rattle.amo_live.specs.Host.{Delivered, Did, Drives, IsBegun, IsNoted, Looks, Stays, Suits, Tried, comes_back, done, done_of, word_for};
+ghost use Rattle.amo_live.specs.Host.{Delivered, Did, Drives, IsBegun, IsNoted, Looks, MayNotBegin, MayNotStart, Stays, Suits, Tried, comes_back, done, done_of, is_start, word_for};
 
 use crate::noting::note_answer;
 use crate::{GivenWord, Host, LiveFault};
@@ -32,6 +32,7 @@ impl<L: Link, S: Sink> Host<L, S> {
     pub fn start(&mut self, stream: u32, word: u64, now: u64) -> Result<Option<Mode>, LiveFault>
         requires { IsNoted S.written self.old }
         ensures did { IfOk result (Did self.old self.new stream (act.Start word)) }
+        ensures waits { IfOk result (λ mode. IfNone mode (MayNotStart self.old stream)) }
         ensures noted { OnOk result (IsNoted S.written self.new) }
         ensures begun { OnErr result (IsBegun S.written self.new) }
         ensures stays { Stays self.old self.new }
@@ -54,6 +55,7 @@ impl<L: Link, S: Sink> Host<L, S> {
         requires noted { IsNoted S.written self.old }
         requires batches { HasBatches self.old.journal.version }
         ensures did { IfOk result (Did self.old self.new stream (act.Batch word)) }
+        ensures waits { IfOk result (λ mode. IfNone mode (MayNotStart self.old stream)) }
         ensures noted { OnOk result (IsNoted S.written self.new) }
         ensures begun { OnErr result (IsBegun S.written self.new) }
         ensures stays { Stays self.old self.new }
@@ -241,6 +243,7 @@ impl<L: Link, S: Sink> Host<L, S> {
         requires suits { Suits self.old.journal.version self.old.side stream act }
         ensures did { IfOk result (Did self.old self.new stream act) }
         ensures resent { act ≡ Resend → IfOk result (λ mode. IfSome mode (Resent now self.old.pump self.new.pump stream)) }
+        ensures waits { is_start act ≡ true → IfOk result (λ mode. IfNone mode (MayNotStart self.old stream)) }
         ensures noted { OnOk result (IsNoted S.written self.new) }
         ensures begun { OnErr result (IsBegun S.written self.new) }
         ensures stays { Stays self.old self.new }
@@ -323,6 +326,7 @@ fn drive(
     requires together { BelongTogether book.now pass.old pump.old × IsStation pump.old }
     requires suits { Suits Two pump.old.host.side stream act.now }
     ensures driven { IfOk result (Drives pump.old pass.old pass.new out.old out.new stream act.now) }
+    ensures waits { is_start act.now ≡ true → IfOk result (λ done. IfNone done (MayNotBegin pump.old.host stream)) }
     ensures resent { act.now ≡ Resend → IfOk result (λ done. IfSome done (λ d. Resent now pump.old pump.new stream d.mode)) }
     ensures failed { OnErr result (pass.new ≡ pass.old) }
     ensures side { pump.new.host.side ≡ pump.old.host.side }
@@ -368,6 +372,6 @@ fn done_of(turned: Result<Turned, PumpFault>) -> Result<Option<Done>, LiveFault>
         Ok(Turned::Did(_, _, _, done)) => Ok(Some(done)),
         Ok(Turned::Idle | Turned::Unread(_) | Turned::Stranger) => Ok(None),
         Err(PumpFault::NoMemory) => Err(LiveFault::NoMemory),
-        Err(PumpFault::Busy | PumpFault::NoWord) => Ok(None),
+        Err(PumpFault::Busy | PumpFault::NoWord) => Err(LiveFault::Busy),
     }
 }

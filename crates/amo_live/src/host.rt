@@ -1,5 +1,5 @@
 //! A live host: how it opens, hears and sends.
-ghost use Rattle.std.specs.Prelude.{◌≡◌, ◌+◌, ◌<◌, ◌≤◌, [], IfOk, IfSome, IsTrue, ◌↔◌, OnOk, OnErr, length, min, true};
+ghost use Rattle.std.specs.Prelude.{◌≡◌, ◌+◌, ◌<◌, ◌≤◌, [], IfNone, IfOk, IfSome, IsTrue, ◌↔◌, OnOk, OnErr, length, min, true};
 ghost use Rattle.amo_packet.specs.Packet.{body_of, packet_of};
 ghost use Rattle.amo_packet.specs.Grammar.{CanBeWritten, Spells};
 ghost use Rattle.amo_packet.specs.Stream.{IsStream};
@@ -204,7 +204,8 @@ impl<L: Link, S: Sink> Host<L, S> {
 
     /// The place in the outbox of what this stream's side emitted of late.
     pub(crate) fn place_of(&self, stream: u32) -> Option<usize>
-        ensures { IfSome result (λ place. (place < length self.now.outbox.recent) × IsStream stream) }
+        ensures within { IfSome result (λ place. (place < length self.now.outbox.recent) × IsStream stream) }
+        ensures none { IfNone result (¬ ((1 ≤ stream) × (stream ≤ self.now.streams))) }
     {
         if 1 <= stream && stream <= self.streams {
             Some(stream as usize - 1)

@@ -1,4 +1,4 @@
-use Rattle.std.proofs.Common.{Option, Result, IfOk, IfSome, refl, sym, ap, subst}
+use Rattle.std.proofs.Common.{Option, Result, IfNone, IfOk, IfSome, refl, sym, ap, subst}
 use Rattle.amo_packet.specs.declared.packet.OwnedPacket.{OwnedPacket}
 use Rattle.amo_core.specs.declared.act.Act.{Act}
 use Rattle.amo_core.specs.declared.act.Act.TheVariants as act
@@ -10,8 +10,8 @@ use Rattle.amo_journal.specs.declared.version.Version.TheVariants.{Two}
 use Rattle.amo_live.specs.declared.fault.LiveFault.{LiveFault}
 use Rattle.amo_live.specs.declared.given_word.GivenWord.{GivenWord}
 use Rattle.amo_live.specs.Due.{Resent}
-use Rattle.amo_live.specs.Host.{Drives, Suits, given}
-use Rattle.amo_live.proofs.Driving.{deliver_one, goes_down_or_up, packet_stream, resend_again, start_one, start_together}
+use Rattle.amo_live.specs.Host.{Drives, MayNotBegin, Suits, given}
+use Rattle.amo_live.proofs.Driving.{begins_none, deliver_one, goes_down_or_up, packet_stream, resend_again, start_one, start_together}
 use Rattle.amo_live.proofs.Dues.{resent_by}
 use Rattle.amo_live.proofs.acts.drive.Goals as goal
 
@@ -68,3 +68,14 @@ returns-in-Resend-clause-resent c =
     let pump = c.args.pump.now in let v = c.args.pass.now in let w = c.resend.new.pass in let out = c.args.out.now in let new = c.resend.new.out in
     λ same. subst (λ (r : Result (Option Done) LiveFault). IfOk r (λ done. IfSome done (λ d. Resent c.args.now pump c.resend.new.self c.args.stream d.mode))) (sym c.done_of-in-Resend.ensures)
     (resent_by pump c.resend.new.self v w out new c.args.stream c.args.now c.requires.together.1 c.resend.result c.resend.ensures.ok)
+
+pub returns-in-Start-clause-waits : goal.returns-in-Start-clause-waits
+returns-in-Start-clause-waits c = λ begins.
+    subst (λ (r : Result (Option Done) LiveFault). IfOk r (λ done. IfNone done (MayNotBegin c.args.pump.now.host c.args.stream))) (sym c.done_of.ensures)
+    (begins_none c.args.pump.now c.give.new.pump c.start.new.self c.args.pass.now c.start.new.pass c.args.out.now c.start.new.out c.args.stream c.args.now c.give.ensures.station (ap (λ (x : Station GivenWord). x.host) c.give.ensures.given) c.start.result c.start.ensures.ok)
+
+pub returns-in-Batch-clause-waits : goal.returns-in-Batch-clause-waits
+returns-in-Batch-clause-waits c = λ begins.
+    subst (λ (r : Result (Option Done) LiveFault). IfOk r (λ done. IfNone done (MayNotBegin c.args.pump.now.host c.args.stream))) (sym c.done_of-in-Batch.ensures)
+    (begins_none c.args.pump.now c.give-in-Batch.new.pump c.start-in-Batch.new.self c.args.pass.now c.start-in-Batch.new.pass c.args.out.now c.start-in-Batch.new.out c.args.stream c.args.now c.give-in-Batch.ensures.station
+    (ap (λ (x : Station GivenWord). x.host) c.give-in-Batch.ensures.given) c.start-in-Batch.result c.start-in-Batch.ensures.ok)

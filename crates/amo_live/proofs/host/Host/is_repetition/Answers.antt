@@ -23,7 +23,7 @@ pub invariant_of-self-in-Some-foresee-4 : goal.invariant_of-self-in-Some-foresee
 invariant_of-self-in-Some-foresee-4 g c =
     let h : HostState g.row.L.Denot g.row.S.Denot = record { side = c.self.inside.side; streams = c.self.inside.streams; book = c.self.inside.book; pass = c.self.inside.pass; pump = c.self.inside.pump; link = c.self.inside.link; outbox = c.self.inside.outbox; journal = c.self.inside.journal } in
     let told = rw c.in-Ok-Some-Keeps-Some.field-0-is at c.in-Ok-Some-Keeps-Some.ensures.foretold in
-    let within : c.in-Some.place < length h.outbox.recent = subst (λ (t : HostState g.row.L.Denot g.row.S.Denot). c.in-Some.place < length t.outbox.recent) (sym c.self.view_is) c.in-Some.ensures.0 in
+    let within : c.in-Some.place < length h.outbox.recent = subst (λ (t : HostState g.row.L.Denot g.row.S.Denot). c.in-Some.place < length t.outbox.recent) (sym c.self.view_is) c.in-Some.ensures.within.0 in
     host_repeated h c.repeat.new.self c.foresee.new.pass c.in-Some.place (take c.in-Ok-Some-Keeps-Some.count c.foresee.new.out) c.in-Ok.known c.self.invariant told.4.same told.4.extends within
     c.in-Ok.ensures.again c.in-Ok.ensures.known c.in-Ok.ensures.other c.repeat.ensures.recent
 
@@ -45,7 +45,7 @@ returns-in-Ok-clause-looks g c =
     let h : HostState g.row.L.Denot g.row.S.Denot = record { side = c.self.inside.side; streams = c.self.inside.streams; book = c.self.inside.book; pass = c.self.inside.pass; pump = c.self.inside.pump; link = c.self.inside.link; outbox = c.self.inside.outbox; journal = c.self.inside.journal } in
     let told = rw c.in-Ok-Some-Keeps-Some.field-0-is at c.in-Ok-Some-Keeps-Some.ensures.foretold in
     let foreseen : Foresees h.pass c.foresee.new.pass told.1 c.args.act.now _ c.foresee.new.out (Keeps (Some c.in-Ok-Some-Keeps-Some.count)) = rw c.in-Ok-Some-Keeps-Some.field-0-0-0-is at (rw c.in-Ok-Some-Keeps-Some.field-0-0-is at told.4) in
-    let within : c.in-Some.place < length h.outbox.recent = subst (λ (t : HostState g.row.L.Denot g.row.S.Denot). c.in-Some.place < length t.outbox.recent) (sym c.self.view_is) c.in-Some.ensures.0 in
+    let within : c.in-Some.place < length h.outbox.recent = subst (λ (t : HostState g.row.L.Denot g.row.S.Denot). c.in-Some.place < length t.outbox.recent) (sym c.self.view_is) c.in-Some.ensures.within.0 in
     rw (← c.self.view_is)
     (looks_some h (record h { pass = c.foresee.new.pass; outbox = c.repeat.new.self }) c.args.stream told.1 c.args.act.now _ c.foresee.new.out c.in-Ok-Some-Keeps-Some.count c.in-Some.place c.in-Ok.known (own_side h c.self.invariant told.0 told.1 told.2) told.3 foreseen
     c.self.invariant.emitted within c.in-Ok.ensures.again c.in-Ok.ensures.known c.in-Ok.ensures.other c.repeat.ensures.recent)

@@ -1,7 +1,7 @@
-use Rattle.std.proofs.Common.{◌<◌, length, sym, subst}
+use Rattle.std.proofs.Common.{◌<◌, length, inr, sym, subst}
 use Rattle.amo_book.specs.Pass.{PassState, mine}
 use Rattle.amo_live.specs.Due.{Resent}
-use Rattle.amo_live.specs.Host.{HostState, IsNoted}
+use Rattle.amo_live.specs.Host.{HostState, IsNoted, MayNotStart}
 use Rattle.amo_live.specs.Noted.{Holds}
 use Rattle.amo_live.proofs.Onwards.{begins_whole}
 use Rattle.amo_live.proofs.Performing.{grows, happens, host_driven, host_pushed, host_unpushed}
@@ -40,7 +40,7 @@ returns-in_default-push-clause-begun g c =
 pub invariant_of-self-2 : goal.invariant_of-self-2
 invariant_of-self-2 g c =
     let h : HostState g.row.L.Denot g.row.S.Denot = record { side = c.self.inside.side; streams = c.self.inside.streams; book = c.self.inside.book; pass = c.self.inside.pass; pump = c.self.inside.pump; link = c.self.inside.link; outbox = c.self.inside.outbox; journal = c.self.inside.journal } in
-    let within : c.in-Some.place < length h.outbox.recent = subst (λ (t : HostState g.row.L.Denot g.row.S.Denot). c.in-Some.place < length t.outbox.recent) (sym c.self.view_is) c.in-Some.ensures.0 in
+    let within : c.in-Some.place < length h.outbox.recent = subst (λ (t : HostState g.row.L.Denot g.row.S.Denot). c.in-Some.place < length t.outbox.recent) (sym c.self.view_is) c.in-Some.ensures.within.0 in
     host_pushed h c.drive.new.pump c.drive.new.pass c.self.invariant c.drive.ensures.side c.drive.ensures.station c.self.inside.room c.drive.new.out c.args.stream c.args.act c.in-Ok-Some.done (rw c.in-Ok-Some.field-0-is at c.in-Ok-Some.ensures.driven) c.push.new.self c.note_answer.new.journal c.in-Some.place c.is_answer-is_answer.result within c.in-Ok-push.ensures.leaving c.in-Ok-push.ensures.recent
 
 pub returns-clause-did : goal.returns-clause-did
@@ -58,3 +58,7 @@ returns-clause-noted g c =
 pub returns-clause-resent : goal.returns-clause-resent
 returns-clause-resent g c = λ same.
     subst (λ (t : HostState g.row.L.Denot g.row.S.Denot). Resent c.args.now t.pump c.drive.new.pump c.args.stream c.in-Ok-Some.done.mode) c.self.view_is (rw c.in-Ok-Some.field-0-is at (c.in-Ok-Some.ensures.resent same))
+
+pub returns-in-Ok-None-clause-waits : goal.returns-in-Ok-None-clause-waits
+returns-in-Ok-None-clause-waits g c = λ begins.
+    subst (λ (t : HostState g.row.L.Denot g.row.S.Denot). MayNotStart t c.args.stream) c.self.view_is (inr (inr (rw c.in-Ok-None.field-0-is at (c.in-Ok-None.ensures.waits begins))))
