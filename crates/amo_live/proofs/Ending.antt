@@ -1,5 +1,5 @@
 -- An ack that ends a handshake.
-use Rattle.std.specs.Prelude.{◌==◌, if◌then◌else◌}
+use Rattle.std.specs.Prelude.{◌==◌, ◌&&◌, if◌then◌else◌, Option, Some, None}
 use Rattle.std.proofs.Common.{◌≡◌, ℕ, Bool, true, false, [], ◌∷◌, List, refl, sym, ap, ◌∙◌, subst}
 use Rattle.std.proofs.lemmas.Bool.{eq-eqb, eqb-true}
 use Rattle.amo_object.specs.declared.step.End.{End}
@@ -25,7 +25,8 @@ use Rattle.amo_world.specs.Stream.{Stream, after, automaton_of}
 use Rattle.amo_book.specs.Pass.{automaton_after, event}
 use Rattle.amo_host.specs.AtStream.{HasMode}
 use Rattle.amo_live.specs.Host.{HostState, Happens}
-use Rattle.amo_live.specs.Shown.{EndsHandshake}
+use Rattle.amo_live.specs.Service.{begins_to_send}
+use Rattle.amo_live.specs.Shown.{BeginsToSend, EndsHandshake}
 
 -- only a sender is quiet
 receiver_mode_is : (m : ReceiverMode) → receiver.kind m ≡ mode.Quiet → ⊥
@@ -108,3 +109,53 @@ pub ends_handshake : {L S : Type 0} (h g : HostState L S) (stream : ℕ) (p : Ow
     → EndsHandshake g.pass.seen (event h.pass.number h.side stream (act.Deliver p word) Done) p.body
 ends_handshake h g stream p word known happens has quiet =
     at_side h g h.side stream p word known (quiet_side h.side (stream_after stream g.pass.seen) (sym happens.mode_is ∙ quiet)) happens has quiet
+
+-- only a sender sends
+receiver_sends : (m : ReceiverMode) → receiver.kind m ≡ mode.Send → ⊥
+receiver_sends receiver_mode.Idle is = cc
+receiver_sends (receiver_mode.Accept jd id) is = cc
+receiver_sends (receiver_mode.Rcvd id b) is = cc
+receiver_sends (receiver_mode.Ack id) is = cc
+receiver_sends receiver_mode.Down is = cc
+
+sending_side : (side : End) (s : Stream) → mode_of (automaton_of s side) ≡ mode.Send → side ≡ Sender
+sending_side Sender s is = refl
+sending_side Receiver s is = absurd (receiver_sends s.receiver.state.mode is)
+
+-- what happened at a side, at that side under another name
+begun_at : {L S : Type 0} (h g : HostState L S) (side : End) (stream : ℕ) (p : OwnedPacket) (word : ℕ) (known : Mode) → side ≡ Sender → Happens h g side stream (act.Deliver p word) known
+    → HasMode h.pump.host stream mode.NeedId → known ≡ mode.Send → BeginsToSend g.pass.seen (event h.pass.number side stream (act.Deliver p word) Done)
+begun_at h g side stream p word known is happens has sending =
+    let here : Happens h g Sender stream (act.Deliver p word) known = subst (λ (s : End). Happens h g s stream (act.Deliver p word) known) is happens in
+    let e = event h.pass.number Sender stream (act.Deliver p word) Done in
+    let earlier = here.grown.earlier in
+    let after : mode_of (automaton_after Sender stream (e ∷ earlier)) ≡ mode.Send =
+    subst (λ (seen : List Event). mode_of (automaton_after Sender stream seen) ≡ mode.Send) here.grown.seen (sym here.mode_is ∙ sending) in
+    subst (λ (s : End). BeginsToSend g.pass.seen (event h.pass.number s stream (act.Deliver p word) Done)) (sym is)
+    (subst (λ (seen : List Event). BeginsToSend seen e) (sym here.grown.seen) (record { past = earlier; stands = ([], refl); asked = here.found mode.NeedId refl has; sends = after }))
+
+-- so a delivery that left sending what had asked for an identifier began to send
+pub sending_begins : {L S : Type 0} (h g : HostState L S) (stream : ℕ) (p : OwnedPacket) (word : ℕ) (known : Mode) → Happens h g h.side stream (act.Deliver p word) known → HasMode h.pump.host stream mode.NeedId → known ≡ mode.Send
+    → BeginsToSend g.pass.seen (event h.pass.number h.side stream (act.Deliver p word) Done)
+sending_begins h g stream p word known happens has sending =
+    begun_at h g h.side stream p word known (sending_side h.side (stream_after stream g.pass.seen) (sym happens.mode_is ∙ sending)) happens has sending
+
+-- it did where it is said so
+pub said_to_send : (doubted : Bool) (before : Option Mode) (after : Mode) → doubted && begins_to_send before after ≡ true → (before ≡ Some mode.NeedId) × (after ≡ mode.Send)
+said_to_send false before after said = absurd (cc)
+said_to_send true None after said = absurd (cc)
+said_to_send true (Some mode.Quiet) after said = absurd (cc)
+said_to_send true (Some mode.Send) after said = absurd (cc)
+said_to_send true (Some mode.Idle) after said = absurd (cc)
+said_to_send true (Some mode.Accept) after said = absurd (cc)
+said_to_send true (Some mode.Rcvd) after said = absurd (cc)
+said_to_send true (Some mode.Ack) after said = absurd (cc)
+said_to_send true (Some mode.Down) after said = absurd (cc)
+said_to_send true (Some mode.NeedId) mode.Quiet said = absurd (cc)
+said_to_send true (Some mode.NeedId) mode.NeedId said = absurd (cc)
+said_to_send true (Some mode.NeedId) mode.Send said = (refl, refl)
+said_to_send true (Some mode.NeedId) mode.Idle said = absurd (cc)
+said_to_send true (Some mode.NeedId) mode.Accept said = absurd (cc)
+said_to_send true (Some mode.NeedId) mode.Rcvd said = absurd (cc)
+said_to_send true (Some mode.NeedId) mode.Ack said = absurd (cc)
+said_to_send true (Some mode.NeedId) mode.Down said = absurd (cc)

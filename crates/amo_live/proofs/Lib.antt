@@ -19,3 +19,4 @@ pub mod Putting
 pub mod Delivering
 pub mod Fresh
 pub mod Getting
+pub mod Doubting

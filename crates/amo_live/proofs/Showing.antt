@@ -39,10 +39,10 @@ use Rattle.amo_live.specs.declared.lines.Word.TheVariants as word
 use Rattle.amo_live.specs.Host.{HostState, Did, Delivered, Looks, message_in, word_for}
 use Rattle.amo_live.specs.Service.{start_of}
 use Rattle.amo_live.proofs.Emissions.{grown_extends}
-use Rattle.amo_live.proofs.Ending.{ends_handshake}
+use Rattle.amo_live.proofs.Ending.{ends_handshake, sending_begins}
 use Rattle.amo_live.proofs.Repeating.{looks_extend, looks_still, none_extends, none_still}
 use Rattle.amo_live.specs.Object.{Name}
-use Rattle.amo_live.specs.Shown.{BeginsWithPut, IsRefusing, IsShown, says_nothing, says_message, says_answer, says_put, Refused, Said, Says, Shows, ShowsMore, Tells, TellsAck, Told, answered, behind, first_id, message_line, ok_line, refused_line, said_of, told_ack, told_answer, told_answers, told_line, told_put, word_line, word_of}
+use Rattle.amo_live.specs.Shown.{BeginsWithPut, IsRefusing, IsShown, says_nothing, says_message, says_answer, says_put, Refused, Said, Says, Shows, ShowsMore, Tells, TellsDelivery, Told, answered, behind, first_id, message_line, ok_line, refused_line, said_of, told_ack, told_answer, told_answers, settled_line, told_line, told_put, told_settled, word_line, word_of}
 
 -- what a pass has seen is what it had seen, and more
 itself : (events : List Event) → Extends events events
@@ -97,11 +97,15 @@ shows_reply spelling v w old new e grown tells = shows_line spelling v w old new
 tells_still : (seen later : List Event) (spelling : Spelling) (e : Event) (old new : Told) → Extends later seen → Tells seen spelling e old new → Tells later spelling e old new
 tells_still seen later spelling e old new more (inl tells) = inl tells
 tells_still seen later spelling e old new more (inr tells) = inr (record {
-  ack = tells.ack;
+  packet = tells.packet;
   word = tells.word;
   delivered = tells.delivered;
+  settles = tells.settles;
   messages = tells.messages;
   lines = tells.lines;
+  begins = λ some.
+      let begun = tells.begins some in
+      record { past = begun.past; stands = further later seen (e ∷ begun.past) more begun.stands; asked = begun.asked; sends = begun.sends };
   ends = λ some.
       let ended = tells.ends some in
       record { past = ended.past; stands = further later seen (e ∷ ended.past) more ended.stands; id = ended.id; got = ended.got; says = ended.says; load = ended.load; sent = ended.sent };
@@ -163,19 +167,23 @@ look_shows h g spelling stream a known old new looks same = shows_none spelling 
 pub undelivered_shows : {L S : Type 0} (h g : HostState L S) (spelling : Spelling) (bytes : List ℕ) (word : ℕ) (old new : Told) → Delivered h g bytes word None → new ≡ old → ShowsMore spelling h.pass g.pass old new
 undelivered_shows h g spelling bytes word old new none same = shows_none spelling h.pass g.pass old new (none_extends h g bytes word none) (none_still h g bytes word none) same
 
--- a delivery shows what its packet tells
-pub delivery_shows : {L S : Type 0} (h g : HostState L S) (spelling : Spelling) (bytes : List ℕ) (p : OwnedPacket) (word stream : ℕ) (mode : Mode) (messages : ℕ) (old new : Told) → Spells (newest h.journal.version) bytes p
-    → Delivered h g bytes word (Some (stream, mode)) → (messages ≢ 0 → HasMode h.pump.host p.stream kind_of.Send × (mode ≡ kind_of.Quiet)) → new ≡ told_ack spelling p.stream p.body messages old → ShowsMore spelling h.pass g.pass old new
-delivery_shows h g spelling bytes p word stream mode messages old new spelt (q, spells, is, happens) ended told =
+-- a delivery shows what it settles, and what its packet tells
+pub delivery_shows : {L S : Type 0} (h g : HostState L S) (spelling : Spelling) (bytes : List ℕ) (p : OwnedPacket) (word stream : ℕ) (mode : Mode) (settles : Bool) (messages : ℕ) (old new : Told) → Spells (newest h.journal.version) bytes p
+    → Delivered h g bytes word (Some (stream, mode)) → (settles ≡ true → HasMode h.pump.host p.stream kind_of.NeedId × (mode ≡ kind_of.Send)) → (messages ≢ 0 → HasMode h.pump.host p.stream kind_of.Send × (mode ≡ kind_of.Quiet))
+    → new ≡ told_ack spelling p.stream p.body messages (told_settled settles spelling stream old) → ShowsMore spelling h.pass g.pass old new
+delivery_shows h g spelling bytes p word stream mode settles messages old new spelt (q, spells, is, happens) begun ended told =
     let one : q ≡ p = Spells-unique (newest h.journal.version) (newest h.journal.version) bytes q p spells spelt in
     let here : p.stream ≡ stream = ap (λ (r : OwnedPacket). r.stream) (sym one) ∙ is in
     shows_line spelling h.pass g.pass old new (event h.pass.number h.side stream (act.Deliver q (word_for q.body word)) reply.Done) happens.grown
     (inr (record {
-      ack = q;
+      packet = q;
       word = word_for q.body word;
       delivered = refl;
+      settles = settles;
       messages = messages;
-      lines = told ∙ (ap (λ (n : ℕ). told_ack spelling n p.body messages old) here ∙ ap (λ (r : OwnedPacket). told_ack spelling stream r.body messages old) (sym one));
+      lines = let first = told_settled settles spelling stream old in
+          told ∙ (ap (λ (n : ℕ). told_ack spelling n p.body messages first) here ∙ ap (λ (r : OwnedPacket). told_ack spelling stream r.body messages first) (sym one));
+      begins = λ some. let known = begun some in sending_begins h g stream q (word_for q.body word) mode happens (subst (λ (n : ℕ). HasMode h.pump.host n kind_of.NeedId) here known.0) known.1;
       ends = λ some. let known = ended some in ends_handshake h g stream q (word_for q.body word) mode happens (subst (λ (n : ℕ). HasMode h.pump.host n kind_of.Send) here known.0) known.1;
     }))
 
@@ -254,11 +262,12 @@ module _ (spelling : Spelling) (v w : PassState) (stream : ℕ) (old new : Told)
   unknown_shows ack_fault.NoStream grown is = shows_idle spelling v w old new grown is
 
 -- a delivery with what it shows, and then what follows it
-pub delivered_then : {L S : Type 0} (h g : HostState L S) (r : Result (Unit {0}) LiveFault) (spelling other : Spelling) (bytes : List ℕ) (p : OwnedPacket) (word stream : ℕ) (mode : Mode) (messages : ℕ) (w x : PassState) (old new more : Told)
-    → Spells (newest h.journal.version) bytes p → Delivered h g bytes word (Some (stream, mode)) → (messages ≢ 0 → HasMode h.pump.host p.stream kind_of.Send × (mode ≡ kind_of.Quiet)) → w ≡ g.pass → new ≡ told_ack spelling p.stream p.body messages old → other ≡ spelling → OnOk r (ShowsMore other w x new more)
+pub delivered_then : {L S : Type 0} (h g : HostState L S) (r : Result (Unit {0}) LiveFault) (spelling other : Spelling) (bytes : List ℕ) (p : OwnedPacket) (word stream : ℕ) (mode : Mode) (settles : Bool) (messages : ℕ) (w x : PassState) (old new more : Told)
+    → Spells (newest h.journal.version) bytes p → Delivered h g bytes word (Some (stream, mode)) → (settles ≡ true → HasMode h.pump.host p.stream kind_of.NeedId × (mode ≡ kind_of.Send)) → (messages ≢ 0 → HasMode h.pump.host p.stream kind_of.Send × (mode ≡ kind_of.Quiet))
+    → w ≡ g.pass → new ≡ told_ack spelling p.stream p.body messages (told_settled settles spelling stream old) → other ≡ spelling → OnOk r (ShowsMore other w x new more)
     → OnOk r (ShowsMore spelling h.pass x old more)
-delivered_then h g r spelling other bytes p word stream mode messages w x old new more spelt delivered ended pass told same then =
-    let first = delivery_shows h g spelling bytes p word stream mode messages old new spelt delivered ended told in
+delivered_then h g r spelling other bytes p word stream mode settles messages w x old new more spelt delivered begun ended pass told same then =
+    let first = delivery_shows h g spelling bytes p word stream mode settles messages old new spelt delivered begun ended told in
     let entered = shows_as spelling spelling h.pass g.pass h.pass w old new old new refl refl pass refl refl first in
     on_ok_weaker r (λ shows. shows_on spelling h.pass w x old new more entered (shows_as other spelling w x w x new more new more (sym same) refl refl refl refl shows)) then
 
@@ -291,6 +300,10 @@ module _ (front : List ℕ) where
   behind_answers spelling stream w zero told = refl
   behind_answers spelling stream w (suc n) told = behind_answer spelling stream w (told_answers spelling stream w n told) ∙ ap (told_answer spelling stream w) (behind_answers spelling stream w n told)
 
+  behind_settled : (settles : Bool) (spelling : Spelling) (stream : ℕ) (told : Told) → behind front (told_settled settles spelling stream told) ≡ told_settled settles spelling stream (behind front told)
+  behind_settled true spelling stream told = behind_line (settled_line spelling stream) told
+  behind_settled false spelling stream told = refl
+
   behind_ack : (spelling : Spelling) (stream : ℕ) (body : OwnedBody) (n : ℕ) (told : Told) → behind front (told_ack spelling stream body n told) ≡ told_ack spelling stream body n (behind front told)
   behind_ack spelling stream (owned.NeedUid jd) n told = refl
   behind_ack spelling stream (owned.Accept jd id) n told = refl
@@ -311,11 +324,14 @@ module _ (front : List ℕ) where
   tells_behind : (seen : List Event) (spelling : Spelling) (e : Event) (old new : Told) → Tells seen spelling e old new → Tells seen spelling e (behind front old) (behind front new)
   tells_behind seen spelling e old new (inl tells) = inl (says_behind spelling e.stream (said_of e.act e.reply) old new tells)
   tells_behind seen spelling e old new (inr tells) = inr (record {
-    ack = tells.ack;
+    packet = tells.packet;
     word = tells.word;
     delivered = tells.delivered;
+    settles = tells.settles;
     messages = tells.messages;
-    lines = ap (behind front) tells.lines ∙ behind_ack spelling e.stream tells.ack.body tells.messages old;
+    lines = ap (behind front) tells.lines ∙ (behind_ack spelling e.stream tells.packet.body tells.messages (told_settled tells.settles spelling e.stream old)
+        ∙ ap (told_ack spelling e.stream tells.packet.body tells.messages) (behind_settled tells.settles spelling e.stream old));
+    begins = tells.begins;
     ends = tells.ends;
   })
 
@@ -355,6 +371,10 @@ grows_ack spelling stream (owned.Ack id got) n told = grows_answers spelling str
 grows_ack spelling stream (owned.Cleanup id) n told = ([], sym (append-nil told.text))
 grows_ack spelling stream (owned.Batch id parts) n told = ([], sym (append-nil told.text))
 
+grows_settled : (settles : Bool) (spelling : Spelling) (stream : ℕ) (told : Told) → (more : List ℕ) × ((told_settled settles spelling stream told).text ≡ told.text ++ more)
+grows_settled true spelling stream told = (settled_line spelling stream, refl)
+grows_settled false spelling stream told = ([], sym (append-nil told.text))
+
 grows_said : (spelling : Spelling) (stream : ℕ) (said : Said) (old new : Told) → Says spelling stream said old new → (more : List ℕ) × (new.text ≡ old.text ++ more)
 grows_said spelling stream says_nothing old new told = ([], ap (λ (t : Told). t.text) told ∙ sym (append-nil old.text))
 grows_said spelling stream says_put old new (id, line, told) = (ok_line spelling stream id line, ap (λ (t : Told). t.text) told)
@@ -363,7 +383,10 @@ grows_said spelling stream (says_answer w) old new told = (word_line spelling st
 
 grows_told : (seen : List Event) (spelling : Spelling) (e : Event) (old new : Told) → Tells seen spelling e old new → (more : List ℕ) × (new.text ≡ old.text ++ more)
 grows_told seen spelling e old new (inl tells) = grows_said spelling e.stream (said_of e.act e.reply) old new tells
-grows_told seen spelling e old new (inr tells) = let grows = grows_ack spelling e.stream tells.ack.body tells.messages old in (grows.0, ap (λ (t : Told). t.text) tells.lines ∙ grows.1)
+grows_told seen spelling e old new (inr tells) =
+    let first = told_settled tells.settles spelling e.stream old in
+    let grows = grows_on old first (told_ack spelling e.stream tells.packet.body tells.messages first) (grows_settled tells.settles spelling e.stream old) (grows_ack spelling e.stream tells.packet.body tells.messages first) in
+    (grows.0, ap (λ (t : Told). t.text) tells.lines ∙ grows.1)
 
 grows_by : (seen : List Event) (spelling : Spelling) (events : List Event) (old new : Told) → Shows seen spelling events old new → (more : List ℕ) × (new.text ≡ old.text ++ more)
 grows_by seen spelling [] old new refusing = grows_refused old new refusing

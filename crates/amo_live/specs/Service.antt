@@ -1,9 +1,11 @@
 -- A host at work.
-use Rattle.std.specs.Prelude.{◌≡◌, ℕ, Bool, false, if◌then◌else◌, List, length}
+use Rattle.std.specs.Prelude.{◌≡◌, ℕ, zero, suc, Bool, true, false, if◌then◌else◌, Option, Some, List, get_or, length, map}
 use Rattle.amo_object.specs.declared.step.End.{End}
 use Rattle.amo_object.specs.declared.step.End.TheVariants.{Sender, Receiver}
 use Rattle.amo_core.specs.declared.act.Act.{Act}
 use Rattle.amo_core.specs.declared.act.Act.TheVariants as act
+use Rattle.amo_core.specs.declared.mode.Mode.{Mode}
+use Rattle.amo_core.specs.declared.mode.Mode.TheVariants as mode
 use Rattle.amo_journal.specs.declared.version.Version.{Version}
 use Rattle.amo_journal.specs.declared.version.Version.TheVariants.{One, Two}
 use Rattle.amo_book.specs.Pass.{PassState, mine}
@@ -11,6 +13,7 @@ use Rattle.amo_host.specs.AtStream.{AreCalm}
 use Rattle.amo_live.specs.Host.{puts_in}
 use Rattle.amo_live.specs.Shown.{Told}
 use Rattle.amo_live.specs.declared.lines.Spelling.{Spelling}
+use Rattle.amo_live.specs.declared.service.Lane.{Lane}
 use Rattle.amo_live.specs.declared.service.Service.{Service}
 use Rattle.amo_live.specs.declared.service.Setup.{Setup}
 
@@ -33,6 +36,19 @@ words_of service = service.words
 -- no stream waits for its peer, and each message that was put has its answer
 abbrev pub IsAtRest : {L S W : Type 0} → Service L S W → Type 0
 IsAtRest service = (service.owed ≡ 0) × AreCalm service.host.pump.host
+
+-- whether it is in doubt what became of an earlier message of a stream
+abbrev pub doubted : List Lane → ℕ → Bool
+doubted lanes zero = false
+doubted lanes (suc place) = get_or (map (λ (lane : Lane). lane.in_doubt) lanes) place false
+
+abbrev pub is_in_doubt : {L S W : Type 0} → Service L S W → ℕ → Bool
+is_in_doubt service stream = doubted service.lanes.items stream
+
+-- a delivery brings a sender that asked for an identifier to send messages
+abbrev pub begins_to_send : Option Mode → Mode → Bool
+begins_to_send (Some mode.NeedId) mode.Send = true
+begins_to_send _ _ = false
 
 -- no message was put
 abbrev pub PutsNone : PassState → PassState → Type 0

@@ -8,7 +8,9 @@ use Rattle.std.specs.Io.KnownBytes.{Appends}
 use Rattle.amo_core.specs.declared.act.Act.{Act}
 use Rattle.amo_core.specs.declared.act.Act.TheVariants.{Put, Get, Ack, Deliver}
 use Rattle.amo_core.specs.declared.payload.Payload.{Payload}
+use Rattle.amo_core.specs.declared.mode.Mode.TheVariants as mode
 use Rattle.amo_core.specs.declared.sender.SenderMode.TheVariants.{Send}
+use Rattle.amo_core.specs.Sender as sender
 use Rattle.amo_core.specs.declared.reply.Reply.{Reply}
 use Rattle.amo_core.specs.declared.reply.Reply.TheVariants.{Ok, Got, Yes, No}
 use Rattle.amo_packet.specs.declared.packet.OwnedPacket.{OwnedPacket}
@@ -49,6 +51,10 @@ ok_line spelling stream id line = if spelling.json then object_front stream id +
 -- the line that tells what became of one
 abbrev pub word_line : Spelling → ℕ → Name → Word → List ℕ
 word_line spelling stream id w = if spelling.json then object_front stream id ++ word_text w ++ codes "\"}\n" else (decimal stream ++ codes " " ++ word_text w ++ codes "\n")
+
+-- the line that tells that what became of earlier messages of a stream, of which it was not known, is settled
+abbrev pub settled_line : Spelling → ℕ → List ℕ
+settled_line spelling stream = if spelling.json then object_front stream None ++ codes "settled\"}\n" else (decimal stream ++ codes " settled\n")
 
 -- a client's line that is none: its id, its number and why
 pub record Refused : Type 0 where
@@ -173,6 +179,19 @@ abbrev pub told_ack : Spelling → ℕ → OwnedBody → ℕ → Told → Told
 told_ack spelling stream (packet.Ack id got) messages told = told_answers spelling stream (word_of got) messages told
 told_ack spelling stream _ messages told = told
 
+-- it is told that what became of a stream's earlier messages is settled, or it is not
+abbrev pub told_settled : Bool → Spelling → ℕ → Told → Told
+told_settled true spelling stream told = told_line (settled_line spelling stream) told
+told_settled false spelling stream told = told
+
+-- In what was seen an event brought the sender of its stream to send messages under an identifier, for which it had asked: whatever was sent there before is
+-- got by now, or never.
+pub record BeginsToSend (seen : List Event) (e : Event) : Type 0 where
+  pub past : List Event
+  pub stands : Extends seen (e ∷ past)
+  pub asked : sender.kind (stream_after e.stream past).sender.state.mode ≡ mode.NeedId
+  pub sends : sender.kind (stream_after e.stream (e ∷ past)).sender.state.mode ≡ mode.Send
+
 -- In what was seen an event delivered this packet, which is an ack that ended a handshake: after all that happened before, the sender of its stream sent
 -- messages under the identifier that the ack names.
 pub record EndsHandshake (seen : List Event) (e : Event) (body : OwnedBody) : Type 0 where
@@ -184,18 +203,21 @@ pub record EndsHandshake (seen : List Event) (e : Event) (body : OwnedBody) : Ty
   pub load : Payload
   pub sent : (stream_after e.stream past).sender.state.mode ≡ Send id load
 
--- a packet was delivered that told of messages: it ended their handshake, if it told of any
-pub record TellsAck (seen : List Event) (spelling : Spelling) (e : Event) (old new : Told) : Type 0 where
-  pub ack : OwnedPacket
+-- A packet was delivered that settled what became of earlier messages, or told of messages: it brought the sender to send, if it is told that it settled any,
+-- and ended the handshake of those that it told of.
+pub record TellsDelivery (seen : List Event) (spelling : Spelling) (e : Event) (old new : Told) : Type 0 where
+  pub packet : OwnedPacket
   pub word : ℕ
-  pub delivered : e.act ≡ Deliver ack word
+  pub delivered : e.act ≡ Deliver packet word
+  pub settles : Bool
   pub messages : ℕ
-  pub lines : new ≡ told_ack spelling e.stream ack.body messages old
-  pub ends : messages ≢ 0 → EndsHandshake seen e ack.body
+  pub lines : new ≡ told_ack spelling e.stream packet.body messages (told_settled settles spelling e.stream old)
+  pub begins : settles ≡ true → BeginsToSend seen e
+  pub ends : messages ≢ 0 → EndsHandshake seen e packet.body
 
--- what an event tells: what its reply does, or an ack that was delivered
+-- what an event tells: what its reply does, or a packet that was delivered
 abbrev pub Tells : List Event → Spelling → Event → Told → Told → Type 0
-Tells seen spelling e old new = Says spelling e.stream (said_of e.act e.reply) old new ⊎ TellsAck seen spelling e old new
+Tells seen spelling e old new = Says spelling e.stream (said_of e.act e.reply) old new ⊎ TellsDelivery seen spelling e old new
 
 -- what events tell, newest first, in the order in which they happened, and between them which lines were refused
 abbrev pub Shows : List Event → Spelling → List Event → Told → Told → Type 0

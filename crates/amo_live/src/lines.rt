@@ -3,7 +3,7 @@ ghost use Rattle.std.specs.Prelude.{◌≡◌, ◌++◌, IfOk, OnOk};
 ghost use Rattle.std.specs.List.{flat_map, list_any};
 ghost use Rattle.std.specs.Str.{chars};
 ghost use Rattle.amo_live.specs.Client.{BlamesField, NamesBy, ReadsAs, ReadsPlain};
-ghost use Rattle.amo_live.specs.Shown.{escaped, hex_line, id_member, is_hidden, is_text, message_line, object_front, ok_line, refused_front, refused_line, text_line, word_line, word_of, word_text};
+ghost use Rattle.amo_live.specs.Shown.{escaped, hex_line, id_member, is_hidden, is_text, message_line, object_front, ok_line, refused_front, refused_line, settled_line, text_line, word_line, word_of, word_text};
 
 use crate::id::Id;
 use crate::object::read_object;
@@ -195,6 +195,23 @@ pub(crate) fn push_word(
         shown.extend_from_slice(b" ")?;
         shown.extend_from_slice(word.text().as_bytes())?;
         shown.extend_from_slice(b"\n")
+    }
+}
+
+/// Appends the line that tells that what became of a stream's earlier messages is settled.
+pub(crate) fn push_settled(
+    shown: &mut Vec<u8>,
+    stream: u32,
+    spelling: Spelling,
+) -> Result<(), AllocError>
+    ensures { OnOk result (shown.new.items ≡ shown.old.items ++ settled_line spelling stream) }
+{
+    if spelling.json {
+        push_object_front(shown, stream, &Id::none())?;
+        shown.extend_from_slice(b"settled\"}\n")
+    } else {
+        push_decimal(shown, stream as u64)?;
+        shown.extend_from_slice(b" settled\n")
     }
 }
 

@@ -24,8 +24,8 @@ use std::rt::Clock;
 
 /// Runs a host of 1 to 256 streams over this link until its clients are done. The system waits for the link by this number. A host that sends
 /// takes lines from the reader, and one that receives leaves it alone; answers and messages go to the output. The journal goes on in the sink, in
-/// this place, and new handshakes get these words. Who rings the bell asks it to come to its end. It is refused where batches are to be started for
-/// which it has no lines.
+/// this place, and new handshakes get these words. Who rings the bell asks it to come to its end. On the streams in doubt earlier lives sent messages of
+/// which it is not known what became of them; once that is settled, it is told. It is refused where batches are to be started for which it has no lines.
 pub fn run_process<
     R: AllocGlobal + Clock + Eprint,
     I: Read + AsRawFd + Drop,
@@ -44,6 +44,7 @@ pub fn run_process<
     place: Start,
     words: W,
     bell: Bell,
+    in_doubt: &[u32],
 ) -> Result<Ended, ProcessFault>
     requires { (1 ≤ plan.setup.streams) × (plan.setup.streams ≤ 256) }
 {
@@ -62,7 +63,7 @@ pub fn run_process<
         kept: Backlog::new(alloc, plan.setup.streams)?,
         bell,
     };
-    work(rt, alloc, plan, link, sink, place, words, desk)
+    work(rt, alloc, plan, link, sink, place, words, desk, in_doubt)
 }
 
 /// Starts a host over this link, with a journal that goes on in this place, and makes its turns.
@@ -82,11 +83,15 @@ fn work<
     place: Start,
     words: W,
     desk: Desk<I, O>,
+    in_doubt: &[u32],
 ) -> Result<Ended, ProcessFault>
     requires { (1 ≤ plan.setup.streams) × (plan.setup.streams ≤ 256) }
 {
     let mut desk = desk;
     let mut service = start(alloc, plan.setup, link, sink, place, words)?;
+    for stream in in_doubt {
+        service.doubt(*stream);
+    }
     match serve(rt, &mut service, &mut desk, plan.limits) {
         Ok(ended) => {
             desk.bell.answer(ended);

@@ -1,12 +1,12 @@
 //! What a live host does with datagrams, times and its clients' messages.
-ghost use Rattle.std.specs.Prelude.{◌≡◌, ◌≢◌, ◌↔◌, ℕ, [], Some, IfNone, IfOk, IsTrue, OnOk, is_some, length};
+ghost use Rattle.std.specs.Prelude.{◌≡◌, ◌≢◌, ◌↔◌, ℕ, [], Some, true, IfNone, IfOk, IfSome, IsTrue, OnOk, is_some, length};
 ghost use Rattle.amo_core.specs.declared.mode.Mode.TheVariants.{Quiet, Send};
 ghost use Rattle.amo_packet.specs.Packet.{body_of, packet_of};
 ghost use Rattle.amo_packet.specs.Grammar.{Spells, messages_of};
 ghost use Rattle.amo_journal.specs.Version.{newest};
 ghost use Rattle.amo_live.specs.Client.{PutsNamed, has};
 ghost use Rattle.amo_live.specs.Host.{Delivered, Did, IsNoted};
-ghost use Rattle.amo_live.specs.Service.{IsAtRest, PutsNone, got_by, new_version, shown_by, spelling_of, start_of, starts_batches, streams_of, words_of};
+ghost use Rattle.amo_live.specs.Service.{IsAtRest, PutsNone, got_by, is_in_doubt, new_version, shown_by, spelling_of, start_of, starts_batches, streams_of, words_of};
 ghost use Rattle.amo_live.specs.Shown.{BeginsWithPut, ShowsMore};
 ghost use Rattle.amo_live.specs.Words.{BearsNew, IsNew, StaysDrawn};
 
@@ -53,6 +53,8 @@ pub(crate) struct Lane {
     travelling: u64,
     /// Whether the last one was got, once that is known of one.
     last: Option<bool>,
+    /// It is not settled what became of one that an earlier life sent.
+    in_doubt: bool,
 }
 
 impl Lane {
@@ -65,6 +67,7 @@ impl Lane {
             owed: false,
             travelling: 0,
             last: None,
+            in_doubt: false,
         }
     }
 }
@@ -293,7 +296,8 @@ impl<L: Link, S: Sink, W: Lineage> Service<L, S, W> {
 
     /// What is known of a stream.
     fn lane(&self, stream: u32) -> Option<Lane>
-        ensures { is_some result ≡ has (streams_of self.now) stream }
+        ensures found { is_some result ≡ has (streams_of self.now) stream }
+        ensures doubt { IfSome result (λ lane. lane.in_doubt ≡ is_in_doubt self.now stream) }
     {
         let place = (stream as usize).checked_sub(1)?;
         self.lanes.get(place).copied()
@@ -305,6 +309,7 @@ impl<L: Link, S: Sink, W: Lineage> Service<L, S, W> {
         ensures streams { streams_of self.new ≡ streams_of self.old }
         ensures shown { (shown_by self.new ≡ shown_by self.old) × (self.new.setup ≡ self.old.setup) }
         ensures words { words_of self.new ≡ words_of self.old }
+        ensures doubt { has (streams_of self.old) stream ≡ true → is_in_doubt self.new stream ≡ lane.in_doubt }
     {
         let Some(place) = (stream as usize).checked_sub(1) else {
             return;
@@ -592,6 +597,7 @@ impl<L: Link, S: Sink, W: Lineage> Service<L, S, W> {
             return Ok(());
         };
         let is_other = is_other(before, mode);
+        self.tell_settled(stream, before, mode)?;
         self.tell_ack(&packet, told_by_ack(before, mode, end))?;
         self.arrive(stream, mode, is_other, brought_by(&packet), now);
         self.go_on(stream, mode, is_other, end, now)

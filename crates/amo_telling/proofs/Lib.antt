@@ -6,3 +6,4 @@ pub mod LineByLine
 pub mod GoingOn
 pub mod Pairs
 pub mod Untolds
+pub mod Settling

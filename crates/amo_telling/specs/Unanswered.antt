@@ -1,5 +1,5 @@
 -- What is told of puts that had no answer.
-use Rattle.std.specs.Prelude.{◌≡◌, ◌≢◌, ◌⊎◌, ℕ, ◌+◌, ◌^◌, ◌≤◌, Bool, true, false, if◌then◌else◌, Option, Some, None, List, [], ◌++◌, codes}
+use Rattle.std.specs.Prelude.{◌≡◌, ◌≢◌, ◌⊎◌, ℕ, ◌+◌, ◌^◌, ◌≤◌, Bool, true, false, not, if◌then◌else◌, Option, Some, None, List, [], ◌++◌, codes}
 use Rattle.std.specs.Fmt.{decimal}
 use Rattle.amo_text.specs.Line.{Lacks}
 use Rattle.amo_journal.specs.declared.numbered.Numbered.{Numbered}
@@ -39,6 +39,11 @@ told_front json number stream what =
 abbrev pub told_line : Bool → ℕ → ℕ → Told → List ℕ → List ℕ
 told_line json number stream what message = told_front json number stream what ++ line_end json message
 
+-- the line that tells that what became of a stream's messages is settled that were told as unknown
+abbrev pub settled_line : Bool → ℕ → List ℕ
+settled_line json stream =
+    if json then codes "{\"stream\":" ++ decimal stream ++ codes ",\"event\":\"settled\"}\n" else (decimal stream ++ codes " settled\n")
+
 -- what is told of a put that became this of: nothing where it was got; else that it is gone, where a crash forgets or forgot it before it was
 -- sent, or that this is unknown
 abbrev pub told_word : PutOutcome → Option Told
@@ -65,11 +70,32 @@ abbrev pub is_ack : Act → Bool
 is_ack (act.Deliver p word) = is_ack_body p.body
 is_ack _ = false
 
+-- a put of which this is known was sent
+abbrev pub is_sent : Option SenderOutcome → Bool
+is_sent (Some Got) = true
+is_sent (Some (Unknown settled)) = true
+is_sent _ = false
+
 -- it is settled what became of a put
 abbrev pub is_answer : SenderOutcome → Bool
 is_answer Got = true
 is_answer (Unknown true) = true
 is_answer _ = false
+
+-- where that is known
+abbrev pub is_settled : Option SenderOutcome → Bool
+is_settled None = false
+is_settled (Some outcome) = is_answer outcome
+
+-- a put is told to be unknown, and it may still be got
+abbrev pub is_unsettled : Option SenderOutcome → Option Told → Bool
+is_unsettled outcome (Some told.Unknown) = not (is_settled outcome)
+is_unsettled outcome _ = false
+
+-- or it is settled what became of it
+abbrev pub is_settled_by_now : Option SenderOutcome → Option Told → Bool
+is_settled_by_now outcome (Some told.Unknown) = is_settled outcome
+is_settled_by_now outcome _ = false
 
 -- why no line is read behind those of which this is the next number
 abbrev pub StopsBy : Version → ℕ → List ℕ → Progress → Type 0

@@ -1,5 +1,5 @@
 -- What a sender that starts again tells of the puts of its earlier lives.
-use Rattle.std.specs.Prelude.{◌≡◌, ◌≢◌, ◌⊎◌, ℕ, ◌+◌, ◌-◌, ◌^◌, ◌<◌, Bool, true, false, Option, Some, None, List, [], ◌∷◌, ◌++◌, get_or, length, map, reverse, set}
+use Rattle.std.specs.Prelude.{◌≡◌, ◌≢◌, ◌⊎◌, ℕ, ◌+◌, ◌-◌, ◌^◌, ◌<◌, ◌≤◌, Bool, true, false, Option, Some, None, List, [], ◌∷◌, ◌++◌, get_or, length, map, reverse, set}
 use Rattle.std.specs.List.{AllByRecursion, Contains, flat_map}
 use Rattle.std.specs.List.Sorted.{IsStrictlySortedBy}
 use Rattle.std.specs.Ordering.{nat_cmp}
@@ -12,6 +12,7 @@ use Rattle.amo_core.specs.declared.reply.Reply.TheVariants as reply
 use Rattle.amo_world.specs.declared.event.Event.{Event}
 use Rattle.amo_world.specs.History.{IsRight}
 use Rattle.amo_outcomes.specs.declared.sender_followers.SenderFollowers.{SenderFollowers}
+use Rattle.amo_outcomes.specs.Puts.{puts_after}
 use Rattle.amo_outcomes.specs.SenderFollowers.{HaveFollowedSenders}
 use Rattle.amo_outcomes.specs.declared.sender_outcome.SenderOutcome.{SenderOutcome}
 use Rattle.amo_outcomes.specs.declared.sender_outcome.SenderOutcome.TheVariants.{Unknown}
@@ -22,7 +23,8 @@ use Rattle.amo_telling.specs.declared.put.Put.{Put}
 use Rattle.amo_telling.specs.declared.untold.Untold.{Untold}
 use Rattle.amo_telling.specs.Outcomes.{puts_in}
 use Rattle.amo_telling.specs.Told.{Counts}
-use Rattle.amo_telling.specs.Unanswered.{StopsBy, is_ack, is_answer}
+use Rattle.amo_telling.specs.Unanswered.{StopsBy, is_ack, is_answer, settled_line, told_if, told_line}
+use Rattle.amo_telling.specs.declared.unanswered.Told.{Told}
 
 -- In a journal that is read from the line of number `first` on, the newest event of which is the first here, the line of this number tells that this
 -- message was put on a stream, which took so many before it there.
@@ -93,3 +95,28 @@ pub record GoesOn (untold : Untold) (first : ℕ) (past : List Event) (lines : L
   pub read : SpellsLines lines.version front (numbered (first + length past) events)
   pub have : HasRead untold first (reverse events ++ past)
   pub stops : StopsBy lines.version (first + (length past + length events)) rest progress
+
+-- what is known of a put that a stream took: what its events tell, or that the stream took none of that number
+abbrev pub IsKnownAs : List Event → Put → Option SenderOutcome → Type 0
+IsKnownAs past put None = (puts_after put.stream past).count ≤ put.place
+IsKnownAs past put (Some outcome) = HasSenderOutcome put.stream past put.place outcome
+
+-- its line, behind what was told before: none where it was got
+abbrev pub told_text : Bool → ℕ → Put → Option Told → List ℕ
+told_text json number put None = []
+told_text json number put (Some what) = told_line json number put.stream what put.message.items
+
+abbrev pub TellsPut : List Event → List Span → Bool → ℕ × Put → List ℕ → List ℕ → Type 0
+TellsPut past doubts json (number, put) old new = (outcome : Option SenderOutcome) × IsKnownAs past put outcome × (new ≡ old ++ told_text json number put (told_if doubts number outcome))
+
+-- and those of these puts, in their order
+abbrev pub TellsPuts : List Event → List Span → Bool → List (ℕ × Put) → List ℕ → List ℕ → Type 0
+TellsPuts past doubts json [] old new = new ≡ old
+TellsPuts past doubts json (put ∷ puts) old new = (middle : List ℕ) × TellsPut past doubts json put old middle × TellsPuts past doubts json puts middle new
+
+-- What a start tells of lines that were read: of some streams in doubt that they are settled, of each put that is kept what its events tell, in the order
+-- of their lines, and then of some streams that they are settled by now.
+abbrev pub TellsAll : Untold → List Event → List Span → List ℕ → Bool → List ℕ → Type 0
+TellsAll untold past doubts in_doubt json text = (streams : List ℕ) × ((stream : ℕ) → Contains streams stream → Contains in_doubt stream)
+    × ((told : List ℕ) × TellsPuts past doubts json untold.puts.entries (flat_map (settled_line json) streams) told
+    × ((by_now : List ℕ) × (text ≡ told ++ flat_map (settled_line json) by_now)))

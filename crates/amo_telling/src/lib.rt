@@ -35,6 +35,7 @@ mod put_outcome;
 mod puts;
 mod reading;
 mod shown;
+mod tally;
 mod telling;
 mod unanswered;
 mod untold;

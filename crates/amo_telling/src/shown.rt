@@ -3,7 +3,7 @@ ghost use Rattle.std.specs.Prelude.{◌≡◌, ◌++◌, OnOk};
 ghost use Rattle.std.specs.List.{flat_map, list_any};
 ghost use Rattle.std.specs.Str.{chars};
 ghost use Rattle.amo_telling.specs.Shown.{escaped, event_shown, got_line, hex_shown, is_hidden, is_text, line_end, line_front, message_shown, outcome_field, outcome_line, outcome_members, text_shown};
-ghost use Rattle.amo_telling.specs.Unanswered.{told_field, told_front, told_line, told_member};
+ghost use Rattle.amo_telling.specs.Unanswered.{settled_line, told_field, told_front, told_line, told_member};
 
 use crate::put_outcome::PutOutcome;
 use crate::unanswered::Told;
@@ -92,6 +92,20 @@ fn push_told_front(
     } else {
         push_decimal(text, stream as u64)?;
         text.extend_from_slice(told_field(told).as_bytes())
+    }
+}
+
+/// Appends the line by which a sender that starts again tells that what became of a stream's messages is settled that were told as unknown before.
+pub(crate) fn push_settled(text: &mut Vec<u8>, stream: u32, json: bool) -> Result<(), AllocError>
+    ensures { OnOk result (text.new.items ≡ text.old.items ++ settled_line json stream) }
+{
+    if json {
+        text.extend_from_slice(b"{\"stream\":")?;
+        push_decimal(text, stream as u64)?;
+        text.extend_from_slice(b",\"event\":\"settled\"}\n")
+    } else {
+        push_decimal(text, stream as u64)?;
+        text.extend_from_slice(b" settled\n")
     }
 }
 

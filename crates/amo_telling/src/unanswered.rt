@@ -3,7 +3,7 @@ ghost use Rattle.std.specs.Prelude.{◌≡◌, ◌≢◌, ◌++◌, ℕ, List, I
 ghost use Rattle.amo_journal.specs.declared.numbered.Numbered.{Numbered};
 ghost use Rattle.amo_journal.specs.declared.version.Version.{Version};
 ghost use Rattle.amo_journal.specs.Journal.{InRange, line_text};
-ghost use Rattle.amo_telling.specs.Unanswered.{StopsBy, is_ack, is_answer, told_if};
+ghost use Rattle.amo_telling.specs.Unanswered.{StopsBy, is_ack, is_answer, is_sent, is_settled, told_if};
 
 use crate::put_outcome::PutOutcome;
 use amo_lives::Span;
@@ -62,6 +62,26 @@ pub(crate) fn is_answer(outcome: SenderOutcome) -> bool
         outcome,
         SenderOutcome::Got | SenderOutcome::Unknown { settled: true }
     )
+}
+
+/// Whether this says that a put was sent.
+pub(crate) fn is_sent(outcome: Option<SenderOutcome>) -> bool
+    ensures { result ≡ is_sent outcome }
+{
+    matches!(
+        outcome,
+        Some(SenderOutcome::Got | SenderOutcome::Unknown { .. })
+    )
+}
+
+/// Whether this says that it is settled what became of a put.
+pub(crate) fn is_settled(outcome: Option<SenderOutcome>) -> bool
+    ensures { result ≡ is_settled outcome }
+{
+    match outcome {
+        Some(outcome) => is_answer(outcome),
+        None => false,
+    }
 }
 
 /// Whether this says that a put was sent, and it is not settled what became of it.

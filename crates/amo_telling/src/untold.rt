@@ -2,7 +2,8 @@
 ghost use Rattle.std.specs.Prelude.{◌≡◌, IfOk, length};
 
 use crate::put::Put;
-use crate::shown::push_told;
+use crate::shown::{push_settled, push_told};
+use crate::tally::Tally;
 use crate::unanswered::{Progress, is_ack, is_answer, is_open, stopped, told_of};
 use amo_journal::{Lines, line_in_front};
 use amo_lives::Span;
@@ -30,7 +31,7 @@ pub struct Untold {
 }
 
 impl Untold {
-    ghost use Rattle.std.specs.Prelude.{◌+◌, ◌<◌, ◌≤◌, ◌≢◌, ◌⊎◌, ◌^◌, ◌∷◌, ℕ, List, [], Some, false, IfSome, IsTrue, OnOk};
+    ghost use Rattle.std.specs.Prelude.{◌+◌, ◌++◌, ◌<◌, ◌≤◌, ◌≢◌, ◌⊎◌, ◌^◌, ◌∷◌, ℕ, List, [], Some, false, IfSome, IsTrue, OnOk};
     ghost use Rattle.std.specs.List.{Contains};
     ghost use Rattle.std.specs.Ordering.{nat_cmp};
     ghost use Rattle.std.specs.BTreeMap.{get};
@@ -43,7 +44,9 @@ impl Untold {
     ghost use Rattle.amo_core.specs.declared.act.Act.TheVariants as act;
     ghost use Rattle.amo_core.specs.declared.reply.Reply.TheVariants as reply;
     ghost use Rattle.amo_telling.specs.Outcomes.{is_put};
-    ghost use Rattle.amo_telling.specs.Untold.{Drops, GoesOn, HasRead, IsAnsweredBehind, IsSent, IsSentHere, KeepsPut};
+    ghost use Rattle.amo_telling.specs.Untold.{Drops, GoesOn, HasRead, IsAnsweredBehind, IsSent, IsSentHere, KeepsPut, TellsAll, TellsPut, TellsPuts};
+    ghost use Rattle.amo_telling.specs.Unanswered.{settled_line};
+    ghost use Rattle.std.specs.List.{flat_map};
 
     /// Nothing was read. The first line is to be of this number.
     pub fn new(alloc: Global, first: u64) -> Result<Untold, AllocError>
@@ -233,25 +236,133 @@ impl Untold {
         Ok(())
     }
 
-    /// A line for each put that no ack answered, in the order of their lines: `STREAM gone MESSAGE` where it was not sent, so that the crash at
-    /// hand or an earlier one forgot it for good, and `STREAM unknown MESSAGE` where it was, or where a loss of power may have taken the line
-    /// that tells so; these lines are doubtful. In JSON it has the number of the put's line.
-    pub fn tell(&self, doubts: &[Span], json: bool) -> Result<Vec<u8>, AllocError> {
+    /// What a start tells, where it was told of messages on the streams in doubt before that they are unknown: `STREAM settled` for each of these on
+    /// which one was sent since. Then a line for each put that no ack answered, in the order of their lines: `STREAM gone MESSAGE` where it was not
+    /// sent, so that the crash at hand or an earlier one forgot it for good, and `STREAM unknown MESSAGE` where it was, or where a loss of power may
+    /// have taken the line that tells so; these lines are doubtful. In JSON it has the number of the put's line. Last, `STREAM settled` for each stream
+    /// of which one is told as unknown, and nothing is in doubt.
+    pub fn tell(&self, doubts: &[Span], in_doubt: &[u32], json: bool) -> Result<Vec<u8>, AllocError>
+        ensures { IfOk result (λ text. (first : ℕ) (past : List Event) → HasRead self.now first past → IsRight past → TellsAll self.now past doubts.now in_doubt.now json text.items) }
+    {
         let mut text = Vec::new(self.alloc);
-        for (number, put) in self.puts.iter() {
-            let outcome = self.followers.outcome(put.stream, put.place);
-            if let Some(told) = told_of(outcome, *number, doubts) {
-                push_told(
-                    &mut text,
-                    *number,
-                    put.stream,
-                    told,
-                    put.message.as_slice(),
-                    json,
-                )?;
+        self.tell_settled(doubts, in_doubt, json, &mut text)?;
+        self.tell_puts(doubts, json, &mut text)?;
+        self.tell_settled_by_now(doubts, json, &mut text)?;
+        Ok(text)
+    }
+
+    /// The streams on which it is in doubt what became of a message: one is told as unknown, and that is not settled; or one was so before, on a stream
+    /// of these, and none was sent there since. In their order.
+    pub fn in_doubt(&self, doubts: &[Span], before: &[u32]) -> Result<Vec<u32>, AllocError> {
+        let tallies = self.tallies(doubts)?;
+        let mut streams = Vec::new(self.alloc);
+        'streams: for place in 0..STREAMS {
+            let stream = place + 1;
+            let is_unsettled = match tallies.get(place as usize) {
+                Some(tally) => tally.is_unsettled,
+                None => false,
+            };
+            let stays = before.contains(&stream) && !self.has_sent(stream, tallies.as_slice());
+            if is_unsettled || stays {
+                streams.push(stream)?;
             }
         }
-        Ok(text)
+        Ok(streams)
+    }
+
+    /// A line for each stream in doubt on which a message was sent.
+    fn tell_settled(
+        &self,
+        doubts: &[Span],
+        in_doubt: &[u32],
+        json: bool,
+        text: &mut Vec<u8>,
+    ) -> Result<(), AllocError>
+        ensures { OnOk result ((streams : List ℕ) × ((stream : ℕ) → Contains streams stream → Contains in_doubt.now stream) × (text.new.items ≡ text.old.items ++ flat_map (settled_line json) streams)) }
+    {
+        let tallies = self.tallies(doubts)?;
+        for stream in in_doubt {
+            if self.has_sent(*stream, tallies.as_slice()) {
+                push_settled(text, *stream, json)?;
+            }
+        }
+        Ok(())
+    }
+
+    /// A line for each stream on which nothing is in doubt, of which a put is told as unknown.
+    fn tell_settled_by_now(
+        &self,
+        doubts: &[Span],
+        json: bool,
+        text: &mut Vec<u8>,
+    ) -> Result<(), AllocError>
+        ensures { OnOk result ((streams : List ℕ) × (text.new.items ≡ text.old.items ++ flat_map (settled_line json) streams)) }
+    {
+        let tallies = self.tallies(doubts)?;
+        'streams: for place in 0..STREAMS {
+            let is_settled = match tallies.get(place as usize) {
+                Some(tally) => tally.is_settled && !tally.is_unsettled,
+                None => false,
+            };
+            if is_settled {
+                push_settled(text, place + 1, json)?;
+            }
+        }
+        Ok(())
+    }
+
+    /// Whether a message was sent on a stream, where this is known of the puts of each: one that was answered, or another.
+    fn has_sent(&self, stream: u32, tallies: &[Tally]) -> bool {
+        let Some(place) = (stream as usize).checked_sub(1) else {
+            return false;
+        };
+        match (tallies.get(place), self.counts.get(place)) {
+            (Some(tally), Some(count)) => tally.is_sent || tally.kept < *count,
+            _ => false,
+        }
+    }
+
+    /// What is known of the puts of each stream, that of stream 1 first.
+    fn tallies(&self, doubts: &[Span]) -> Result<Vec<Tally>, AllocError> {
+        let mut tallies = vec![in self.alloc; Tally::new(); STREAMS as usize]?;
+        for (number, put) in self.puts.iter() {
+            let outcome = self.followers.outcome(put.stream, put.place);
+            let told = told_of(outcome, *number, doubts);
+            if let Some(place) = (put.stream as usize).checked_sub(1)
+                && let Some(tally) = tallies.get_mut(place)
+            {
+                tally.note(outcome, told);
+            }
+        }
+        Ok(tallies)
+    }
+
+    /// A line for each put that no ack answered.
+    fn tell_puts(&self, doubts: &[Span], json: bool, text: &mut Vec<u8>) -> Result<(), AllocError>
+        ensures { OnOk result ((past : List Event) → HaveFollowedSenders self.now.followers past → TellsPuts past doubts.now json self.now.puts.entries text.old.items text.new.items) }
+    {
+        for (number, put) in self.puts.iter() {
+            self.tell_put(*number, put, doubts, json, text)?;
+        }
+        Ok(())
+    }
+
+    /// The line of a put, if it was not got.
+    fn tell_put(
+        &self,
+        number: u64,
+        put: &Put,
+        doubts: &[Span],
+        json: bool,
+        text: &mut Vec<u8>,
+    ) -> Result<(), AllocError>
+        ensures { OnOk result ((past : List Event) → HaveFollowedSenders self.now.followers past → TellsPut past doubts.now json (number, put.now) text.old.items text.new.items) }
+    {
+        let outcome = self.followers.outcome(put.stream, put.place);
+        match told_of(outcome, number, doubts) {
+            Some(told) => push_told(text, number, put.stream, told, put.message.as_slice(), json),
+            None => Ok(()),
+        }
     }
 }
 

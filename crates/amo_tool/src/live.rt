@@ -5,8 +5,10 @@ ghost use Rattle.amo_settings.specs.Limits.{IsHostWithin};
 use crate::failure::Failure;
 use crate::retelling::{Manner, tell_untold};
 use crate::stopping::{hang_bell, take_down_bell};
-use amo_disk::{Cause, Disk, Opened, open};
-use amo_live::{Ended, HostLives, LiveFault, OpenedLives, Plan, ProcessFault, Socket, run_process};
+use amo_disk::{Cause, Disk, Opened, Start, open};
+use amo_live::{
+    Durable, Ended, HostLives, LiveFault, OpenedLives, Plan, ProcessFault, Socket, run_process,
+};
 use amo_object::End;
 use amo_settings::{HostSettings, ReceiveSettings, SendSettings};
 use std::alloc::Global;
@@ -132,8 +134,8 @@ fn open_nothing<R: AllocGlobal + Files<File = File>>(rt: &R) -> Result<File, Fai
     }
 }
 
-/// Opens the socket, then the journal and the file of lives beside it, and runs the host with them. The blanks become the ledgers in which
-/// contracts count their failures.
+/// Opens the socket, then the journal, and runs the host with them and the file of lives. The blanks become the ledgers in which contracts count their
+/// failures.
 fn run_opened<
     R: AllocGlobal + Clock + Eprint + Files<File = File> + Net + RandomSource,
     I: Read + AsRawFd + Drop,
@@ -167,31 +169,88 @@ fn run_opened<
         Err(fault) => return Err(Failure::of_journal(alloc, path, fault)),
     };
     tell_of_zeros(rt, path, zeros);
+    let ran = run_noted::<R, I, O, L, _, N>(
+        rt, host, plan, input, output, socket, port, disk, start, lives,
+    )?;
+    match ran {
+        Ok(ended) => Ok(ended),
+        Err(fault) => Err(Failure::of_host(alloc, path, fault, cause.get())),
+    }
+}
+
+/// Opens the file of lives beside a journal that is open, tells what became of messages of earlier lives, and runs the host. A fault of the file of lives is
+/// told here, and any other is handed on.
+fn run_noted<
+    R: AllocGlobal + Clock + Eprint + Files<File = File> + Net + RandomSource,
+    I: Read + AsRawFd + Drop,
+    O: Write + AsRawFd + Drop,
+    L: Ledger,
+    S: Durable + Drop,
+    N: Ledger,
+>(
+    rt: &R,
+    host: &HostSettings,
+    plan: Plan,
+    input: I,
+    output: O,
+    socket: Socket<L>,
+    port: u16,
+    disk: S,
+    start: Start,
+    lives: Blank,
+) -> Result<Result<Ended, ProcessFault>, Failure>
+    requires lives { (lives.name ≡ N.name) × (lives.parts ≡ N.parts) × (0 < N.parts) }
+    requires streams { (1 ≤ plan.setup.streams) × (plan.setup.streams ≤ 256) }
+{
+    let alloc = rt.alloc();
+    let path = host.journal.as_str();
     let file = path_of_lives(alloc, path)?;
     let why = Cell::new(None);
     let words = open_lives::<R, N>(rt, file.as_str(), &plan, start.lines, &why, lives)?;
     tell_of_start(rt, host.listen.as_str(), port, path, start.lines);
     let mut output = output;
-    if plan.setup.side == End::Sender {
-        let manner = Manner {
-            json: plan.setup.spelling.json,
-            sync: plan.limits.sync,
-        };
-        tell_untold(rt, path, start.lines, manner, &mut output)?;
-    }
+    let in_doubt = tell_earlier(rt, path, start.lines, &plan, &mut output)?;
     let bell = hang_bell(rt, path)?;
     let number = socket.number();
     let ran = run_process(
-        rt, plan, input, output, socket, number, disk, start, words, bell,
+        rt,
+        plan,
+        input,
+        output,
+        socket,
+        number,
+        disk,
+        start,
+        words,
+        bell,
+        in_doubt.as_slice(),
     );
     take_down_bell(rt, path)?;
     match ran {
-        Ok(ended) => Ok(ended),
         Err(fault) if fault == ProcessFault::from(LiveFault::Lives) => {
             Err(Failure::of_host(alloc, file.as_str(), fault, why.get()))
         }
-        Err(fault) => Err(Failure::of_host(alloc, path, fault, cause.get())),
+        ran => Ok(ran),
     }
+}
+
+/// Tells, where the host is a sender, what became of the messages of its earlier lives, which are on so many lines of its journal. Answers the streams on
+/// which that is not settled of one.
+fn tell_earlier<R: AllocGlobal + Eprint + Files<File = File>, O: Write>(
+    rt: &R,
+    path: &str,
+    lines: u64,
+    plan: &Plan,
+    output: &mut O,
+) -> Result<Vec<u32>, Failure> {
+    if plan.setup.side == End::Receiver {
+        return Ok(Vec::new(rt.alloc()));
+    }
+    let manner = Manner {
+        json: plan.setup.spelling.json,
+        sync: plan.limits.sync,
+    };
+    tell_untold(rt, path, lines, manner, output)
 }
 
 /// The path of the file of lives beside the journal at this path.

@@ -4,13 +4,15 @@ use crate::failure::Failure;
 use crate::followed::Followed;
 use crate::got::ROOM;
 use crate::told_file::ToldFile;
+use amo_disk::Cause;
 use amo_journal::{Lines, Version, line_in_front, open};
+use amo_live::{ProcessFault, ServeFault};
 use amo_telling::{Progress, Untold, whole_lines};
 use amo_text::{cut, read_decimal};
 use amo_world::Act;
 use std::alloc::{AllocError, Global};
 use std::fs::File;
-use std::io::Write;
+use std::io::{self, ErrorKind, Write};
 use std::rt::Files;
 use thiserror::Error;
 
@@ -24,24 +26,26 @@ pub(crate) struct Manner {
 }
 
 /// Tells on standard output what became of each message that was put on the lines of this journal, which has so many, and that was neither answered
-/// nor told. Then these lines are kept as told. Whoever calls has the journal.
+/// nor told. Then these lines are kept as told. Answers the streams on which it is not settled what became of one that was sent. Whoever calls has the
+/// journal.
 pub(crate) fn tell_untold<R: AllocGlobal + Eprint + Files<File = File>, O: Write>(
     rt: &R,
     journal: &str,
     lines: u64,
     manner: Manner,
     output: &mut O,
-) -> Result<(), Failure> {
-    let told = ToldFile::read(rt, journal)?;
+) -> Result<Vec<u32>, Failure> {
+    let mut told = ToldFile::read(rt, journal)?;
     let first = told.first_untold(rt, lines);
     if first < lines {
         let mut retelling = Retelling::new(rt, journal, first)?;
         if !retelling.read(rt)? {
-            return Ok(());
+            return Ok(told.into_in_doubt());
         }
-        retelling.show(rt, manner.json, output)?;
+        retelling.show(rt, manner.json, &mut told, output)?;
     }
-    told.keep(rt, lines, manner.sync)
+    told.keep(rt, lines, manner.sync)?;
+    Ok(told.into_in_doubt())
 }
 
 /// From where on lines are read.
@@ -122,22 +126,24 @@ impl<'a> Retelling<'a> {
         Ok(is_read)
     }
 
-    /// Shows what became of the messages that were not answered.
+    /// Shows what became of the messages that were not answered, and what is settled of those that were told before. From then on, that is told.
     fn show<R: AllocGlobal + Files<File = File>, O: Write>(
         &self,
         rt: &R,
         json: bool,
+        told: &mut ToldFile,
         output: &mut O,
     ) -> Result<(), Failure> {
         let Some(untold) = self.found.untold.as_ref() else {
             return Ok(());
         };
         let doubts = Doubts::read(rt, self.found.name)?;
-        let text = untold.tell(doubts.spans(), json)?;
-        output
-            .write_all(text.as_slice())
-            .map_err(Failure::of_output)?;
-        output.flush().map_err(Failure::of_output)
+        let text = untold.tell(doubts.spans(), told.in_doubt(), json)?;
+        output.write_all(text.as_slice()).map_err(of_output)?;
+        output.flush().map_err(of_output)?;
+        let in_doubt = untold.in_doubt(doubts.spans(), told.in_doubt())?;
+        told.doubt(in_doubt);
+        Ok(())
     }
 }
 
@@ -236,6 +242,14 @@ impl Found<'_> {
     fn begin(&mut self, number: u64) -> Result<(), AllocError> {
         self.untold = Some(Untold::new(self.alloc, number)?);
         Ok(())
+    }
+}
+
+/// A write on a host's standard output failed.
+fn of_output(error: io::Error) -> Failure {
+    match error.kind() {
+        ErrorKind::OutOfMemory => Failure::NoMemory,
+        _ => Failure::Host(ProcessFault::Serve(ServeFault::Output(Cause::from(error)))),
     }
 }
 

@@ -1,11 +1,12 @@
 //! What a service knows of its streams from what it did, and what it counts.
-ghost use Rattle.std.specs.Prelude.{◌≡◌, OnOk};
+ghost use Rattle.std.specs.Prelude.{◌≡◌, ◌&&◌, OnOk, false, true};
 ghost use Rattle.amo_packet.specs.Packet.{body_of};
-ghost use Rattle.amo_live.specs.Service.{shown_by, spelling_of, streams_of, words_of};
-ghost use Rattle.amo_live.specs.Shown.{told_ack, told_answer, told_answers, told_put, told_refused};
+ghost use Rattle.amo_live.specs.Client.{has};
+ghost use Rattle.amo_live.specs.Service.{begins_to_send, is_in_doubt, shown_by, spelling_of, streams_of, words_of};
+ghost use Rattle.amo_live.specs.Shown.{told_ack, told_answer, told_answers, told_put, told_refused, told_settled};
 
 use crate::id::Id;
-use crate::lines::{Word, push_ok, push_refused, push_word};
+use crate::lines::{Word, push_ok, push_refused, push_settled, push_word};
 use crate::service::{Lane, Service};
 use crate::{Figures, Lineage, Times};
 use amo_core::Mode;
@@ -191,6 +192,56 @@ impl<L: Link, S: Sink, W: Lineage> Service<L, S, W> {
         self.tell_answers(packet.stream, word, messages)
     }
 
+    /// It is not known what became of a message that an earlier life sent on this stream. Once that is settled, the client is told so.
+    pub fn doubt(&mut self, stream: u32)
+        ensures host { self.new.host ≡ self.old.host }
+        ensures streams { streams_of self.new ≡ streams_of self.old }
+        ensures shown { (shown_by self.new ≡ shown_by self.old) × (self.new.setup ≡ self.old.setup) }
+        ensures words { words_of self.new ≡ words_of self.old }
+        ensures doubt { is_in_doubt self.new stream ≡ has (streams_of self.old) stream }
+    {
+        if let Some(lane) = self.lane(stream) {
+            self.set_lane(
+                stream,
+                Lane {
+                    in_doubt: true,
+                    ..lane
+                },
+            );
+        }
+    }
+
+    /// A packet was delivered on a stream, whose side was in one mode before and is in the other now. Where it sends now, what became of earlier messages
+    /// that were in doubt is settled, and the client is told so.
+    pub(crate) fn tell_settled(
+        &mut self,
+        stream: u32,
+        before: Option<Mode>,
+        after: Mode,
+    ) -> Result<(), AllocError>
+        ensures told { OnOk result (shown_by self.new ≡ told_settled (is_in_doubt self.old stream && begins_to_send before after) (spelling_of self.old) stream (shown_by self.old)) }
+        ensures settled { OnOk result (begins_to_send before after ≡ true → is_in_doubt self.new stream ≡ false) }
+        ensures host { self.new.host ≡ self.old.host }
+        ensures streams { streams_of self.new ≡ streams_of self.old }
+        ensures setup { self.new.setup ≡ self.old.setup }
+        ensures words { words_of self.new ≡ words_of self.old }
+    {
+        let Some(lane) = self.lane(stream) else {
+            return Ok(());
+        };
+        if !lane.in_doubt || !begins_to_send(before, after) {
+            return Ok(());
+        }
+        self.set_lane(
+            stream,
+            Lane {
+                in_doubt: false,
+                ..lane
+            },
+        );
+        push_settled(&mut self.shown, stream, self.setup.spelling)
+    }
+
     /// The first so many of a stream's messages that have no answer have this one.
     fn tell_answers(&mut self, stream: u32, word: Word, messages: u64) -> Result<(), AllocError>
         ensures told { OnOk result (shown_by self.new ≡ told_answers (spelling_of self.old) stream word messages (shown_by self.old)) }
@@ -262,6 +313,13 @@ impl<L: Link, S: Sink, W: Lineage> Service<L, S, W> {
             bytes: self.host.journal_bytes(),
         }
     }
+}
+
+/// Whether a sender that asked for an identifier sends now, which was in one mode before and is in the other now.
+fn begins_to_send(before: Option<Mode>, after: Mode) -> bool
+    ensures { result ≡ begins_to_send before after }
+{
+    matches!((before, after), (Some(Mode::NeedId), Mode::Send))
 }
 
 /// Whether a handshake is open in this mode.

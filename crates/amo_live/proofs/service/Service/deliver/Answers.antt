@@ -1,22 +1,27 @@
 use Rattle.std.proofs.Common.{◌≡◌, ◌∙◌, refl, ap, rules}
 use Rattle.std.proofs.lemmas.Result.{on_ok_weaker}
-use Rattle.amo_live.specs.Service.{shown_by, spelling_of, words_of}
+use Rattle.std.specs.Prelude.{◌&&◌}
+use Rattle.amo_live.specs.Service.{begins_to_send, is_in_doubt, shown_by, spelling_of, words_of}
+use Rattle.amo_live.proofs.Ending.{said_to_send}
 use Rattle.amo_live.proofs.Fresh.{bears_as, bears_on}
 use Rattle.amo_packet.specs.Packet.{packet_of}
 use Rattle.amo_live.proofs.Showing.{delivered_then, shows_as, shows_idle, undelivered_shows}
+use Rattle.amo_live.specs.Shown.{told_ack}
 use Rattle.amo_live.proofs.service.Service.deliver.Goals as goal
 
 pub returns-clause-shown : goal.returns-clause-shown
 returns-clause-shown g c =
     let pass : c.arrive.new.self.host.pass ≡ c.deliver_anew.new.self.host.pass = search rules in
     let same : shown_by c.arrive.new.self ≡ shown_by c.tell_ack.new.self = search rules in
+    let spoken : spelling_of c.tell_settled.new.self ≡ spelling_of c.args.self.now = search rules in
     let spelling : spelling_of c.arrive.new.self ≡ spelling_of c.args.self.now = search rules in
     let did = c.in_ok-stream.ensures.delivered in
     let shown : shown_by c.deliver_anew.new.self ≡ shown_by c.args.self.now = search rules in
     let spelt : spelling_of c.deliver_anew.new.self ≡ spelling_of c.args.self.now = search rules in
-    delivered_then c.args.self.now.host c.deliver_anew.new.self.host c.go_on.result (spelling_of c.args.self.now) (spelling_of c.arrive.new.self) c.args.bytes.now (packet_of c.in-Ok.packet) did.0 c.in-Some.stream c.in-Some.mode c.told_by_ack.result
+    delivered_then c.args.self.now.host c.deliver_anew.new.self.host c.go_on.result (spelling_of c.args.self.now) (spelling_of c.arrive.new.self) c.args.bytes.now (packet_of c.in-Ok.packet) did.0 c.in-Some.stream c.in-Some.mode (is_in_doubt c.deliver_anew.new.self c.in-Some.stream && begins_to_send c.mode_of-before.result c.in-Some.mode) c.told_by_ack.result
     c.arrive.new.self.host.pass c.go_on.new.self.host.pass (shown_by c.args.self.now) (shown_by c.arrive.new.self) (shown_by c.go_on.new.self) c.in-Ok.ensures.found (rw c.in-Some.is at did.1)
-    (λ some. let known = c.told_by_ack.ensures some in (rw known.0 at c.mode_of-before.ensures, known.1)) pass (same ∙ rw (shown, spelt) at c.in_ok-tell_ack.ensures.told) spelling
+    (λ some. let known = said_to_send (is_in_doubt c.deliver_anew.new.self c.in-Some.stream) c.mode_of-before.result c.in-Some.mode some in (rw known.0 at c.mode_of-before.ensures, known.1))
+    (λ some. let known = c.told_by_ack.ensures some in (rw known.0 at c.mode_of-before.ensures, known.1)) pass (same ∙ (rw spoken at c.in_ok-tell_ack.ensures.told ∙ ap (told_ack (spelling_of c.args.self.now) c.in-Ok.packet.stream (packet_of c.in-Ok.packet).body c.told_by_ack.result) (rw (shown, spelt) at c.in_ok-tell_settled.ensures.told))) spelling
     c.go_on.ensures.shown
 
 pub returns-clause-words : goal.returns-clause-words

@@ -53,3 +53,8 @@ messages-init g c =
       spelling = refl;
       words = bears_none (words_of old) (words_of old) old.host.pass old.host.pass refl refl;
     }
+
+pub returns-then-has_enough-clause-shown : goal.returns-then-has_enough-clause-shown
+returns-then-has_enough-clause-shown g c =
+    let old = c.args.self.now in
+    shows_idle (spelling_of old) old.host.pass old.host.pass (shown_by old) (shown_by old) refl refl
