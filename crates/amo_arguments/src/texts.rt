@@ -127,10 +127,18 @@ Output, a line for each message as it is put, and one more, in the same order of
   STREAM yes     it was got
   STREAM no      a host crashed: it may or may not have been got
 
+A start tells first what became of those messages of earlier lives whose answer the journal lacks:
+  STREAM gone TEXT       it was not got, and will not be
+  STREAM unknown TEXT    it was sent, and may have been got, or be got yet
+  STREAM settled         what was unknown on this stream was got by now, or will not be: a message was
+                         sent behind it. That is told once that is so, and again by the next start
+
 With --json lines come as objects, in any order of their members, and answers are objects:
   {\"stream\":1,\"id\":\"a\",\"text\":\"TEXT\"}            or \"hex\":\"HEX\" in place of the text
   {\"stream\":1,\"id\":\"a\",\"event\":\"ok\",\"line\":12}   it was put, by that line of the journal; or yes, no
   {\"input\":3,\"id\":\"a\",\"event\":\"refused\",\"reason\":\"..\"}   line 3 was not put
+  {\"stream\":1,\"event\":\"unknown\",\"line\":12,\"text\":\"TEXT\"}   of an earlier life; or gone
+  {\"stream\":1,\"event\":\"settled\"}
 An id may be left out. It has at most 64 bytes, and stands in each answer to its line in this life.
 
 At the end of standard input, and once `amo stop FILE` asks it to, the host takes no more lines, and
@@ -152,8 +160,9 @@ answer by then may or may not be got. `amo audit` takes the journals of both hos
 loses lines that the disk has not: --sync waits for it.
 
 Where FILE is 64 MiB long, or as long as --piece says, it gets the next number, as FILE.000001, and
-FILE is begun anew. A start reads its end alone. `amo audit` takes FILE with all its pieces. FILE.lives
-belongs to it: what new identifiers are made of stands there.
+FILE is begun anew. A start reads the lines of which nothing was told, and FILE.told says which those
+are. `amo audit` takes FILE with all its pieces. FILE.lives belongs to it: what new identifiers are made
+of stands there.
 
 Status:
   0  all is answered
@@ -168,7 +177,8 @@ Status:
      `amo: FILE: it does not go on where the piece before it ends: ..`, `amo: FILE: the piece before it
      is of another version: ..`: its pieces are not those of one journal, and were not changed
      `amo: FILE: it is of version 1, ..`: it has no lines for batches, and was not changed
-     `amo: FILE: CAUSE`, `amo: the journal is full`: the file, or the disk
+     `amo: FILE: CAUSE`, `amo: the journal is full`: the file, or the disk; where it is FILE.told, what
+     it had to tell was told, and no line was taken
      `amo: standard input failed: ..`, `amo: standard output failed: ..`, or `.. is closed`
   5  --wait is over, and something is still on its way: how much, is told
 
