@@ -1,5 +1,5 @@
 -- Which streams are in doubt.
-use Rattle.std.proofs.Common.{◌≡◌, ◌∙◌, ℕ, zero, suc, ◌<◌, ◌≤◌, ◌-◌, Bool, false, Option, Some, None, List, map, length, get_or, set, sym, ap, subst, arith, Bor}
+use Rattle.std.proofs.Common.{◌≡◌, ◌∙◌, ℕ, zero, suc, ◌<◌, ◌≤◌, ◌-◌, false, Option, Some, None, List, map, length, get_or, set, sym, ap, subst, arith, Bor}
 use Rattle.std.specs.Option.{IfSome, MatchOption, option_copied}
 use Rattle.std.proofs.lemmas.List.{get_or-map, get_or-set_same, length-set}
 use Rattle.amo_live.specs.declared.service.Lane.{Lane}

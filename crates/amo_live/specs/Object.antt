@@ -2,14 +2,14 @@
 use Rattle.std.specs.Prelude.{◌≡◌, ◌≢◌, ℕ, ◌<◌, ◌≤◌, ◌^◌, Bool, true, false, ◌&&◌, ◌||◌, nat_le, if◌then◌else◌, ◌⊎◌, Option, Some, None, option_and_then, Result, Ok, Err, List, codes, length}
 use Rattle.std.specs.Fmt.{decimal}
 use Rattle.std.specs.Str.{IsUtf8, bytes_eq}
-use Rattle.json.specs.Json.{Json, null, boolean, number, string, array, object, Members, no_members, member, document}
+use Rattle.json.specs.Json.{Json, Members, no_members, member, document}
 use Rattle.json.specs.Find.{get, as_number, as_object, as_str}
 use Rattle.json.specs.Strict.{HasUniqueKeys}
 use Rattle.amo_packet.specs.Stream.{IsStream}
 use Rattle.amo_text.specs.Hexadecimal.{hex}
 use Rattle.amo_text.specs.Message.{IsMessage}
 use Rattle.amo_live.specs.declared.lines.LineFault.{LineFault}
-use Rattle.amo_live.specs.declared.lines.LineFault.TheVariants.{NoStream, Stream, TooLong, NoHex, TooLongLine, NoJson, NoString, NoObject, Twice, Unknown, NoText, OneMessage, NoMessage, NoId, LongId, NoNumber}
+use Rattle.amo_live.specs.declared.lines.LineFault.TheVariants.{Stream, TooLong, NoHex, TooLongLine, NoJson, NoString, NoObject, Twice, Unknown, NoText, OneMessage, NoMessage, NoId, LongId, NoNumber}
 
 -- a name that a client gives to its line, if it gives one
 abbrev pub Name : Type 0

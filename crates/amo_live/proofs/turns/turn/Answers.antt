@@ -1,4 +1,4 @@
-use Rattle.std.proofs.Common.{◌≡◌, ◌∙◌, [], refl, rules, sym, ap, subst}
+use Rattle.std.proofs.Common.{◌≡◌, ◌∙◌, [], refl, rules, ap}
 use Rattle.std.specs.Io.KnownBytes.{Appends}
 use Rattle.amo_live.specs.Client.{Waits, moment}
 use Rattle.amo_live.specs.Host.{HostState}

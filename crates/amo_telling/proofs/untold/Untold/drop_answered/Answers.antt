@@ -1,4 +1,4 @@
-use Rattle.std.proofs.Common.{ℕ, List, ◌∙◌, get_or, sym, subst, take}
+use Rattle.std.proofs.Common.{◌∙◌, get_or, sym, subst, take}
 use Rattle.std.proofs.lemmas.List.{take_more}
 use Rattle.amo_telling.specs.Untold.{Drops}
 use Rattle.amo_telling.proofs.Untolds.{dropped_more}

@@ -1,7 +1,5 @@
-use Rattle.std.proofs.Common.{List, subst}
-use Rattle.amo_world.specs.declared.event.Event.{Event}
+use Rattle.std.proofs.Common.{subst}
 use Rattle.amo_outcomes.specs.declared.sender_outcome.SenderOutcome.{SenderOutcome}
-use Rattle.amo_outcomes.specs.SenderFollowers.{HaveFollowedSenders}
 use Rattle.amo_outcomes.specs.SenderOutcome.{HasSenderOutcome}
 use Rattle.amo_telling.proofs.untold.Untold.is_sent.Goals as goal
 

@@ -1,4 +1,4 @@
-use Rattle.std.proofs.Common.{◌≡◌, ◌⊎◌, ◌++◌, ◌∷◌, [], ℕ, List, inl, inr, refl, sym, subst, ap, ◌∙◌}
+use Rattle.std.proofs.Common.{ℕ, List, refl, sym, subst, ap, ◌∙◌}
 use Rattle.std.specs.List.{Contains}
 use Rattle.amo_telling.proofs.Untolds.{one_more_sent}
 use Rattle.amo_telling.proofs.untold.Untold.sent_before.Goals.{then-is_sent+in_ok-push, else-is_sent}

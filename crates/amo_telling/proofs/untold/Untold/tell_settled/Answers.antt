@@ -1,4 +1,4 @@
-use Rattle.std.proofs.Common.{◌≡◌, rules, ap, sym, subst, ◌∙◌}
+use Rattle.std.proofs.Common.{rules, ap, sym, subst, ◌∙◌}
 use Rattle.std.proofs.lemmas.List.Elements.{Contains-get_or}
 use Rattle.amo_telling.proofs.Settling.{SettledSoFar, one_more_settled}
 use Rattle.amo_telling.proofs.untold.Untold.tell_settled.Goals.{then-has_sent+in_ok-push_settled, else-has_sent}

@@ -1,4 +1,4 @@
-use Rattle.std.proofs.Common.{◌≡◌, ◌∙◌, ◌++◌, ◌+◌, ◌∷◌, [], ap}
+use Rattle.std.proofs.Common.{◌∙◌, ◌++◌, ◌+◌, ◌∷◌, [], ap}
 use Rattle.amo_telling.proofs.Settling.{one_line_more}
 use Rattle.amo_telling.proofs.untold.Untold.tell_settled_by_now.Goals.{then-is_settled+in_ok-push_settled, else-is_settled}
 use Rattle.amo_telling.proofs.untold.Untold.tell_settled_by_now.Goals as goal
