@@ -1,4 +1,4 @@
-use Rattle.std.proofs.Common.{◌∙◌}
+use Rattle.std.proofs.Common.{◌≡◌, ◌∙◌}
 use Rattle.amo_text.proofs.Written.{Appends-more, within_rest}
 use Rattle.amo_disk.proofs.gathered.Gathered.hand_on.Goals as goal
 
