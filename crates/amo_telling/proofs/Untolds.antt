@@ -1,15 +1,16 @@
 -- Puts that are kept, and those that were answered.
 use Rattle.std.proofs.Common.{◌≡◌, ◌∙◌, ◌≢◌, ◌⊎◌, ℕ, ◌+◌, ◌-◌, ◌^◌, ◌≤◌, ◌<◌, Bool, true, false, Option, None, Some, List, [], ◌∷◌, ◌++◌, length, length-append, get_or, replicate, reverse, set, refl, sym, ap, subst, arith, inl, inr, eqb, get_or-set_other}
 use Rattle.std.specs.Prelude.{◌==◌, ◌&&◌}
-use Rattle.std.specs.List.{Contains, flat_map}
+use Rattle.std.specs.List.{All, Contains, flat_map}
+use Rattle.std.specs.Option.{is_some}
 use Rattle.std.specs.Ordering.{nat_cmp}
 use Rattle.std.specs.BTreeMap.{get, is_at}
 use Rattle.std.specs.Map.{lookup}
 use Rattle.std.proofs.lemmas.Bool.{eqb-true}
 use Rattle.std.proofs.lemmas.Bool.Decides.{eqb_tells, nat_tests}
-use Rattle.std.proofs.lemmas.List.Elements.{Contains-append_left, Contains-append_right, Contains-push, Contains-push_cases}
+use Rattle.std.proofs.lemmas.List.Elements.{All-cons, All-contains, All-nil, All-weaker, Contains-append_left, Contains-append_right, Contains-push, Contains-push_cases}
 use Rattle.std.proofs.lemmas.Grind.{get_or-set_at}
-use Rattle.std.proofs.lemmas.List.{get_or-replicate, length-replicate, length-reverse, length-set}
+use Rattle.std.proofs.lemmas.List.{get_or-replicate, length-replicate, length-set, reverse-append}
 use Rattle.std.proofs.lemmas.Option.{same_Some}
 use Rattle.amo_outcomes.specs.declared.sender_followers.SenderFollowers.{SenderFollowers}
 use Rattle.amo_outcomes.specs.declared.sender_outcome.SenderOutcome.TheVariants.{Unknown}
@@ -22,7 +23,6 @@ use Rattle.amo_world.specs.declared.event.Event.{Event}
 use Rattle.amo_world.specs.History.{IsRight}
 use Rattle.amo_world.specs.Stream.{IsStream}
 use Rattle.amo_outcomes.specs.SenderFollowers.{HaveFollowedSenders}
-use Rattle.amo_audit.proofs.Greedy.{same_head, same_tail}
 use Rattle.amo_telling.specs.declared.put.Put.{Put}
 use Rattle.amo_telling.specs.declared.untold.Untold.{Untold}
 use Rattle.amo_telling.specs.Outcomes.{is_put, one_if, puts_in}
@@ -31,21 +31,29 @@ use Rattle.amo_text.proofs.Readings.{IsReadTo}
 use Rattle.amo_text.proofs.Readings as readings
 use Rattle.amo_journal.specs.declared.lines.Lines.{Lines}
 use Rattle.amo_journal.specs.declared.numbered.Numbered.{Numbered}
+use Rattle.amo_journal.specs.declared.version.Version.{Version}
 use Rattle.amo_journal.specs.Journal.{InRange, fields_of, line_text, numbered}
 use Rattle.amo_journal.proofs.Fields.{IsLine-fields_of}
 use Rattle.amo_telling.specs.declared.unanswered.Progress.{Progress}
+use Rattle.amo_telling.specs.declared.unanswered.Progress.TheVariants.{Gap, Malformed, Whole}
 use Rattle.amo_telling.specs.Unanswered.{StopsBy, is_ack}
-use Rattle.amo_telling.specs.Untold.{Drops, GoesOn, HasRead, IsAnswered, IsAnsweredBehind, IsAnsweredBy, IsKept, IsPutAt, IsSent, IsSentHere}
-use Rattle.amo_telling.proofs.Counted.{few_puts, turned_more}
+use Rattle.amo_telling.specs.Untold.{Drops, GoesOn, HasRead, HasTaken, IsAnswered, IsAnsweredBehind, IsAnsweredBy, IsKept, IsNotBefore, IsNotNext, IsPutAt, IsSent, IsSentHere, KeepsPut, Recalls, Takes, events_of}
 use Rattle.amo_telling.proofs.SoFar.{numbered_push}
 
--- one event more leaves a put where it is
-pub later_on : (first : ℕ) (past : List Event) (e : Event) (number stream place : ℕ) (m : List ℕ) → IsPutAt first past number stream place m → IsPutAt first (e ∷ past) number stream place m
-later_on first past e number stream place m at = record {
-  later = e ∷ at.later;
-  e = at.e;
+-- the first of two lines, and those behind it
+same_first : (x y : Numbered) (xs ys : List Numbered) → x ∷ xs ≡ y ∷ ys → x ≡ y
+same_first x y xs ys e = cc
+
+same_others : (x y : Numbered) (xs ys : List Numbered) → x ∷ xs ≡ y ∷ ys → xs ≡ ys
+same_others x y xs ys e = cc
+
+-- one line more leaves a put where it is
+pub later_on : (past : List Numbered) (line : Numbered) (number stream place : ℕ) (m : List ℕ) → IsPutAt past number stream place m → IsPutAt (line ∷ past) number stream place m
+later_on past line number stream place m at = record {
+  later = line ∷ at.later;
+  line = at.line;
   before = at.before;
-  splits = ap (λ (t : List Event). e ∷ t) at.splits;
+  splits = ap (λ (t : List Numbered). line ∷ t) at.splits;
   number_is = at.number_is;
   stream_is = at.stream_is;
   place_is = at.place_is;
@@ -54,41 +62,42 @@ later_on first past e number stream place m at = record {
 }
 
 -- a put's line is one of those that were read
-pub line_is_within : (first : ℕ) (past : List Event) (number stream place : ℕ) (m : List ℕ) → IsPutAt first past number stream place m → number + 1 ≤ first + length past
-line_is_within first past number stream place m at =
-    let long = ap length at.splits ∙ length-append at.later (at.e ∷ at.before) in
-    let here = at.number_is in
-    omega (arith, long, here)
+pub put_before : (next : ℕ) (past : List Numbered) (number stream place : ℕ) (m : List ℕ) → All (λ (line : Numbered). line.number < next) past → IsPutAt past number stream place m → number < next
+put_before next past number stream place m before at =
+    let within = subst (All (λ (line : Numbered). line.number < next)) at.splits before in
+    let here = All-contains (λ (line : Numbered). line.number < next) (at.later ++ at.line ∷ at.before) at.line within (Contains-append_right at.later (at.line ∷ at.before) at.line (0, omega arith, refl)) in
+    let same = at.number_is in
+    omega (arith, here, same)
 
--- the newest event is a put
-pub record IsNewest (first : ℕ) (past : List Event) (e : Event) (number stream place : ℕ) (m : List ℕ) : Type 0 where
-  pub number_is : number ≡ first + length past
-  pub stream_is : e.stream ≡ stream
-  pub place_is : puts_in stream past ≡ place
-  pub act_is : e.act ≡ act.Put m
-  pub reply_is : e.reply ≡ reply.Ok
+-- the newest line is that of a put
+pub record IsNewest (past : List Numbered) (line : Numbered) (number stream place : ℕ) (m : List ℕ) : Type 0 where
+  pub number_is : line.number ≡ number
+  pub stream_is : line.event.stream ≡ stream
+  pub place_is : puts_in stream (events_of past) ≡ place
+  pub act_is : line.event.act ≡ act.Put m
+  pub reply_is : line.event.reply ≡ reply.Ok
 
--- a put is the newest event, or was one before
-pub newest_or_before : (first : ℕ) (past : List Event) (e : Event) (number stream place : ℕ) (m : List ℕ) → IsPutAt first (e ∷ past) number stream place m
-    → IsNewest first past e number stream place m ⊎ IsPutAt first past number stream place m
-newest_or_before first past e number stream place m at = by at.later at.splits
+-- a put is on the newest line, or was there before
+pub newest_or_before : (past : List Numbered) (line : Numbered) (number stream place : ℕ) (m : List ℕ) → IsPutAt (line ∷ past) number stream place m
+    → IsNewest past line number stream place m ⊎ IsPutAt past number stream place m
+newest_or_before past line number stream place m at = by at.later at.splits
   where
-    by : (later : List Event) → e ∷ past ≡ later ++ at.e ∷ at.before → IsNewest first past e number stream place m ⊎ IsPutAt first past number stream place m
+    by : (later : List Numbered) → line ∷ past ≡ later ++ at.line ∷ at.before → IsNewest past line number stream place m ⊎ IsPutAt past number stream place m
     by [] is =
-        let head : e ≡ at.e = same_head e at.e past at.before is in
-        let tail : past ≡ at.before = same_tail e at.e past at.before is in
+        let head : line ≡ at.line = same_first line at.line past at.before is in
+        let tail : past ≡ at.before = same_others line at.line past at.before is in
         inl (record {
-          number_is = at.number_is ∙ ap (λ (t : List Event). first + length t) (sym tail);
-          stream_is = ap (λ (t : Event). t.stream) head ∙ at.stream_is;
-          place_is = ap (λ (t : List Event). puts_in stream t) tail ∙ at.place_is;
-          act_is = ap (λ (t : Event). t.act) head ∙ at.act_is;
-          reply_is = ap (λ (t : Event). t.reply) head ∙ at.reply_is;
+          number_is = ap (λ (t : Numbered). t.number) head ∙ at.number_is;
+          stream_is = ap (λ (t : Numbered). t.event.stream) head ∙ at.stream_is;
+          place_is = ap (λ (t : List Numbered). puts_in stream (events_of t)) tail ∙ at.place_is;
+          act_is = ap (λ (t : Numbered). t.event.act) head ∙ at.act_is;
+          reply_is = ap (λ (t : Numbered). t.event.reply) head ∙ at.reply_is;
         })
     by (x ∷ later) is = inr (record {
       later = later;
-      e = at.e;
+      line = at.line;
       before = at.before;
-      splits = same_tail e x past (later ++ at.e ∷ at.before) is;
+      splits = same_others line x past (later ++ at.line ∷ at.before) is;
       number_is = at.number_is;
       stream_is = at.stream_is;
       place_is = at.place_is;
@@ -96,11 +105,11 @@ newest_or_before first past e number stream place m at = by at.later at.splits
       reply_is = at.reply_is;
     })
 
--- the newest event is where it is
-pub newest_at : (first : ℕ) (past : List Event) (e : Event) (number stream place : ℕ) (m : List ℕ) → IsNewest first past e number stream place m → IsPutAt first (e ∷ past) number stream place m
-newest_at first past e number stream place m is = record {
+-- the newest line is where it is
+pub newest_at : (past : List Numbered) (line : Numbered) (number stream place : ℕ) (m : List ℕ) → IsNewest past line number stream place m → IsPutAt (line ∷ past) number stream place m
+newest_at past line number stream place m is = record {
   later = [];
-  e = e;
+  line = line;
   before = past;
   splits = refl;
   number_is = is.number_is;
@@ -150,22 +159,19 @@ counts_one counts past e place is small put counted = record {
         let none = told other false f in
         omega (arith, there, before, none)
 
--- there are few of them
-pub few_of : (counts : List ℕ) (past : List Event) (place : ℕ) → place < 256 → Counts counts past → get_or counts place 0 ≤ length past
-few_of counts past place small counted =
-    let is = counted.puts place small in
-    let few = few_puts (place + 1) past in
-    omega (arith, is, few)
-
 -- nothing was read
 pub nothing_read : (untold : Untold) (first : ℕ) → HaveFollowedSenders untold.followers [] → untold.counts ≡ replicate 256 0 → untold.puts.entries ≡ [] → untold.next ≡ first
     → HasRead untold first []
 nothing_read untold first followed zeros empty next = record {
-  followed = λ right. followed;
-  counted = subst (λ (t : List ℕ). Counts t []) (sym zeros) (record { each = length-replicate {A = ℕ} 256 0; puts = λ place small. get_or-replicate {A = ℕ} 256 place 0 0 small });
-  next_is = omega (arith, next);
-  kept = λ number put is. absurd (no put (ap (lookup (is_at (nat_cmp number))) (sym empty) ∙ is));
-  all = λ number stream place m at. let long = ap length at.splits ∙ length-append at.later (at.e ∷ at.before) in absurd (omega (arith, long));
+  taken = record {
+    followed = λ right. followed;
+    counted = subst (λ (t : List ℕ). Counts t []) (sym zeros) (record { each = length-replicate {A = ℕ} 256 0; puts = λ place small. get_or-replicate {A = ℕ} 256 place 0 0 small });
+    kept = λ number put is. absurd (no put (ap (lookup (is_at (nat_cmp number))) (sym empty) ∙ is));
+    all = λ number stream place m at. let long = ap length at.splits ∙ length-append at.later (at.line ∷ at.before) in absurd (omega (arith, long));
+  };
+  next_is = next;
+  before = All-nil (λ (line : Numbered). line.number < first);
+  few = λ stream. omega arith;
 }
   where
     no : (put : Put) → None ≡ Some put → ⊥
@@ -263,10 +269,10 @@ dropped_more old mid new sent one same before drop number = by (before number) (
     by (inr (none, here, was)) (inl now) = inr (now ∙ none, Contains-append_left sent (one ∷ []) number here, was)
     by (inr (none, here, was)) (inr (none', here', was')) = inr (none', Contains-append_left sent (one ∷ []) number here, was)
 
--- What is kept behind one event more. Some puts are dropped first, which an ack answered by it.
-module _ (old : Untold) (now : SenderFollowers) (first : ℕ) (past : List Event) (e : Event) (sent : List ℕ) (have : HasRead old first past)
-    (asked : (number : ℕ) → Contains sent number → IsSentHere old e.act number)
-    (follows : (past : List Event) → IsRight (e ∷ past) → HaveFollowedSenders old.followers past → HaveFollowedSenders now (e ∷ past))
+-- What is kept behind one line more. Some puts are dropped first, which an ack answered by it.
+module _ (old : Untold) (now : SenderFollowers) (past : List Numbered) (line : Numbered) (sent : List ℕ) (have : HasTaken old past)
+    (asked : (number : ℕ) → Contains sent number → IsSentHere old line.event.act number)
+    (follows : (past : List Event) → IsRight (line.event ∷ past) → HaveFollowedSenders old.followers past → HaveFollowedSenders now (line.event ∷ past))
     (mid : ℕ → Option Put)
     (drops : (number : ℕ) → (mid number ≡ get nat_cmp old.puts number) ⊎ ((mid number ≡ None) × Contains sent number × IsAnsweredBehind old now number)) where
   -- a put that is kept is one that was kept
@@ -280,57 +286,53 @@ module _ (old : Untold) (now : SenderFollowers) (first : ℕ) (past : List Event
           no : None ≡ Some put → ⊥
           no e = cc
 
-  pub kept_behind : (number : ℕ) (put : Put) → mid number ≡ Some put → IsPutAt first (e ∷ past) number put.stream put.place put.message.items
-  kept_behind number put is = later_on first past e number put.stream put.place put.message.items (have.kept number put (dropped_none number put is))
+  pub kept_behind : (number : ℕ) (put : Put) → mid number ≡ Some put → IsPutAt (line ∷ past) number put.stream put.place put.message.items
+  kept_behind number put is = later_on past line number put.stream put.place put.message.items (have.kept number put (dropped_none number put is))
 
   -- one that was dropped was answered
-  answered_now : (number : ℕ) (put : Put) → get nat_cmp old.puts number ≡ Some put → Contains sent number → IsAnsweredBehind old now number → IsRight (e ∷ past)
-      → IsAnsweredBy put.stream past e put.place
+  answered_now : (number : ℕ) (put : Put) → get nat_cmp old.puts number ≡ Some put → Contains sent number → IsAnsweredBehind old now number → IsRight (events_of (line ∷ past))
+      → IsAnsweredBy put.stream (events_of past) line.event put.place
   answered_now number put is here answered right =
       let (is_one, (sender, was, told)) = asked number here in
       let (other, same, (outcome, answer, told')) = answered in
       let before : sender ≡ put = same_Some sender put (sym was ∙ is) in
       let behind : other ≡ put = same_Some other put (sym same ∙ is) in (
         is_one,
-        subst (λ (p : Put). HasSenderOutcome p.stream past p.place (Unknown false)) before (told past (have.followed right.1)),
-        (outcome, subst (λ (p : Put). HasSenderOutcome p.stream (e ∷ past) p.place outcome) behind (told' (e ∷ past) (follows past right (have.followed right.1))), answer),
+        subst (λ (p : Put). HasSenderOutcome p.stream (events_of past) p.place (Unknown false)) before (told (events_of past) (have.followed right.1)),
+        (outcome, subst (λ (p : Put). HasSenderOutcome p.stream (events_of (line ∷ past)) p.place outcome) behind (told' (events_of (line ∷ past)) (follows (events_of past) right (have.followed right.1))), answer),
       )
 
-  pub all_behind : (number stream place : ℕ) (m : List ℕ) → IsPutAt first past number stream place m
-      → IsKept mid number stream place m ⊎ (IsRight (e ∷ past) → IsAnswered stream (e ∷ past) place)
+  pub all_behind : (number stream place : ℕ) (m : List ℕ) → IsPutAt past number stream place m
+      → IsKept mid number stream place m ⊎ (IsRight (events_of (line ∷ past)) → IsAnswered stream (events_of (line ∷ past)) place)
   all_behind number stream place m at = by_kept (have.all number stream place m at)
     where
       by_drop : (put : Put) → get nat_cmp old.puts number ≡ Some put → put.stream ≡ stream → put.place ≡ place → put.message.items ≡ m
           → (mid number ≡ get nat_cmp old.puts number) ⊎ ((mid number ≡ None) × Contains sent number × IsAnsweredBehind old now number)
-          → IsKept mid number stream place m ⊎ (IsRight (e ∷ past) → IsAnswered stream (e ∷ past) place)
+          → IsKept mid number stream place m ⊎ (IsRight (events_of (line ∷ past)) → IsAnswered stream (events_of (line ∷ past)) place)
       by_drop put is own here message (inl same) = inl (put, same ∙ is, own, here, message)
       by_drop put is own here message (inr (none, named, answered)) =
-          inr (λ right. inl (subst (λ n. IsAnsweredBy n past e place) own (subst (λ n. IsAnsweredBy put.stream past e n) here (answered_now number put is named answered right))))
+          inr (λ right. inl (subst (λ n. IsAnsweredBy n (events_of past) line.event place) own (subst (λ n. IsAnsweredBy put.stream (events_of past) line.event n) here (answered_now number put is named answered right))))
 
-      by_kept : IsKept (get nat_cmp old.puts) number stream place m ⊎ (IsRight past → IsAnswered stream past place)
-          → IsKept mid number stream place m ⊎ (IsRight (e ∷ past) → IsAnswered stream (e ∷ past) place)
+      by_kept : IsKept (get nat_cmp old.puts) number stream place m ⊎ (IsRight (events_of past) → IsAnswered stream (events_of past) place)
+          → IsKept mid number stream place m ⊎ (IsRight (events_of (line ∷ past)) → IsAnswered stream (events_of (line ∷ past)) place)
       by_kept (inl (put, is, own, here, message)) = by_drop put is own here message (drops number)
       by_kept (inr was) = inr (λ right. inr (was right.1))
 
-  module _ (new : Untold) (followers_is : new.followers ≡ now) (next_is : new.next ≡ old.next + 1) where
-    followed_behind : IsRight (e ∷ past) → HaveFollowedSenders new.followers (e ∷ past)
-    followed_behind right = subst (λ (f : SenderFollowers). HaveFollowedSenders f (e ∷ past)) (sym followers_is) (follows past right (have.followed right.1))
-
-    number_behind : new.next ≡ first + length (e ∷ past)
-    number_behind = let was = have.next_is in omega (arith, was, next_is)
+  module _ (new : Untold) (followers_is : new.followers ≡ now) where
+    followed_behind : IsRight (events_of (line ∷ past)) → HaveFollowedSenders new.followers (events_of (line ∷ past))
+    followed_behind right = subst (λ (f : SenderFollowers). HaveFollowedSenders f (events_of (line ∷ past))) (sym followers_is) (follows (events_of past) right (have.followed right.1))
 
     -- no put
-    pub read_other : is_put e.act e.reply ≡ false → new.counts ≡ old.counts → ((number : ℕ) → get nat_cmp new.puts number ≡ mid number) → HasRead new first (e ∷ past)
+    pub read_other : is_put line.event.act line.event.reply ≡ false → new.counts ≡ old.counts → ((number : ℕ) → get nat_cmp new.puts number ≡ mid number) → HasTaken new (line ∷ past)
     read_other not counts puts = record {
       followed = followed_behind;
-      counted = subst (λ (t : List ℕ). Counts t (e ∷ past)) (sym counts) (counts_same old.counts past e not have.counted);
-      next_is = number_behind;
+      counted = subst (λ (t : List ℕ). Counts t (events_of (line ∷ past))) (sym counts) (counts_same old.counts (events_of past) line.event not have.counted);
       kept = λ number put is. kept_behind number put (sym (puts number) ∙ is);
-      all = λ number stream place m at. by number stream place m (newest_or_before first past e number stream place m at);
+      all = λ number stream place m at. by number stream place m (newest_or_before past line number stream place m at);
     }
       where
-        untrue : (m : List ℕ) → e.act ≡ act.Put m → e.reply ≡ reply.Ok → ⊥
-        untrue m is_act is_reply = false_is (sym not ∙ (ap (λ (a : Act). is_put a e.reply) is_act ∙ ap (is_put (act.Put m)) is_reply))
+        untrue : (m : List ℕ) → line.event.act ≡ act.Put m → line.event.reply ≡ reply.Ok → ⊥
+        untrue m is_act is_reply = false_is (sym not ∙ (ap (λ (a : Act). is_put a line.event.reply) is_act ∙ ap (is_put (act.Put m)) is_reply))
           where
             false_is : false ≡ true → ⊥
             false_is e = cc
@@ -338,151 +340,301 @@ module _ (old : Untold) (now : SenderFollowers) (first : ℕ) (past : List Event
         kept_so : (number stream place : ℕ) (m : List ℕ) → IsKept mid number stream place m → IsKept (get nat_cmp new.puts) number stream place m
         kept_so number stream place m (put, is, own, here, message) = (put, puts number ∙ is, own, here, message)
 
-        by : (number stream place : ℕ) (m : List ℕ) → IsNewest first past e number stream place m ⊎ IsPutAt first past number stream place m
-            → IsKept (get nat_cmp new.puts) number stream place m ⊎ (IsRight (e ∷ past) → IsAnswered stream (e ∷ past) place)
+        by : (number stream place : ℕ) (m : List ℕ) → IsNewest past line number stream place m ⊎ IsPutAt past number stream place m
+            → IsKept (get nat_cmp new.puts) number stream place m ⊎ (IsRight (events_of (line ∷ past)) → IsAnswered stream (events_of (line ∷ past)) place)
         by number stream place m (inl newest) = absurd (untrue m newest.act_is newest.reply_is)
         by number stream place m (inr before) = map_left (all_behind number stream place m before)
           where
-            map_left : IsKept mid number stream place m ⊎ (IsRight (e ∷ past) → IsAnswered stream (e ∷ past) place)
-                → IsKept (get nat_cmp new.puts) number stream place m ⊎ (IsRight (e ∷ past) → IsAnswered stream (e ∷ past) place)
+            map_left : IsKept mid number stream place m ⊎ (IsRight (events_of (line ∷ past)) → IsAnswered stream (events_of (line ∷ past)) place)
+                → IsKept (get nat_cmp new.puts) number stream place m ⊎ (IsRight (events_of (line ∷ past)) → IsAnswered stream (events_of (line ∷ past)) place)
             map_left (inl kept) = inl (kept_so number stream place m kept)
             map_left (inr was) = inr was
 
     -- a put, which is kept
-    module _ (m : List ℕ) (act_is : e.act ≡ act.Put m) (reply_is : e.reply ≡ reply.Ok) (place : ℕ) (place_is : place + 1 ≡ e.stream) (small : place < 256)
+    module _ (m : List ℕ) (act_is : line.event.act ≡ act.Put m) (reply_is : line.event.reply ≡ reply.Ok) (place : ℕ) (place_is : place + 1 ≡ line.event.stream) (small : place < 256)
         (counts : new.counts ≡ set old.counts place (get_or old.counts place 0 + 1))
-        (kept : IsKept (get nat_cmp new.puts) old.next e.stream (get_or old.counts place 0) m)
-        (others : (number : ℕ) → number ≢ old.next → get nat_cmp new.puts number ≡ mid number) where
-      puts_is : get_or old.counts place 0 ≡ puts_in e.stream past
-      puts_is = subst (λ n. get_or old.counts place 0 ≡ puts_in n past) place_is (have.counted.puts place small)
+        (kept : IsKept (get nat_cmp new.puts) line.number line.event.stream (get_or old.counts place 0) m)
+        (others : (number : ℕ) → number ≢ line.number → get nat_cmp new.puts number ≡ mid number)
+        (free : get nat_cmp old.puts line.number ≡ None) where
+      puts_is : get_or old.counts place 0 ≡ puts_in line.event.stream (events_of past)
+      puts_is = subst (λ n. get_or old.counts place 0 ≡ puts_in n (events_of past)) place_is (have.counted.puts place small)
 
-      is_one : is_put e.act e.reply ≡ true
-      is_one = ap (λ (a : Act). is_put a e.reply) act_is ∙ ap (is_put (act.Put m)) reply_is
+      is_one : is_put line.event.act line.event.reply ≡ true
+      is_one = ap (λ (a : Act). is_put a line.event.reply) act_is ∙ ap (is_put (act.Put m)) reply_is
 
       -- it is the newest
-      newest_kept : (number : ℕ) (put : Put) → number ≡ old.next → get nat_cmp new.puts number ≡ Some put → IsPutAt first (e ∷ past) number put.stream put.place put.message.items
+      newest_kept : (number : ℕ) (put : Put) → number ≡ line.number → get nat_cmp new.puts number ≡ Some put → IsPutAt (line ∷ past) number put.stream put.place put.message.items
       newest_kept number put here is =
           let (own, at, own_stream, own_place, own_message) = kept in
           let same : own ≡ put = same_Some own put (sym at ∙ (ap (get nat_cmp new.puts) (sym here) ∙ is)) in
-          subst (λ (p : Put). IsPutAt first (e ∷ past) number p.stream p.place p.message.items) same
-          (newest_at first past e number own.stream own.place own.message.items (record {
-            number_is = here ∙ have.next_is;
+          subst (λ (p : Put). IsPutAt (line ∷ past) number p.stream p.place p.message.items) same
+          (newest_at past line number own.stream own.place own.message.items (record {
+            number_is = sym here;
             stream_is = sym own_stream;
-            place_is = ap (λ n. puts_in n past) own_stream ∙ (sym puts_is ∙ sym own_place);
+            place_is = ap (λ n. puts_in n (events_of past)) own_stream ∙ (sym puts_is ∙ sym own_place);
             act_is = act_is ∙ ap act.Put (sym own_message);
             reply_is = reply_is;
           }))
 
-      by_newest : (number stream place' : ℕ) (m' : List ℕ) → IsNewest first past e number stream place' m' → IsKept (get nat_cmp new.puts) number stream place' m'
+      by_newest : (number stream place' : ℕ) (m' : List ℕ) → IsNewest past line number stream place' m' → IsKept (get nat_cmp new.puts) number stream place' m'
       by_newest number stream place' m' newest =
           let (own, at, own_stream, own_place, own_message) = kept in
-          let here : number ≡ old.next = newest.number_is ∙ sym have.next_is in
+          let here : number ≡ line.number = sym newest.number_is in
           let message : m ≡ m' = same_put (sym act_is ∙ newest.act_is) in (
             own,
             ap (get nat_cmp new.puts) here ∙ at,
             own_stream ∙ newest.stream_is,
-            own_place ∙ (puts_is ∙ (ap (λ n. puts_in n past) newest.stream_is ∙ newest.place_is)),
+            own_place ∙ (puts_is ∙ (ap (λ n. puts_in n (events_of past)) newest.stream_is ∙ newest.place_is)),
             own_message ∙ message,
           )
         where
           same_put : act.Put m ≡ act.Put m' → m ≡ m'
           same_put e = cc
 
-      pub read_put : HasRead new first (e ∷ past)
+      pub read_put : HasTaken new (line ∷ past)
       read_put = record {
         followed = followed_behind;
-        counted = subst (λ (t : List ℕ). Counts t (e ∷ past)) (sym counts) (counts_one old.counts past e place place_is small is_one have.counted);
-        next_is = number_behind;
-        kept = λ number put is. by_number number put is (eqb_tells number old.next);
-        all = λ number stream place m at. by number stream place m (newest_or_before first past e number stream place m at);
+        counted = subst (λ (t : List ℕ). Counts t (events_of (line ∷ past))) (sym counts) (counts_one old.counts (events_of past) line.event place place_is small is_one have.counted);
+        kept = λ number put is. by_number number put is (eqb_tells number line.number);
+        all = λ number stream place m at. by number stream place m (newest_or_before past line number stream place m at);
       }
         where
           by_number : (number : ℕ) (put : Put) → get nat_cmp new.puts number ≡ Some put
-              → ((eqb number old.next ≡ true) × (number ≡ old.next)) ⊎ ((eqb number old.next ≡ false) × (number ≡ old.next → ⊥))
-              → IsPutAt first (e ∷ past) number put.stream put.place put.message.items
+              → ((eqb number line.number ≡ true) × (number ≡ line.number)) ⊎ ((eqb number line.number ≡ false) × (number ≡ line.number → ⊥))
+              → IsPutAt (line ∷ past) number put.stream put.place put.message.items
           by_number number put is (inl (t, here)) = newest_kept number put here is
           by_number number put is (inr (f, apart)) = kept_behind number put (sym (others number apart) ∙ is)
 
-          before_next : (number stream place : ℕ) (m : List ℕ) → IsPutAt first past number stream place m → number ≡ old.next → ⊥
-          before_next number stream place m at here =
-              let within = line_is_within first past number stream place m at in
-              let next = have.next_is in
-              omega (arith, within, next, here)
+          held : (number : ℕ) (put : Put) → mid number ≡ Some put → number ≡ line.number → ⊥
+          held number put is here = no (sym free ∙ (ap (get nat_cmp old.puts) (sym here) ∙ dropped_none number put is))
+            where
+              no : None ≡ Some put → ⊥
+              no e = cc
 
-          by : (number stream place : ℕ) (m : List ℕ) → IsNewest first past e number stream place m ⊎ IsPutAt first past number stream place m
-              → IsKept (get nat_cmp new.puts) number stream place m ⊎ (IsRight (e ∷ past) → IsAnswered stream (e ∷ past) place)
+          by : (number stream place : ℕ) (m : List ℕ) → IsNewest past line number stream place m ⊎ IsPutAt past number stream place m
+              → IsKept (get nat_cmp new.puts) number stream place m ⊎ (IsRight (events_of (line ∷ past)) → IsAnswered stream (events_of (line ∷ past)) place)
           by number stream place m (inl newest) = inl (by_newest number stream place m newest)
           by number stream place m (inr before) = map_left (all_behind number stream place m before)
             where
-              map_left : IsKept mid number stream place m ⊎ (IsRight (e ∷ past) → IsAnswered stream (e ∷ past) place)
-                  → IsKept (get nat_cmp new.puts) number stream place m ⊎ (IsRight (e ∷ past) → IsAnswered stream (e ∷ past) place)
-              map_left (inl (put, is, own, here, message)) = inl (put, others number (before_next number stream place m before) ∙ is, own, here, message)
+              map_left : IsKept mid number stream place m ⊎ (IsRight (events_of (line ∷ past)) → IsAnswered stream (events_of (line ∷ past)) place)
+                  → IsKept (get nat_cmp new.puts) number stream place m ⊎ (IsRight (events_of (line ∷ past)) → IsAnswered stream (events_of (line ∷ past)) place)
+              map_left (inl (put, is, own, here, message)) = inl (put, others number (held number put is) ∙ is, own, here, message)
               map_left (inr was) = inr was
 
     -- whichever it is
-    pub read_either : (between : Untold) → ((number : ℕ) → get nat_cmp between.puts number ≡ mid number) → between.counts ≡ old.counts → between.next ≡ old.next
-        → IsStream e.stream → old.next + 1 < 2 ^ 64
-        → (is_put e.act e.reply ≡ false → (new.counts ≡ between.counts) × (new.puts ≡ between.puts))
-        → ((m : List ℕ) → e.act ≡ act.Put m → e.reply ≡ reply.Ok → get_or between.counts (e.stream - 1) 0 + 1 < 2 ^ 64
-        → new.counts ≡ set between.counts (e.stream - 1) (get_or between.counts (e.stream - 1) 0 + 1))
-        → ((m : List ℕ) → e.act ≡ act.Put m → e.reply ≡ reply.Ok → IsKept (get nat_cmp new.puts) between.next e.stream (get_or between.counts (e.stream - 1) 0) m)
-        → ((m : List ℕ) → e.act ≡ act.Put m → e.reply ≡ reply.Ok → (number : ℕ) → number ≢ between.next → get nat_cmp new.puts number ≡ get nat_cmp between.puts number)
-        → HasRead new first (e ∷ past)
-    read_either between puts_same same_counts same_next stream few none counted kept others = by (is_put e.act e.reply) refl
+    pub read_either : (between : Untold) → ((number : ℕ) → get nat_cmp between.puts number ≡ mid number) → between.counts ≡ old.counts → IsStream line.event.stream
+        → get nat_cmp old.puts line.number ≡ None → puts_in line.event.stream (events_of past) + 1 < 2 ^ 64
+        → (is_put line.event.act line.event.reply ≡ false → (new.counts ≡ between.counts) × (new.puts ≡ between.puts))
+        → ((m : List ℕ) → line.event.act ≡ act.Put m → line.event.reply ≡ reply.Ok → KeepsPut between new line.number line.event.stream m)
+        → HasTaken new (line ∷ past)
+    read_either between puts_same same_counts stream free few none keeps = by (is_put line.event.act line.event.reply) refl
       where
-        by : (b : Bool) → is_put e.act e.reply ≡ b → HasRead new first (e ∷ past)
+        by : (b : Bool) → is_put line.event.act line.event.reply ≡ b → HasTaken new (line ∷ past)
         by false is = read_other is ((none is).0 ∙ same_counts) (λ number. ap (λ t. get nat_cmp t number) (none is).1 ∙ puts_same number)
         by true is =
-            let taken = taken_put e.act e.reply is in
+            let taken = taken_put line.event.act line.event.reply is in
             let m = taken.message in
-            let small : e.stream - 1 < 256 = omega (arith, stream.0, stream.1) in
-            let most = few_of old.counts past (e.stream - 1) small have.counted in
-            let next = have.next_is in
-            let room : get_or old.counts (e.stream - 1) 0 + 1 < 2 ^ 64 = omega (arith, most, next, few) in
-            read_put m taken.act_is taken.reply_is (e.stream - 1) (omega (arith, stream.0)) small
-            (counted m taken.act_is taken.reply_is (subst (λ (t : List ℕ). get_or t (e.stream - 1) 0 + 1 < 2 ^ 64) (sym same_counts) room)
-            ∙ ap (λ (t : List ℕ). set t (e.stream - 1) (get_or t (e.stream - 1) 0 + 1)) same_counts)
-            (subst (λ n. IsKept (get nat_cmp new.puts) n e.stream (get_or old.counts (e.stream - 1) 0) m) same_next
-            (subst (λ (t : List ℕ). IsKept (get nat_cmp new.puts) between.next e.stream (get_or t (e.stream - 1) 0) m) same_counts (kept m taken.act_is taken.reply_is)))
-            (λ number apart. others m taken.act_is taken.reply_is number (λ here. apart (here ∙ same_next)) ∙ puts_same number)
+            let keep = keeps m taken.act_is taken.reply_is in
+            let small : line.event.stream - 1 < 256 = omega (arith, stream.0, stream.1) in
+            let place : line.event.stream - 1 + 1 ≡ line.event.stream = omega (arith, stream.0) in
+            let count = subst (λ n. get_or old.counts (line.event.stream - 1) 0 ≡ puts_in n (events_of past)) place (have.counted.puts (line.event.stream - 1) small) in
+            let room : get_or old.counts (line.event.stream - 1) 0 + 1 < 2 ^ 64 = omega (arith, count, few) in
+            read_put m taken.act_is taken.reply_is (line.event.stream - 1) place small
+            (keep.counts (subst (λ (t : List ℕ). get_or t (line.event.stream - 1) 0 + 1 < 2 ^ 64) (sym same_counts) room)
+            ∙ ap (λ (t : List ℕ). set t (line.event.stream - 1) (get_or t (line.event.stream - 1) 0 + 1)) same_counts)
+            (subst (λ (t : List ℕ). IsKept (get nat_cmp new.puts) line.number line.event.stream (get_or t (line.event.stream - 1) 0) m) same_counts keep.kept)
+            (λ number apart. keep.others number apart ∙ puts_same number)
+            free
 
--- lines that go on behind past events were read up to here
-pub record IsFurther (first : ℕ) (past : List Event) (lines : Lines) (rest : List ℕ) (untold : Untold) : Type 0 where
+-- a number of which no put is kept, or one
+pub none_kept : (o : Option Put) → is_some o ≡ false → o ≡ None
+none_kept None is = refl
+none_kept (Some put) is = cc
+
+pub one_kept : (o : Option Put) → is_some o ≡ true → (put : Put) × (o ≡ Some put)
+one_kept None is = cc
+one_kept (Some put) is = (put, refl)
+
+-- how many puts a stream took, as it is counted
+pub count_is : (untold : Untold) (past : List Numbered) (stream : ℕ) → IsStream stream → HasTaken untold past → get_or untold.counts (stream - 1) 0 ≡ puts_in stream (events_of past)
+count_is untold past stream is have =
+    let small : stream - 1 < 256 = omega (arith, is.0, is.1) in
+    let place : stream - 1 + 1 ≡ stream = omega (arith, is.0) in
+    subst (λ n. get_or untold.counts (stream - 1) 0 ≡ puts_in n (events_of past)) place (have.counted.puts (stream - 1) small)
+
+-- one line more counts one put at most
+few_more : (number : ℕ) (e : Event) (past : List Event) → puts_in number (e ∷ past) ≤ puts_in number past + 1
+few_more number e past = by ((number == e.stream) && is_put e.act e.reply) refl
+  where
+    by : (b : Bool) → ((number == e.stream) && is_put e.act e.reply) ≡ b → puts_in number (e ∷ past) ≤ puts_in number past + 1
+    by true is = let one = ap one_if is in omega (arith, one)
+    by false is = let none = ap one_if is in omega (arith, none)
+
+-- what is told does not depend on which line is the next
+pub same_taken : (now new : Untold) (past : List Numbered) → new.followers ≡ now.followers → new.counts ≡ now.counts → new.puts ≡ now.puts → HasTaken now past → HasTaken new past
+same_taken now new past followers counts puts have = record {
+  followed = λ right. subst (λ (f : SenderFollowers). HaveFollowedSenders f (events_of past)) (sym followers) (have.followed right);
+  counted = subst (λ (t : List ℕ). Counts t (events_of past)) (sym counts) have.counted;
+  kept = λ number put is. have.kept number put (ap (λ t. get nat_cmp t number) (sym puts) ∙ is);
+  all = λ number stream place m at. by number stream place m (have.all number stream place m at);
+}
+  where
+    by : (number stream place : ℕ) (m : List ℕ) → IsKept (get nat_cmp now.puts) number stream place m ⊎ (IsRight (events_of past) → IsAnswered stream (events_of past) place)
+        → IsKept (get nat_cmp new.puts) number stream place m ⊎ (IsRight (events_of past) → IsAnswered stream (events_of past) place)
+    by number stream place m (inl (put, is, own, here, message)) = inl (put, ap (λ t. get nat_cmp t number) puts ∙ is, own, here, message)
+    by number stream place m (inr was) = inr was
+
+-- the next line is one more
+pub next_taken : (old now new : Untold) (next : ℕ) (past : List Numbered) (line : Numbered) → HasRead old next past → line.number ≡ old.next → old.next + 1 < 2 ^ 64
+    → Takes old now line → new.followers ≡ now.followers → new.counts ≡ now.counts → new.puts ≡ now.puts → new.next ≡ old.next + 1 → HasRead new (next + 1) (line ∷ past)
+next_taken old now new next past line have is few takes followers counts puts more =
+    let here : line.number ≡ next = is ∙ have.next_is in
+    let next_is = have.next_is in
+    let most = have.few line.event.stream in
+    record {
+      taken = same_taken now new (line ∷ past) followers counts puts (takes past have.taken (free here) (omega (arith, few, next_is, most)));
+      next_is = omega (arith, more, next_is);
+      before = All-cons (λ (l : Numbered). l.number < next + 1) line past (omega (arith, here))
+          (All-weaker (λ (l : Numbered). l.number < next) (λ (l : Numbered). l.number < next + 1) (λ l less. omega (arith, less)) past have.before);
+      few = λ stream. let before = have.few stream in let one = few_more stream line.event (events_of past) in omega (arith, before, one);
+    }
+  where
+    free : line.number ≡ next → get nat_cmp old.puts line.number ≡ None
+    free here = none_kept _ (by (is_some (get nat_cmp old.puts line.number)) refl)
+      where
+        by : (b : Bool) → is_some (get nat_cmp old.puts line.number) ≡ b → is_some (get nat_cmp old.puts line.number) ≡ false
+        by false none = none
+        by true some =
+            let (put, is) = one_kept _ some in
+            let less = put_before next past line.number put.stream put.place put.message.items have.before (have.taken.kept line.number put is) in
+            absurd (omega (arith, less, here))
+
+-- and so is one in front of it
+pub before_taken : (old new : Untold) (next : ℕ) (past : List Numbered) (line : Numbered) → IsStream line.event.stream → HasRead old next past
+    → (line.number < old.next) × (is_some (get nat_cmp old.puts line.number) ≡ false) × (get_or old.counts (line.event.stream - 1) 0 < old.next) × (get_or old.counts (line.event.stream - 1) 0 + 1 < 2 ^ 64)
+    → Takes old new line → new.next ≡ old.next → HasRead new next (line ∷ past)
+before_taken old new next past line stream have is takes same =
+    let next_is = have.next_is in
+    let less = is.0 in
+    let small = is.3 in
+    let count = count_is old past line.event.stream stream have.taken in
+    record {
+      taken = takes past have.taken (none_kept _ is.1) (omega (arith, count, small));
+      next_is = same ∙ next_is;
+      before = All-cons (λ (l : Numbered). l.number < next) line past (omega (arith, less, next_is)) have.before;
+      few = λ other. by other ((other == line.event.stream) && is_put line.event.act line.event.reply) refl (eqb_tells other line.event.stream);
+    }
+  where
+    by : (other : ℕ) (b : Bool) → ((other == line.event.stream) && is_put line.event.act line.event.reply) ≡ b
+        → ((eqb other line.event.stream ≡ true) × (other ≡ line.event.stream)) ⊎ ((eqb other line.event.stream ≡ false) × (other ≡ line.event.stream → ⊥))
+        → puts_in other (events_of (line ∷ past)) ≤ next
+    by other b own (inl (t, here)) =
+        let one = few_more other line.event (events_of past) in
+        let count = count_is old past line.event.stream stream have.taken in
+        let at = ap (λ n. puts_in n (events_of past)) here in
+        let fewer = is.2 in
+        let next_is = have.next_is in
+        omega (arith, one, count, at, fewer, next_is)
+    by other b own (inr (f, apart)) =
+        let none = ap (λ (t : Bool). one_if (t && is_put line.event.act line.event.reply)) f in
+        let before = have.few other in
+        omega (arith, none, before)
+
+-- why a line is not in front of the next one
+pub not_before : (old : Untold) (next : ℕ) (past : List Numbered) (line : Numbered) → IsStream line.event.stream → HasRead old next past
+    → (old.next ≤ line.number) ⊎ ((is_some (get nat_cmp old.puts line.number) ≡ true) ⊎ (old.next ≤ get_or old.counts (line.event.stream - 1) 0)) → IsNotBefore next past line
+not_before old next past line stream have (inl more) = let next_is = have.next_is in inl (omega (arith, more, next_is))
+not_before old next past line stream have (inr (inl some)) =
+    let (put, is) = one_kept _ some in
+    inr (inl (put.stream, put.place, put.message.items, have.taken.kept line.number put is))
+not_before old next past line stream have (inr (inr many)) =
+    let next_is = have.next_is in
+    let count = count_is old past line.event.stream stream have.taken in
+    inr (inr (omega (arith, many, next_is, count)))
+
+-- lines that go on behind past ones were read up to here
+pub record IsFurther (next : ℕ) (past : List Numbered) (lines : Lines) (rest : List ℕ) (untold : Untold) : Type 0 where
   pub events : List Event
-  pub read : IsReadTo fields_of (InRange lines.version) lines.text.now (numbered (first + length past) events) rest
-  pub have : HasRead untold first (reverse events ++ past)
+  pub read : IsReadTo fields_of (InRange lines.version) lines.text.now (numbered next events) rest
+  pub have : HasRead untold (next + length events) (reverse (numbered next events) ++ past)
 
-module _ (first : ℕ) (past : List Event) (lines : Lines) where
-  pub none_yet : (untold : Untold) → HasRead untold first past → IsFurther first past lines lines.text.now untold
-  none_yet untold have = record { events = []; read = (tt, refl); have = have }
+-- or lines in front of the next one
+pub record IsRecalled (next : ℕ) (past : List Numbered) (lines : Lines) (rest : List ℕ) (untold : Untold) : Type 0 where
+  pub recalled : List Numbered
+  pub read : IsReadTo fields_of (InRange lines.version) lines.text.now recalled rest
+  pub have : HasRead untold next (reverse recalled ++ past)
 
-  module _ (rest : List ℕ) (untold : Untold) (so_far : IsFurther first past lines rest untold) where
-    pub number_is : untold.next ≡ first + (length past + length so_far.events)
-    number_is =
-        let next = so_far.have.next_is in
-        let long = length-append (reverse so_far.events) past in
-        let turned = length-reverse so_far.events in
-        omega (arith, next, long, turned)
+-- where no line stands in front, it does not matter which are refused
+pub stops_anyhow : (version : Version) (Refused : Numbered → Type 0) (rest : List ℕ) (progress : Progress) → StopsBy version (λ line. ⊥) rest progress → StopsBy version Refused rest progress
+stops_anyhow version Refused rest Whole stops = stops
+stops_anyhow version Refused rest Malformed stops = stops
+stops_anyhow version Refused rest Gap stops = absurd stops.4
 
-    -- one line more
-    pub one_further : (line : Numbered) (more : List ℕ) (now : Untold) → InRange lines.version line → rest ≡ line_text line ++ more → line.number ≡ untold.next
-        → ((first : ℕ) (past : List Event) → HasRead untold first past → HasRead now first (line.event ∷ past)) → IsFurther first past lines more now
-    one_further line more now known is here takes =
-        let next = number_is in
-        let count : untold.next ≡ first + length past + length so_far.events = omega (arith, next) in record {
+-- one line behind others is the newest
+turned_line : (lines : List Numbered) (line : Numbered) (past : List Numbered) → reverse (lines ++ line ∷ []) ++ past ≡ line ∷ (reverse lines ++ past)
+turned_line lines line past = ap (λ (t : List Numbered). t ++ past) (reverse-append lines (line ∷ []))
+
+module _ (next : ℕ) (past : List Numbered) (lines : Lines) where
+  pub none_yet : (untold : Untold) → HasRead untold next past → IsFurther next past lines lines.text.now untold
+  none_yet untold have = record { events = []; read = (tt, refl); have = subst (λ n. HasRead untold n past) (omega arith) have }
+
+  pub none_recalled : (untold : Untold) → HasRead untold next past → IsRecalled next past lines lines.text.now untold
+  none_recalled untold have = record { recalled = []; read = (tt, refl); have = have }
+
+  module _ (rest : List ℕ) (untold : Untold) (so_far : IsFurther next past lines rest untold) where
+    -- the next line is one more
+    pub one_further : (line : Numbered) (more : List ℕ) (now new : Untold) → InRange lines.version line → rest ≡ line_text line ++ more → line.number ≡ untold.next → untold.next + 1 < 2 ^ 64
+        → Takes untold now line → new.followers ≡ now.followers → new.counts ≡ now.counts → new.puts ≡ now.puts → new.next ≡ untold.next + 1 → IsFurther next past lines more new
+    one_further line more now new known is here few takes followers counts puts one =
+        let count : untold.next ≡ next + length so_far.events = so_far.have.next_is in
+        let numbers : numbered next so_far.events ++ line ∷ [] ≡ numbered next (so_far.events ++ line.event ∷ []) = numbered_push next untold.next so_far.events line count here in
+        let taken = next_taken untold now new (next + length so_far.events) (reverse (numbered next so_far.events) ++ past) line so_far.have here few takes followers counts puts one in
+        let long = length-append so_far.events (line.event ∷ []) in
+        record {
           events = so_far.events ++ line.event ∷ [];
-          read = subst (λ (ls : List Numbered). IsReadTo fields_of (InRange lines.version) lines.text.now ls more) (numbered_push (first + length past) untold.next so_far.events line count here)
-              (readings.read_on fields_of (InRange lines.version) (IsLine-fields_of lines.version) lines.text.now rest more (numbered (first + length past) so_far.events) line so_far.read known is);
-          have = subst (λ (l : List Event). HasRead now first (l ++ past)) (sym (turned_more so_far.events line.event)) (takes first (reverse so_far.events ++ past) so_far.have);
+          read = subst (λ (ls : List Numbered). IsReadTo fields_of (InRange lines.version) lines.text.now ls more) numbers
+              (readings.read_on fields_of (InRange lines.version) (IsLine-fields_of lines.version) lines.text.now rest more (numbered next so_far.events) line so_far.read known is);
+          have = subst (λ (ls : List Numbered). HasRead new (next + length (so_far.events ++ line.event ∷ [])) (reverse ls ++ past)) numbers
+              (subst (HasRead new (next + length (so_far.events ++ line.event ∷ []))) (sym (turned_line (numbered next so_far.events) line past))
+              (subst (λ n. HasRead new n (line ∷ (reverse (numbered next so_far.events) ++ past))) (omega (arith, long)) taken));
         }
 
     -- where reading stops
-    pub stopped_at : (progress : Progress) → StopsBy lines.version untold.next rest progress → GoesOn untold first past lines rest progress
+    pub stopped_at : (progress : Progress) → StopsBy lines.version (IsNotNext untold.next) rest progress → GoesOn untold next past lines rest progress
     stopped_at progress stops = record {
       events = so_far.events;
-      front = flat_map line_text (numbered (first + length past) so_far.events);
+      front = flat_map line_text (numbered next so_far.events);
       whole = so_far.read.1;
       read = (so_far.read.0, refl);
       have = so_far.have;
-      stops = subst (λ n. StopsBy lines.version n rest progress) number_is stops;
+      stops = subst (λ n. StopsBy lines.version (IsNotNext n) rest progress) so_far.have.next_is stops;
     }
+
+  module _ (rest : List ℕ) (untold : Untold) (so_far : IsRecalled next past lines rest untold) where
+    -- one more is recalled
+    pub one_recalled : (line : Numbered) (more : List ℕ) (new : Untold) → InRange lines.version line → rest ≡ line_text line ++ more
+        → (line.number < untold.next) × (is_some (get nat_cmp untold.puts line.number) ≡ false) × (get_or untold.counts (line.event.stream - 1) 0 < untold.next) × (get_or untold.counts (line.event.stream - 1) 0 + 1 < 2 ^ 64)
+        → Takes untold new line → new.next ≡ untold.next → IsRecalled next past lines more new
+    one_recalled line more new known is before takes same = record {
+      recalled = so_far.recalled ++ line ∷ [];
+      read = readings.read_on fields_of (InRange lines.version) (IsLine-fields_of lines.version) lines.text.now rest more so_far.recalled line so_far.read known is;
+      have = subst (HasRead new next) (sym (turned_line so_far.recalled line past))
+          (before_taken untold new next (reverse so_far.recalled ++ past) line known.1.stream so_far.have before takes same);
+    }
+
+    -- where that stops
+    pub recalled_to : (progress : Progress) → StopsBy lines.version (IsNotBefore next (reverse so_far.recalled ++ past)) rest progress → Recalls untold next past lines rest progress
+    recalled_to progress stops = record {
+      recalled = so_far.recalled;
+      front = flat_map line_text so_far.recalled;
+      whole = so_far.read.1;
+      read = (so_far.read.0, refl);
+      have = so_far.have;
+      stops = stops;
+    }
+
+    -- at a line that is not one of them
+    pub refused : (line : Numbered) → IsStream line.event.stream
+        → (untold.next ≤ line.number) ⊎ ((is_some (get nat_cmp untold.puts line.number) ≡ true) ⊎ (untold.next ≤ get_or untold.counts (line.event.stream - 1) 0))
+        → IsNotBefore next (reverse so_far.recalled ++ past) line
+    refused line stream why = not_before untold next (reverse so_far.recalled ++ past) line stream so_far.have why

@@ -1,5 +1,5 @@
 -- What is told of puts that had no answer.
-use Rattle.std.specs.Prelude.{◌≡◌, ◌≢◌, ◌⊎◌, ℕ, ◌+◌, ◌^◌, ◌≤◌, Bool, true, false, not, if◌then◌else◌, Option, Some, None, List, ◌++◌, codes}
+use Rattle.std.specs.Prelude.{◌≡◌, ◌≢◌, ℕ, Bool, true, false, not, if◌then◌else◌, Option, Some, None, List, ◌++◌, codes}
 use Rattle.std.specs.Fmt.{decimal}
 use Rattle.amo_text.specs.Line.{Lacks}
 use Rattle.amo_journal.specs.declared.numbered.Numbered.{Numbered}
@@ -97,8 +97,8 @@ abbrev pub is_settled_by_now : Option SenderOutcome → Option Told → Bool
 is_settled_by_now outcome (Some told.Unknown) = is_settled outcome
 is_settled_by_now outcome _ = false
 
--- why no line is read behind those of which this is the next number
-abbrev pub StopsBy : Version → ℕ → List ℕ → Progress → Type 0
-StopsBy version next rest Whole = Lacks 10 rest
-StopsBy version next rest Malformed = (¬ (Lacks 10 rest)) × ((line : Numbered) (more : List ℕ) → InRange version line → rest ≢ line_text line ++ more)
-StopsBy version next rest Gap = (line : Numbered) × (more : List ℕ) × InRange version line × (rest ≡ line_text line ++ more) × ((line.number ≢ next) ⊎ (2 ^ 64 ≤ next + 1))
+-- why no line is read behind others: the first one that is left is refused, or is none, or there is no whole one
+abbrev pub StopsBy : Version → (Numbered → Type 0) → List ℕ → Progress → Type 0
+StopsBy version Refused rest Whole = Lacks 10 rest
+StopsBy version Refused rest Malformed = (¬ (Lacks 10 rest)) × ((line : Numbered) (more : List ℕ) → InRange version line → rest ≢ line_text line ++ more)
+StopsBy version Refused rest Gap = (line : Numbered) × (more : List ℕ) × InRange version line × (rest ≡ line_text line ++ more) × Refused line

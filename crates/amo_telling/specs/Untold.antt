@@ -1,9 +1,10 @@
 -- What a sender that starts again tells of the puts of its earlier lives.
-use Rattle.std.specs.Prelude.{◌≡◌, ◌≢◌, ◌⊎◌, ℕ, ◌+◌, ◌-◌, ◌^◌, ◌<◌, ◌≤◌, Bool, true, false, Option, Some, None, List, [], ◌∷◌, ◌++◌, get_or, length, reverse, set}
-use Rattle.std.specs.List.{Contains, flat_map}
+use Rattle.std.specs.Prelude.{◌≡◌, ◌≢◌, ◌⊎◌, ℕ, ◌+◌, ◌-◌, ◌^◌, ◌<◌, ◌≤◌, Bool, true, false, Option, Some, None, List, [], ◌∷◌, ◌++◌, get_or, length, map, reverse, set}
+use Rattle.std.specs.List.{All, Contains, flat_map}
 use Rattle.std.specs.Ordering.{nat_cmp}
 use Rattle.std.specs.BTreeMap.{get}
 use Rattle.amo_journal.specs.declared.lines.Lines.{Lines}
+use Rattle.amo_journal.specs.declared.numbered.Numbered.{Numbered}
 use Rattle.amo_journal.specs.Journal.{SpellsLines, numbered}
 use Rattle.amo_core.specs.declared.act.Act.{Act}
 use Rattle.amo_core.specs.declared.act.Act.TheVariants as act
@@ -25,18 +26,22 @@ use Rattle.amo_telling.specs.Told.{Counts}
 use Rattle.amo_telling.specs.Unanswered.{StopsBy, is_ack, is_answer, settled_line, told_if, told_line}
 use Rattle.amo_telling.specs.declared.unanswered.Told.{Told}
 
--- In a journal that is read from the line of number `first` on, the newest event of which is the first here, the line of this number tells that this
--- message was put on a stream, which took so many before it there.
-pub record IsPutAt (first : ℕ) (past : List Event) (number stream place : ℕ) (message : List ℕ) : Type 0 where
-  pub later : List Event
-  pub e : Event
-  pub before : List Event
-  pub splits : past ≡ later ++ e ∷ before
-  pub number_is : number ≡ first + length before
-  pub stream_is : e.stream ≡ stream
-  pub place_is : puts_in stream before ≡ place
-  pub act_is : e.act ≡ act.Put message
-  pub reply_is : e.reply ≡ reply.Ok
+-- the events of lines
+abbrev pub events_of : List Numbered → List Event
+events_of lines = map (λ line. line.event) lines
+
+-- Of lines that were read, the newest of which is the first, one of this number tells that this message was put on a stream, which took so many
+-- before it there.
+pub record IsPutAt (past : List Numbered) (number stream place : ℕ) (message : List ℕ) : Type 0 where
+  pub later : List Numbered
+  pub line : Numbered
+  pub before : List Numbered
+  pub splits : past ≡ later ++ line ∷ before
+  pub number_is : line.number ≡ number
+  pub stream_is : line.event.stream ≡ stream
+  pub place_is : puts_in stream (events_of before) ≡ place
+  pub act_is : line.event.act ≡ act.Put message
+  pub reply_is : line.event.reply ≡ reply.Ok
 
 -- An ack answers a put: it was sent, and not settled what became of it, and by the ack it is.
 abbrev pub IsAnsweredBy : ℕ → List Event → Event → ℕ → Type 0
@@ -52,14 +57,20 @@ IsAnswered stream (e ∷ past) place = IsAnsweredBy stream past e place ⊎ IsAn
 abbrev pub IsKept : (ℕ → Option Put) → ℕ → ℕ → ℕ → List ℕ → Type 0
 IsKept kept number stream place message = (put : Put) × (kept number ≡ Some put) × (put.stream ≡ stream) × (put.place ≡ place) × (put.message.items ≡ message)
 
--- the events of these lines were read, the newest of which is the first: each put is kept, unless an ack answered it, and nothing else is
-pub record HasRead (untold : Untold) (first : ℕ) (past : List Event) : Type 0 where
-  pub followed : IsRight past → HaveFollowedSenders untold.followers past
-  pub counted : Counts untold.counts past
-  pub next_is : untold.next ≡ first + length past
-  pub kept : (number : ℕ) (put : Put) → get nat_cmp untold.puts number ≡ Some put → IsPutAt first past number put.stream put.place put.message.items
-  pub all : (number stream place : ℕ) (message : List ℕ) → IsPutAt first past number stream place message
-      → IsKept (get nat_cmp untold.puts) number stream place message ⊎ (IsRight past → IsAnswered stream past place)
+-- these lines were taken, the newest of which is the first: each put is kept, unless an ack answered it, and nothing else is
+pub record HasTaken (untold : Untold) (past : List Numbered) : Type 0 where
+  pub followed : IsRight (events_of past) → HaveFollowedSenders untold.followers (events_of past)
+  pub counted : Counts untold.counts (events_of past)
+  pub kept : (number : ℕ) (put : Put) → get nat_cmp untold.puts number ≡ Some put → IsPutAt past number put.stream put.place put.message.items
+  pub all : (number stream place : ℕ) (message : List ℕ) → IsPutAt past number stream place message
+      → IsKept (get nat_cmp untold.puts) number stream place message ⊎ (IsRight (events_of past) → IsAnswered stream (events_of past) place)
+
+-- and reading goes on at the line of this number, in front of which they are: no stream took more puts than there are numbers
+pub record HasRead (untold : Untold) (next : ℕ) (past : List Numbered) : Type 0 where
+  pub taken : HasTaken untold past
+  pub next_is : untold.next ≡ next
+  pub before : All (λ line. line.number < next) past
+  pub few : (stream : ℕ) → puts_in stream (events_of past) ≤ next
 
 -- the put that is kept of this number was sent, and it is not settled what became of it
 abbrev pub IsSent : Untold → ℕ → Type 0
@@ -80,20 +91,44 @@ abbrev pub Drops : Untold → Untold → List ℕ → Type 0
 Drops old new sent = (number : ℕ) → (get nat_cmp new.puts number ≡ get nat_cmp old.puts number)
     ⊎ ((get nat_cmp new.puts number ≡ None) × Contains sent number × IsAnsweredBehind old old.followers number)
 
--- a put that a stream takes is kept, under the number of the next line, and counted
-pub record KeepsPut (old new : Untold) (stream : ℕ) (message : List ℕ) : Type 0 where
+-- a put that a stream takes is kept, under the number of its line, and counted
+pub record KeepsPut (old new : Untold) (number stream : ℕ) (message : List ℕ) : Type 0 where
   pub counts : get_or old.counts (stream - 1) 0 + 1 < 2 ^ 64 → new.counts ≡ set old.counts (stream - 1) (get_or old.counts (stream - 1) 0 + 1)
-  pub kept : IsKept (get nat_cmp new.puts) old.next stream (get_or old.counts (stream - 1) 0) message
-  pub others : (number : ℕ) → number ≢ old.next → get nat_cmp new.puts number ≡ get nat_cmp old.puts number
+  pub kept : IsKept (get nat_cmp new.puts) number stream (get_or old.counts (stream - 1) 0) message
+  pub others : (other : ℕ) → other ≢ number → get nat_cmp new.puts other ≡ get nat_cmp old.puts other
 
--- behind the lines of past events these begin with those of others, which go on with the numbers, and are read no further
-pub record GoesOn (untold : Untold) (first : ℕ) (past : List Event) (lines : Lines) (rest : List ℕ) (progress : Progress) : Type 0 where
+-- a line is taken behind others, if it has a number that is not kept, and few puts are before it
+abbrev pub Takes : Untold → Untold → Numbered → Type 0
+Takes old new line = (past : List Numbered) → HasTaken old past → get nat_cmp old.puts line.number ≡ None → puts_in line.event.stream (events_of past) + 1 < 2 ^ 64
+    → HasTaken new (line ∷ past)
+
+-- a line is not the next one, or no other one can come behind it
+abbrev pub IsNotNext : ℕ → Numbered → Type 0
+IsNotNext next line = (line.number ≢ next) ⊎ (2 ^ 64 ≤ next + 1)
+
+-- A line is not one of those in front of the next one that were not read yet: its number is not smaller, or that of a put that was read, or its stream
+-- took as many puts as there are smaller numbers.
+abbrev pub IsNotBefore : ℕ → List Numbered → Numbered → Type 0
+IsNotBefore next past line = (next ≤ line.number)
+    ⊎ (((stream : ℕ) × (place : ℕ) × (message : List ℕ) × IsPutAt past line.number stream place message) ⊎ (next ≤ puts_in line.event.stream (events_of past)))
+
+-- behind past lines these begin with those of other events, which go on with the numbers, and are read no further
+pub record GoesOn (untold : Untold) (next : ℕ) (past : List Numbered) (lines : Lines) (rest : List ℕ) (progress : Progress) : Type 0 where
   pub events : List Event
   pub front : List ℕ
   pub whole : lines.text.now ≡ front ++ rest
-  pub read : SpellsLines lines.version front (numbered (first + length past) events)
-  pub have : HasRead untold first (reverse events ++ past)
-  pub stops : StopsBy lines.version (first + (length past + length events)) rest progress
+  pub read : SpellsLines lines.version front (numbered next events)
+  pub have : HasRead untold (next + length events) (reverse (numbered next events) ++ past)
+  pub stops : StopsBy lines.version (IsNotNext (next + length events)) rest progress
+
+-- behind past lines these begin with others, which are in front of the next one, each with a number of its own, and are read no further
+pub record Recalls (untold : Untold) (next : ℕ) (past : List Numbered) (lines : Lines) (rest : List ℕ) (progress : Progress) : Type 0 where
+  pub recalled : List Numbered
+  pub front : List ℕ
+  pub whole : lines.text.now ≡ front ++ rest
+  pub read : SpellsLines lines.version front recalled
+  pub have : HasRead untold next (reverse recalled ++ past)
+  pub stops : StopsBy lines.version (IsNotBefore next (reverse recalled ++ past)) rest progress
 
 -- what is known of a put that a stream took: what its events tell, or that the stream took none of that number
 abbrev pub IsKnownAs : List Event → Put → Option SenderOutcome → Type 0

@@ -9,7 +9,7 @@
 //! - [`Gets`] reads a receiver's journal part by part, whole or as it grows, and writes a line for each message that a get answered, as far as
 //!   it reads; [`Reading`] is how far that was.
 //! - [`Untold`] reads a sender's journal part by part, from where a life begins, and writes a line for each put that no ack answered: what a
-//!   sender that starts again tells. [`Progress`] is how far it reads.
+//!   sender that starts again tells. Of lines in front of those it recalls the ones that matter. [`Progress`] is how far it reads.
 //!
 //! Where one of two journals goes on, the other may be a copy that lacks lines, and no put is told to be gone that may have been got there.
 //! What a loss of power may have changed is told of no put: of journals of which [`Asked`] names doubtful lines, what would be gone there is unknown.

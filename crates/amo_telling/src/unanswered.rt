@@ -17,7 +17,8 @@ use amo_world::Act;
 pub enum Progress {
     /// To their end, but for a last line that has no end.
     Whole,
-    /// To a line that has another number than the next one, or the greatest that there is.
+    /// To a line that has another number than the next one, or the greatest that there is. Of lines that are recalled: to one that was recalled before,
+    /// or that does not stand in front of the next one.
     Gap,
     /// To a line that is none.
     Malformed,
@@ -93,7 +94,7 @@ pub(crate) fn is_open(outcome: SenderOutcome) -> bool
 
 /// How far lines were read, where no line stands in front of what is left.
 pub(crate) fn stopped(rest: &[u8]) -> Progress
-    ensures { (version : Version) (next : ℕ) → ((line : Numbered) (more : List ℕ) → InRange version line → rest.now ≢ line_text line ++ more) → StopsBy version next rest.now result }
+    ensures { (version : Version) → ((line : Numbered) (more : List ℕ) → InRange version line → rest.now ≢ line_text line ++ more) → StopsBy version (λ line. ⊥) rest.now result }
 {
     match next_line(rest) {
         Some(_) => Progress::Malformed,

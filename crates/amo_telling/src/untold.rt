@@ -5,7 +5,7 @@ use crate::put::Put;
 use crate::shown::{push_settled, push_told};
 use crate::tally::Tally;
 use crate::unanswered::{Progress, is_ack, is_answer, is_open, stopped, told_of};
-use amo_journal::{Lines, line_in_front};
+use amo_journal::{Lines, Numbered, line_in_front};
 use amo_lives::Span;
 use amo_object::End;
 use amo_outcomes::{SenderFollowers, SenderOutcome};
@@ -14,7 +14,8 @@ use std::alloc::{AllocError, Global};
 use std::collections::BTreeMap;
 
 /// A reader of a sender's journal that knows which puts were not answered. It begins where a life does: its crash leaves each stream without a
-/// message. Of what it has read it keeps the puts that were not answered, and of the others a mark of one byte.
+/// message. Or it begins behind lines of which those are recalled that matter for puts without an answer. Of what it has read it keeps the puts that
+/// were not answered, and of the others a mark of one byte.
 #[derive(Drop)]
 pub struct Untold {
     alloc: Global,
@@ -31,12 +32,14 @@ pub struct Untold {
 }
 
 impl Untold {
-    ghost use Rattle.std.specs.Prelude.{◌+◌, ◌++◌, ◌<◌, ◌≤◌, ◌≢◌, ◌⊎◌, ◌^◌, ◌∷◌, ℕ, List, [], Some, false, IfSome, IsTrue, OnOk};
+    ghost use Rattle.std.specs.Prelude.{◌+◌, ◌++◌, ◌<◌, ◌≤◌, ◌≢◌, ◌⊎◌, ◌^◌, ◌-◌, ◌∷◌, ℕ, List, [], Some, false, true, get_or, IfSome, IsTrue, OnOk};
     ghost use Rattle.std.specs.List.{Contains};
+    ghost use Rattle.std.specs.Option.{is_some};
     ghost use Rattle.std.specs.Ordering.{nat_cmp};
     ghost use Rattle.std.specs.BTreeMap.{get};
     ghost use Rattle.amo_outcomes.specs.SenderFollowers.{HaveFollowedSenders};
     ghost use Rattle.amo_outcomes.specs.SenderOutcome.{HasSenderOutcome};
+    ghost use Rattle.amo_journal.specs.declared.numbered.Numbered.{Numbered};
     ghost use Rattle.amo_world.specs.declared.event.Event.{Event};
     ghost use Rattle.amo_world.specs.History.{IsRight};
     ghost use Rattle.amo_world.specs.Stream.{IsStream};
@@ -44,7 +47,7 @@ impl Untold {
     ghost use Rattle.amo_core.specs.declared.act.Act.TheVariants as act;
     ghost use Rattle.amo_core.specs.declared.reply.Reply.TheVariants as reply;
     ghost use Rattle.amo_telling.specs.Outcomes.{is_put};
-    ghost use Rattle.amo_telling.specs.Untold.{Drops, GoesOn, HasRead, IsAnsweredBehind, IsSent, IsSentHere, KeepsPut, TellsAll, TellsPut, TellsPuts};
+    ghost use Rattle.amo_telling.specs.Untold.{Drops, GoesOn, HasRead, IsAnsweredBehind, IsSent, IsSentHere, KeepsPut, Recalls, Takes, TellsAll, TellsPut, TellsPuts, events_of};
     ghost use Rattle.amo_telling.specs.Unanswered.{settled_line};
     ghost use Rattle.std.specs.List.{flat_map};
 
@@ -64,7 +67,7 @@ impl Untold {
 
     /// The number of the next line.
     pub fn next(&self) -> u64
-        ensures { (first : ℕ) (past : List Event) → HasRead self.now first past → result ≡ first + length past }
+        ensures { (next : ℕ) (past : List Numbered) → HasRead self.now next past → result ≡ next }
     {
         self.next
     }
@@ -74,8 +77,8 @@ impl Untold {
     /// Where memory is refused, the reader is of no use any more.
     pub fn read_on<'a>(&mut self, lines: Lines<'a>) -> Result<(Lines<'a>, Progress), AllocError>
         ensures version { IfOk result (λ read. read.0.version ≡ lines.entry.version) }
-        ensures read { IfOk result (λ read. (first : ℕ) (past : List Event) → HasRead self.old first past
-            → GoesOn self.new first past lines.entry read.0.text.now read.1) }
+        ensures read { IfOk result (λ read. (next : ℕ) (past : List Numbered) → HasRead self.old next past
+            → GoesOn self.new next past lines.entry read.0.text.now read.1) }
     {
         let mut rest = lines;
         while !rest.text.is_empty() {
@@ -86,7 +89,32 @@ impl Untold {
             if !self.goes_on(line.number) {
                 return Ok((rest, Progress::Gap));
             }
-            self.take(&line.event)?;
+            self.take(&line)?;
+            self.next += 1;
+            rest = more;
+        }
+        Ok((rest, Progress::Whole))
+    }
+
+    /// Reads lines that stand somewhere in front of the next one, each with its own number: those that matter for puts without an answer. Reading goes
+    /// on at the same next line. Answers what is left behind the lines that were read, and why.
+    ///
+    /// Where memory is refused, the reader is of no use any more.
+    pub fn recall<'a>(&mut self, lines: Lines<'a>) -> Result<(Lines<'a>, Progress), AllocError>
+        ensures version { IfOk result (λ read. read.0.version ≡ lines.entry.version) }
+        ensures read { IfOk result (λ read. (next : ℕ) (past : List Numbered) → HasRead self.old next past
+            → Recalls self.new next past lines.entry read.0.text.now read.1) }
+    {
+        let mut rest = lines;
+        while !rest.text.is_empty() {
+            let Some((line, more)) = line_in_front(self.alloc, rest)? else {
+                let progress = stopped(rest.text);
+                return Ok((rest, progress));
+            };
+            if !self.is_before(&line) {
+                return Ok((rest, Progress::Gap));
+            }
+            self.take(&line)?;
             rest = more;
         }
         Ok((rest, Progress::Whole))
@@ -100,18 +128,34 @@ impl Untold {
         number == self.next && self.next < u64::MAX
     }
 
-    /// One event more.
-    fn take(&mut self, event: &Event) -> Result<(), AllocError>
-        requires stream { IsStream event.now.stream }
-        requires few { self.old.next + 1 < 2 ^ 64 }
-        ensures { OnOk result ((first : ℕ) (past : List Event) → HasRead self.old first past → HasRead self.new first (event.now ∷ past)) }
+    /// Whether a line can be one of those in front of the next one that were not read yet: its number is smaller, no put is kept of it, and its stream
+    /// took fewer puts than there are such numbers.
+    fn is_before(&self, line: &Numbered) -> bool
+        requires { IsStream line.now.event.stream }
+        ensures yes { IsTrue result → (line.now.number < self.now.next) × (is_some (get nat_cmp self.now.puts line.now.number) ≡ false) × (get_or self.now.counts (line.now.event.stream - 1) 0 < self.now.next) × (get_or self.now.counts (line.now.event.stream - 1) 0 + 1 < 2 ^ 64) }
+        ensures no { result ≡ false → (self.now.next ≤ line.now.number) ⊎ ((is_some (get nat_cmp self.now.puts line.now.number) ≡ true) ⊎ (self.now.next ≤ get_or self.now.counts (line.now.event.stream - 1) 0)) }
     {
+        if line.number >= self.next {
+            return false;
+        }
+        if self.puts.contains_key(&line.number) {
+            return false;
+        }
+        let taken = self.counts[line.event.stream as usize - 1] as u64;
+        taken < self.next
+    }
+
+    /// One line more.
+    fn take(&mut self, line: &Numbered) -> Result<(), AllocError>
+        requires { IsStream line.now.event.stream }
+        ensures next { OnOk result (self.new.next ≡ self.old.next) }
+        ensures taken { OnOk result (Takes self.old self.new line.now) }
+    {
+        let event = &line.event;
         let sent = self.sent_before(event)?;
         self.followers.follow(event)?;
         self.drop_answered(event.stream as usize - 1, sent.as_slice())?;
-        self.note(event)?;
-        self.next += 1;
-        Ok(())
+        self.note(line.number, event)
     }
 
     /// Of the stream of an ack that comes, the puts that were sent, and of which it is not settled what became of them.
@@ -200,15 +244,15 @@ impl Untold {
         Ok(())
     }
 
-    /// A put that was taken is kept, and is open; a crash forgets those that are.
-    fn note(&mut self, event: &Event) -> Result<(), AllocError>
+    /// A put that was taken on the line of this number is kept, and is open; a crash forgets those that are.
+    fn note(&mut self, number: u64, event: &Event) -> Result<(), AllocError>
         requires { IsStream event.now.stream }
         ensures same { (self.new.followers ≡ self.old.followers) × (self.new.next ≡ self.old.next) }
-        ensures kept { OnOk result ((m : List ℕ) → event.now.act ≡ act.Put m → event.now.reply ≡ reply.Ok → KeepsPut self.old self.new event.now.stream m) }
+        ensures kept { OnOk result ((m : List ℕ) → event.now.act ≡ act.Put m → event.now.reply ≡ reply.Ok → KeepsPut self.old self.new number event.now.stream m) }
         ensures none { is_put event.now.act event.now.reply ≡ false → (self.new.counts ≡ self.old.counts) × (self.new.puts ≡ self.old.puts) }
     {
         match (&event.act, &event.reply) {
-            (Act::Put(message), Reply::Ok) => self.keep(event.stream, message.bytes()),
+            (Act::Put(message), Reply::Ok) => self.keep(number, event.stream, message.bytes()),
             (Act::Crash, _) if event.side == End::Sender => {
                 self.pending[event.stream as usize - 1].clear();
                 Ok(())
@@ -217,11 +261,11 @@ impl Untold {
         }
     }
 
-    /// A put that was taken is kept, and is open.
-    fn keep(&mut self, stream: u32, message: &[u8]) -> Result<(), AllocError>
+    /// A put that was taken on the line of this number is kept, and is open.
+    fn keep(&mut self, number: u64, stream: u32, message: &[u8]) -> Result<(), AllocError>
         requires { IsStream stream }
         ensures same { (self.new.followers ≡ self.old.followers) × (self.new.next ≡ self.old.next) }
-        ensures kept { OnOk result (KeepsPut self.old self.new stream message.now) }
+        ensures kept { OnOk result (KeepsPut self.old self.new number stream message.now) }
     {
         let place = stream as usize - 1;
         let taken = self.counts[place];
@@ -231,8 +275,8 @@ impl Untold {
             message: Vec::from_slice(self.alloc, message)?,
         };
         self.counts[place] = taken.saturating_add(1);
-        self.puts.insert(self.next, put)?;
-        self.pending[place].push(self.next)?;
+        self.puts.insert(number, put)?;
+        self.pending[place].push(number)?;
         Ok(())
     }
 
@@ -242,7 +286,7 @@ impl Untold {
     /// have taken the line that tells so; these lines are doubtful. In JSON it has the number of the put's line. Last, `STREAM settled` for each stream
     /// of which one is told as unknown, and nothing is in doubt.
     pub fn tell(&self, doubts: &[Span], in_doubt: &[u32], json: bool) -> Result<Vec<u8>, AllocError>
-        ensures { IfOk result (λ text. (first : ℕ) (past : List Event) → HasRead self.now first past → IsRight past → TellsAll self.now past doubts.now in_doubt.now json text.items) }
+        ensures { IfOk result (λ text. (next : ℕ) (past : List Numbered) → HasRead self.now next past → IsRight (events_of past) → TellsAll self.now (events_of past) doubts.now in_doubt.now json text.items) }
     {
         let mut text = Vec::new(self.alloc);
         self.tell_settled(doubts, in_doubt, json, &mut text)?;

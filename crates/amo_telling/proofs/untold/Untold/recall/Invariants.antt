@@ -1,0 +1,15 @@
+use Rattle.std.proofs.Common.{◌≡◌, List, ℕ, length}
+use Rattle.amo_journal.specs.declared.numbered.Numbered.{Numbered}
+use Rattle.amo_telling.specs.Untold.{HasRead}
+use Rattle.amo_telling.proofs.Untolds.{IsRecalled}
+use Rattle.amo_telling.proofs.untold.Untold.recall.Given as goal
+
+-- so many lines were recalled
+abbrev pub invariant-loop-rest : goal.invariant-loop-rest
+invariant-loop-rest l = record {
+  version : l.rest.version ≡ l.fn.lines.version;
+  read : (next : ℕ) (past : List Numbered) → HasRead l.fn.self next past → IsRecalled next past l.fn.lines l.rest.text.now l.self;
+}
+
+abbrev pub decreases-loop-rest : goal.decreases-loop-rest
+decreases-loop-rest l = length l.rest.text.now
