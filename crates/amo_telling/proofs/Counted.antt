@@ -168,7 +168,7 @@ one_counts number past e right before = by (eqb number e.stream) refl
         rw is (omega (arith, more, before))
     by false is = rw is (omega (arith, before))
 
-right_counts : (number : ℕ) (past : List Event) → IsRight past → (puts_after number past).count ≡ puts_in number past
+pub right_counts : (number : ℕ) (past : List Event) → IsRight past → (puts_after number past).count ≡ puts_in number past
 right_counts number [] right = refl
 right_counts number (e ∷ past) right = one_counts number past e right.0 (right_counts number past right.1)
 

@@ -6,4 +6,5 @@ pub mod LineByLine
 pub mod GoingOn
 pub mod Pairs
 pub mod Untolds
+pub mod Tallies
 pub mod Settling

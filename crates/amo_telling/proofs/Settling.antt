@@ -1,32 +1,19 @@
 -- What a start tells of streams in doubt, and of puts that were not answered.
-use Rattle.std.proofs.Common.{◌≡◌, ◌∙◌, ◌⊎◌, ℕ, Bool, List, [], ◌∷◌, ◌++◌, inl, inr, sym, ap, subst, append_assoc, append-nil, refl, Bor}
-use Rattle.std.specs.List.{Contains, flat_map}
+use Rattle.std.proofs.Common.{◌≡◌, ◌∙◌, ℕ, Bool, List, [], ◌∷◌, ◌++◌, sym, ap, subst, append_assoc, append-nil, refl, Bor}
+use Rattle.std.specs.List.{flat_map}
 use Rattle.std.proofs.lemmas.Grind.{flat_map-append}
-use Rattle.std.proofs.lemmas.List.Elements.{Contains-push_cases}
 use Rattle.amo_world.specs.declared.event.Event.{Event}
 use Rattle.amo_lives.specs.declared.doubt.Span.{Span}
 use Rattle.amo_telling.specs.declared.put.Put.{Put}
 use Rattle.amo_telling.specs.Unanswered.{settled_line}
 use Rattle.amo_telling.specs.Untold.{TellsPut, TellsPuts}
 
--- of some of these streams the lines stand behind what was told before
-abbrev pub SettledSoFar : Bool → List ℕ → List ℕ → List ℕ → Type 0
-SettledSoFar json in_doubt old new = (streams : List ℕ) × ((stream : ℕ) → Contains streams stream → Contains in_doubt stream) × (new ≡ old ++ flat_map (settled_line json) streams)
-
--- of one more
+-- one line more stands behind those of some streams
 pub one_line_more : (json : Bool) (old text new streams : List ℕ) (stream : ℕ) → text ≡ old ++ flat_map (settled_line json) streams → new ≡ text ++ settled_line json stream → new ≡ old ++ flat_map (settled_line json) (streams ++ stream ∷ [])
 one_line_more json old text new streams stream is more =
     let line = settled_line json stream in
     let lines = flat_map (settled_line json) streams in
     more ∙ (ap (λ (l : List ℕ). l ++ line) is ∙ (append_assoc old lines line ∙ ap (λ (l : List ℕ). old ++ l) (sym (flat_map-append (settled_line json) streams (stream ∷ []) ∙ ap (λ (l : List ℕ). lines ++ l) (append-nil line)))))
-
-pub one_more_settled : (json : Bool) (in_doubt old text new : List ℕ) (stream : ℕ) → SettledSoFar json in_doubt old text → Contains in_doubt stream → new ≡ text ++ settled_line json stream → SettledSoFar json in_doubt old new
-one_more_settled json in_doubt old text new stream (streams, within, is) has more =
-    (streams ++ stream ∷ [], λ other here. among other (Contains-push_cases streams stream other here), one_line_more json old text new streams stream is more)
-  where
-    among : (other : ℕ) → Contains streams other ⊎ (stream ≡ other) → Contains in_doubt other
-    among other (inl here) = within other here
-    among other (inr same) = subst (Contains in_doubt) same has
 
 -- a number and its put, as they stand
 abbrev pub read_pair : Bor ℕ × Bor Put → ℕ × Put

@@ -37,7 +37,7 @@ use Rattle.amo_journal.proofs.Fields.{IsLine-fields_of}
 use Rattle.amo_telling.specs.declared.unanswered.Progress.{Progress}
 use Rattle.amo_telling.specs.declared.unanswered.Progress.TheVariants.{Gap, Malformed, Whole}
 use Rattle.amo_telling.specs.Unanswered.{StopsBy, is_ack}
-use Rattle.amo_telling.specs.Untold.{Drops, GoesOn, HasRead, HasTaken, IsAnswered, IsAnsweredBehind, IsAnsweredBy, IsKept, IsNotBefore, IsNotNext, IsPutAt, IsSent, IsSentHere, KeepsPut, Recalls, Takes, events_of}
+use Rattle.amo_telling.specs.Untold.{Drops, GoesOn, HasRead, HasTaken, IsAnswered, IsAnsweredBehind, IsAnsweredBy, IsKept, IsMarked, IsNotBefore, IsNotNext, IsPutAt, IsSent, IsSentHere, KeepsPut, Recalls, Takes, events_of}
 use Rattle.amo_telling.proofs.SoFar.{numbered_push}
 
 -- the first of two lines, and those behind it
@@ -160,20 +160,26 @@ counts_one counts past e place is small put counted = record {
         omega (arith, there, before, none)
 
 -- nothing was read
-pub nothing_read : (untold : Untold) (first : ℕ) → HaveFollowedSenders untold.followers [] → untold.counts ≡ replicate 256 0 → untold.puts.entries ≡ [] → untold.next ≡ first
+pub nothing_read : (untold : Untold) (first : ℕ) → HaveFollowedSenders untold.followers [] → untold.counts ≡ replicate 256 0 → untold.answered ≡ replicate 256 false → untold.puts.entries ≡ [] → untold.next ≡ first
     → HasRead untold first []
-nothing_read untold first followed zeros empty next = record {
+nothing_read untold first followed zeros unmarked empty next = record {
   taken = record {
     followed = λ right. followed;
     counted = subst (λ (t : List ℕ). Counts t []) (sym zeros) (record { each = length-replicate {A = ℕ} 256 0; puts = λ place small. get_or-replicate {A = ℕ} 256 place 0 0 small });
     kept = λ number put is. absurd (no put (ap (lookup (is_at (nat_cmp number))) (sym empty) ∙ is));
     all = λ number stream place m at. let long = ap length at.splits ∙ length-append at.later (at.line ∷ at.before) in absurd (omega (arith, long));
+    marked = λ stream mark right.
+        let small : stream - 1 < 256 = omega (arith, mark.0.0, mark.0.1) in
+        absurd (unlike (sym mark.1 ∙ (ap (λ (l : List Bool). get_or l (stream - 1) false) unmarked ∙ get_or-replicate {A = Bool} 256 (stream - 1) false false small)));
   };
   next_is = next;
   before = All-nil (λ (line : Numbered). line.number < first);
   few = λ stream. omega arith;
 }
   where
+    unlike : true ≡ false → ⊥
+    unlike e = cc
+
     no : (put : Put) → None ≡ Some put → ⊥
     no put e = cc
 
@@ -190,7 +196,15 @@ apart_numbers x y other = by (is_at (nat_cmp x) y) refl
 
 -- nothing is dropped yet
 pub none_dropped : (old : Untold) (sent : List ℕ) → Drops old old sent
-none_dropped old sent number = inl refl
+none_dropped old sent = (
+  λ number. inl refl,
+  λ number put is none. absurd (no put (sym none ∙ is)),
+  λ stream mark. mark,
+  λ stream mark. inl mark,
+)
+  where
+    no : (put : Put) → None ≡ Some put → ⊥
+    no put e = cc
 
 -- one is dropped, which was answered
 pub one_dropped : (old : Untold) (now : ℕ → Option Put) (one : ℕ) → IsAnsweredBehind old old.followers one → now one ≡ None
@@ -206,6 +220,55 @@ one_dropped old now one answered none others number = by (eqb_tells number one)
       subst (λ n. IsAnsweredBehind old old.followers n) (sym here) answered,
     )
     by (inr (f, apart)) = inl (others number (apart_numbers one number apart))
+
+-- its stream is marked
+pub one_marked : (old new : Untold) (one : ℕ) (put : Put) → get nat_cmp old.puts one ≡ Some put → IsAnsweredBehind old old.followers one → new.answered ≡ set old.answered (put.stream - 1) true
+    → length old.answered ≡ 256 → get nat_cmp new.puts one ≡ None → ((number : ℕ) → is_at (nat_cmp one) number ≡ false → get nat_cmp new.puts number ≡ get nat_cmp old.puts number)
+    → Drops old new (one ∷ [])
+one_marked old new one put is answered marks long none others = (
+  one_dropped old (get nat_cmp new.puts) one answered none others,
+  λ number other was gone. marked number other was gone (eqb_tells number one),
+  λ stream mark. (mark.0, by_new mark.0 (eqb_tells stream put.stream) mark.1),
+  λ stream mark. by_old stream mark (eqb_tells stream put.stream),
+)
+  where
+    no : (p : Put) → None ≡ Some p → ⊥
+    no p e = cc
+
+    unlike : false ≡ true → ⊥
+    unlike e = cc
+
+    named : IsStream put.stream
+    named = put.named
+
+    here_set : (stream : ℕ) → stream ≡ put.stream → get_or new.answered (stream - 1) false ≡ true
+    here_set stream same =
+        ap (λ (l : List Bool). get_or l (stream - 1) false) marks
+        ∙ get_or-set_at old.answered (put.stream - 1) (stream - 1) true false (ap (λ n. n - 1) same) (omega (arith, long, named.0, named.1))
+
+    other_set : (stream : ℕ) → IsStream stream → (stream ≡ put.stream → ⊥) → get_or new.answered (stream - 1) false ≡ get_or old.answered (stream - 1) false
+    other_set stream is_one apart =
+        ap (λ (l : List Bool). get_or l (stream - 1) false) marks
+        ∙ get_or-set_other old.answered (put.stream - 1) (stream - 1) true false (λ same. apart (omega (arith, same, is_one.0, named.0)))
+
+    marked : (number : ℕ) (other : Put) → get nat_cmp old.puts number ≡ Some other → get nat_cmp new.puts number ≡ None
+        → ((eqb number one ≡ true) × (number ≡ one)) ⊎ ((eqb number one ≡ false) × (number ≡ one → ⊥)) → IsMarked new.answered other.stream
+    marked number other was gone (inl (t, here)) =
+        let same : put ≡ other = same_Some put other (sym is ∙ (ap (get nat_cmp old.puts) (sym here) ∙ was)) in
+        subst (λ (p : Put). IsMarked new.answered p.stream) same (named, here_set put.stream refl)
+    marked number other was gone (inr (f, apart)) = absurd (no other (sym gone ∙ (others number (apart_numbers one number apart) ∙ was)))
+
+    by_new : {stream : ℕ} → IsStream stream → ((eqb stream put.stream ≡ true) × (stream ≡ put.stream)) ⊎ ((eqb stream put.stream ≡ false) × (stream ≡ put.stream → ⊥))
+        → get_or old.answered (stream - 1) false ≡ true → get_or new.answered (stream - 1) false ≡ true
+    by_new {stream} is_one (inl (t, here)) mark = here_set stream here
+    by_new {stream} is_one (inr (f, apart)) mark = other_set stream is_one apart ∙ mark
+
+    by_old : (stream : ℕ) → IsMarked new.answered stream → ((eqb stream put.stream ≡ true) × (stream ≡ put.stream)) ⊎ ((eqb stream put.stream ≡ false) × (stream ≡ put.stream → ⊥))
+        → IsMarked old.answered stream ⊎ ((number : ℕ) × Contains (one ∷ []) number × ((a : IsAnsweredBehind old old.followers number) × (a.0.stream ≡ stream)))
+    by_old stream mark (inl (t, here)) =
+        let same : answered.0 ≡ put = same_Some answered.0 put (sym answered.1 ∙ is) in
+        inr (one, Contains-push [] one, (answered, ap (λ (p : Put). p.stream) same ∙ sym here))
+    by_old stream mark (inr (f, apart)) = inl (mark.0, sym (other_set stream mark.0 apart) ∙ mark.1)
 
 -- one more was sent
 pub one_more_sent : (untold : Untold) (a : Act) (sent : List ℕ) (one : ℕ) (now : List ℕ) → now ≡ sent ++ one ∷ [] → is_ack a ≡ true → IsSent untold one
@@ -243,38 +306,65 @@ taken_put act.Recover r is = cc
 
 -- one more is dropped, or is not
 pub dropped_more : (old mid new : Untold) (sent : List ℕ) (one : ℕ) → mid.followers ≡ old.followers → Drops old mid sent → Drops mid new (one ∷ []) → Drops old new (sent ++ one ∷ [])
-dropped_more old mid new sent one same before drop number = by (before number) (drop number)
+dropped_more old mid new sent one same before drop = (
+  λ number. kept_more number (before.0 number) (drop.0 number),
+  λ number put is none. marks_more number put is none (before.0 number),
+  λ stream mark. drop.2 stream (before.2 stream mark),
+  λ stream mark. since stream (drop.3 stream mark),
+)
   where
-    others : (put : Put) → (get nat_cmp mid.puts number ≡ None) → get nat_cmp mid.puts number ≡ Some put → ⊥
-    others put none is = no (sym none ∙ is)
-      where
-        no : None ≡ Some put → ⊥
-        no e = cc
+    no : (put : Put) → None ≡ Some put → ⊥
+    no put e = cc
 
-    answered : (get nat_cmp mid.puts number ≡ get nat_cmp old.puts number) → IsAnsweredBehind mid mid.followers number → IsAnsweredBehind old old.followers number
-    answered kept (put, is, (outcome, answer, told)) = (
+    answered : (number : ℕ) → (get nat_cmp mid.puts number ≡ get nat_cmp old.puts number) → IsAnsweredBehind mid mid.followers number → IsAnsweredBehind old old.followers number
+    answered number kept (put, is, (outcome, answer, told)) = (
       put,
       sym kept ∙ is,
       (outcome, answer, λ past follows. told past (subst (λ (f : SenderFollowers). HaveFollowedSenders f past) (sym same) follows)),
     )
 
-    named : Contains (one ∷ []) number → Contains (sent ++ one ∷ []) number
-    named here = Contains-append_right sent (one ∷ []) number here
+    named : (number : ℕ) → Contains (one ∷ []) number → Contains (sent ++ one ∷ []) number
+    named number here = Contains-append_right sent (one ∷ []) number here
 
-    by : (get nat_cmp mid.puts number ≡ get nat_cmp old.puts number) ⊎ ((get nat_cmp mid.puts number ≡ None) × Contains sent number × IsAnsweredBehind old old.followers number)
+    kept_more : (number : ℕ) → (get nat_cmp mid.puts number ≡ get nat_cmp old.puts number) ⊎ ((get nat_cmp mid.puts number ≡ None) × Contains sent number × IsAnsweredBehind old old.followers number)
         → (get nat_cmp new.puts number ≡ get nat_cmp mid.puts number) ⊎ ((get nat_cmp new.puts number ≡ None) × Contains (one ∷ []) number × IsAnsweredBehind mid mid.followers number)
         → (get nat_cmp new.puts number ≡ get nat_cmp old.puts number) ⊎ ((get nat_cmp new.puts number ≡ None) × Contains (sent ++ one ∷ []) number × IsAnsweredBehind old old.followers number)
-    by (inl kept) (inl now) = inl (now ∙ kept)
-    by (inl kept) (inr (none, here, was)) = inr (none, named here, answered kept was)
-    by (inr (none, here, was)) (inl now) = inr (now ∙ none, Contains-append_left sent (one ∷ []) number here, was)
-    by (inr (none, here, was)) (inr (none', here', was')) = inr (none', Contains-append_left sent (one ∷ []) number here, was)
+    kept_more number (inl kept) (inl now) = inl (now ∙ kept)
+    kept_more number (inl kept) (inr (none, here, was)) = inr (none, named number here, answered number kept was)
+    kept_more number (inr (none, here, was)) (inl now) = inr (now ∙ none, Contains-append_left sent (one ∷ []) number here, was)
+    kept_more number (inr (none, here, was)) (inr (none', here', was')) = inr (none', Contains-append_left sent (one ∷ []) number here, was)
+
+    marks_more : (number : ℕ) (put : Put) → get nat_cmp old.puts number ≡ Some put → get nat_cmp new.puts number ≡ None
+        → (get nat_cmp mid.puts number ≡ get nat_cmp old.puts number) ⊎ ((get nat_cmp mid.puts number ≡ None) × Contains sent number × IsAnsweredBehind old old.followers number)
+        → IsMarked new.answered put.stream
+    marks_more number put is none (inl kept) = drop.1 number put (kept ∙ is) none
+    marks_more number put is none (inr (gone, here, was)) = drop.2 put.stream (before.1 number put is gone)
+
+    among : (stream : ℕ) → IsMarked old.answered stream ⊎ ((number : ℕ) × Contains sent number × ((a : IsAnsweredBehind old old.followers number) × (a.0.stream ≡ stream)))
+        → IsMarked old.answered stream ⊎ ((number : ℕ) × Contains (sent ++ one ∷ []) number × ((a : IsAnsweredBehind old old.followers number) × (a.0.stream ≡ stream)))
+    among stream (inl mark) = inl mark
+    among stream (inr (number, here, rest)) = inr (number, Contains-append_left sent (one ∷ []) number here, rest)
+
+    since : (stream : ℕ) → IsMarked mid.answered stream ⊎ ((number : ℕ) × Contains (one ∷ []) number × ((a : IsAnsweredBehind mid mid.followers number) × (a.0.stream ≡ stream)))
+        → IsMarked old.answered stream ⊎ ((number : ℕ) × Contains (sent ++ one ∷ []) number × ((a : IsAnsweredBehind old old.followers number) × (a.0.stream ≡ stream)))
+    since stream (inl mark) = among stream (before.3 stream mark)
+    since stream (inr (number, here, (was, own))) = by (before.0 number)
+      where
+        by : (get nat_cmp mid.puts number ≡ get nat_cmp old.puts number) ⊎ ((get nat_cmp mid.puts number ≡ None) × Contains sent number × IsAnsweredBehind old old.followers number)
+            → IsMarked old.answered stream ⊎ ((number : ℕ) × Contains (sent ++ one ∷ []) number × ((a : IsAnsweredBehind old old.followers number) × (a.0.stream ≡ stream)))
+        by (inl kept) = inr (number, named number here, (answered number kept was, own))
+        by (inr (none, here', was')) = absurd (no was.0 (sym none ∙ was.1))
 
 -- What is kept behind one line more. Some puts are dropped first, which an ack answered by it.
 module _ (old : Untold) (now : SenderFollowers) (past : List Numbered) (line : Numbered) (sent : List ℕ) (have : HasTaken old past)
     (asked : (number : ℕ) → Contains sent number → IsSentHere old line.event.act number)
     (follows : (past : List Event) → IsRight (line.event ∷ past) → HaveFollowedSenders old.followers past → HaveFollowedSenders now (line.event ∷ past))
     (mid : ℕ → Option Put)
-    (drops : (number : ℕ) → (mid number ≡ get nat_cmp old.puts number) ⊎ ((mid number ≡ None) × Contains sent number × IsAnsweredBehind old now number)) where
+    (drops : (number : ℕ) → (mid number ≡ get nat_cmp old.puts number) ⊎ ((mid number ≡ None) × Contains sent number × IsAnsweredBehind old now number))
+    (marks : List Bool) (marks_dropped : (number : ℕ) (put : Put) → get nat_cmp old.puts number ≡ Some put → mid number ≡ None → IsMarked marks put.stream)
+    (keeps_marks : (stream : ℕ) → IsMarked old.answered stream → IsMarked marks stream)
+    (marks_no_other : (stream : ℕ) → IsMarked marks stream
+    → IsMarked old.answered stream ⊎ ((number : ℕ) × Contains sent number × ((answered : IsAnsweredBehind old now number) × (answered.0.stream ≡ stream)))) where
   -- a put that is kept is one that was kept
   dropped_none : (number : ℕ) (put : Put) → mid number ≡ Some put → get nat_cmp old.puts number ≡ Some put
   dropped_none number put is = by (drops number)
@@ -303,22 +393,41 @@ module _ (old : Untold) (now : SenderFollowers) (past : List Numbered) (line : N
       )
 
   pub all_behind : (number stream place : ℕ) (m : List ℕ) → IsPutAt past number stream place m
-      → IsKept mid number stream place m ⊎ (IsRight (events_of (line ∷ past)) → IsAnswered stream (events_of (line ∷ past)) place)
+      → IsKept mid number stream place m ⊎ (IsMarked marks stream × (IsRight (events_of (line ∷ past)) → IsAnswered stream (events_of (line ∷ past)) place))
   all_behind number stream place m at = by_kept (have.all number stream place m at)
     where
       by_drop : (put : Put) → get nat_cmp old.puts number ≡ Some put → put.stream ≡ stream → put.place ≡ place → put.message.items ≡ m
           → (mid number ≡ get nat_cmp old.puts number) ⊎ ((mid number ≡ None) × Contains sent number × IsAnsweredBehind old now number)
-          → IsKept mid number stream place m ⊎ (IsRight (events_of (line ∷ past)) → IsAnswered stream (events_of (line ∷ past)) place)
+          → IsKept mid number stream place m ⊎ (IsMarked marks stream × (IsRight (events_of (line ∷ past)) → IsAnswered stream (events_of (line ∷ past)) place))
       by_drop put is own here message (inl same) = inl (put, same ∙ is, own, here, message)
       by_drop put is own here message (inr (none, named, answered)) =
-          inr (λ right. inl (subst (λ n. IsAnsweredBy n (events_of past) line.event place) own (subst (λ n. IsAnsweredBy put.stream (events_of past) line.event n) here (answered_now number put is named answered right))))
+          inr (subst (IsMarked marks) own (marks_dropped number put is none), λ right. inl (subst (λ n. IsAnsweredBy n (events_of past) line.event place) own (subst (λ n. IsAnsweredBy put.stream (events_of past) line.event n) here (answered_now number put is named answered right))))
 
-      by_kept : IsKept (get nat_cmp old.puts) number stream place m ⊎ (IsRight (events_of past) → IsAnswered stream (events_of past) place)
-          → IsKept mid number stream place m ⊎ (IsRight (events_of (line ∷ past)) → IsAnswered stream (events_of (line ∷ past)) place)
+      by_kept : IsKept (get nat_cmp old.puts) number stream place m ⊎ (IsMarked old.answered stream × (IsRight (events_of past) → IsAnswered stream (events_of past) place))
+          → IsKept mid number stream place m ⊎ (IsMarked marks stream × (IsRight (events_of (line ∷ past)) → IsAnswered stream (events_of (line ∷ past)) place))
       by_kept (inl (put, is, own, here, message)) = by_drop put is own here message (drops number)
-      by_kept (inr was) = inr (λ right. inr (was right.1))
+      by_kept (inr was) = inr (keeps_marks stream was.0, λ right. inr (was.1 right.1))
 
-  module _ (new : Untold) (followers_is : new.followers ≡ now) where
+  -- of a stream that is marked one was answered
+  pub marked_behind : (stream : ℕ) → IsMarked marks stream → IsRight (events_of (line ∷ past)) → (place : ℕ) × IsAnswered stream (events_of (line ∷ past)) place
+  marked_behind stream mark right = by (marks_no_other stream mark)
+    where
+      by : IsMarked old.answered stream ⊎ ((number : ℕ) × Contains sent number × ((answered : IsAnsweredBehind old now number) × (answered.0.stream ≡ stream)))
+          → (place : ℕ) × IsAnswered stream (events_of (line ∷ past)) place
+      by (inl was) = let before = have.marked stream was right.1 in (before.0, inr before.1)
+      by (inr (number, here, (answered, own))) =
+          let put = answered.0 in (
+            put.place,
+            inl (subst (λ n. IsAnsweredBy n (events_of past) line.event put.place) own (answered_now number put answered.1 here answered right)),
+          )
+
+  module _ (new : Untold) (followers_is : new.followers ≡ now) (marks_is : new.answered ≡ marks) where
+    marked_so : (stream : ℕ) → IsMarked marks stream → IsMarked new.answered stream
+    marked_so stream mark = subst (λ (l : List Bool). IsMarked l stream) (sym marks_is) mark
+
+    marked_new : (stream : ℕ) → IsMarked new.answered stream → IsRight (events_of (line ∷ past)) → (place : ℕ) × IsAnswered stream (events_of (line ∷ past)) place
+    marked_new stream mark right = marked_behind stream (subst (λ (l : List Bool). IsMarked l stream) marks_is mark) right
+
     followed_behind : IsRight (events_of (line ∷ past)) → HaveFollowedSenders new.followers (events_of (line ∷ past))
     followed_behind right = subst (λ (f : SenderFollowers). HaveFollowedSenders f (events_of (line ∷ past))) (sym followers_is) (follows (events_of past) right (have.followed right.1))
 
@@ -329,6 +438,7 @@ module _ (old : Untold) (now : SenderFollowers) (past : List Numbered) (line : N
       counted = subst (λ (t : List ℕ). Counts t (events_of (line ∷ past))) (sym counts) (counts_same old.counts (events_of past) line.event not have.counted);
       kept = λ number put is. kept_behind number put (sym (puts number) ∙ is);
       all = λ number stream place m at. by number stream place m (newest_or_before past line number stream place m at);
+      marked = marked_new;
     }
       where
         untrue : (m : List ℕ) → line.event.act ≡ act.Put m → line.event.reply ≡ reply.Ok → ⊥
@@ -341,14 +451,14 @@ module _ (old : Untold) (now : SenderFollowers) (past : List Numbered) (line : N
         kept_so number stream place m (put, is, own, here, message) = (put, puts number ∙ is, own, here, message)
 
         by : (number stream place : ℕ) (m : List ℕ) → IsNewest past line number stream place m ⊎ IsPutAt past number stream place m
-            → IsKept (get nat_cmp new.puts) number stream place m ⊎ (IsRight (events_of (line ∷ past)) → IsAnswered stream (events_of (line ∷ past)) place)
+            → IsKept (get nat_cmp new.puts) number stream place m ⊎ (IsMarked new.answered stream × (IsRight (events_of (line ∷ past)) → IsAnswered stream (events_of (line ∷ past)) place))
         by number stream place m (inl newest) = absurd (untrue m newest.act_is newest.reply_is)
         by number stream place m (inr before) = map_left (all_behind number stream place m before)
           where
-            map_left : IsKept mid number stream place m ⊎ (IsRight (events_of (line ∷ past)) → IsAnswered stream (events_of (line ∷ past)) place)
-                → IsKept (get nat_cmp new.puts) number stream place m ⊎ (IsRight (events_of (line ∷ past)) → IsAnswered stream (events_of (line ∷ past)) place)
+            map_left : IsKept mid number stream place m ⊎ (IsMarked marks stream × (IsRight (events_of (line ∷ past)) → IsAnswered stream (events_of (line ∷ past)) place))
+                → IsKept (get nat_cmp new.puts) number stream place m ⊎ (IsMarked new.answered stream × (IsRight (events_of (line ∷ past)) → IsAnswered stream (events_of (line ∷ past)) place))
             map_left (inl kept) = inl (kept_so number stream place m kept)
-            map_left (inr was) = inr was
+            map_left (inr was) = inr (marked_so stream was.0, was.1)
 
     -- a put, which is kept
     module _ (m : List ℕ) (act_is : line.event.act ≡ act.Put m) (reply_is : line.event.reply ≡ reply.Ok) (place : ℕ) (place_is : place + 1 ≡ line.event.stream) (small : place < 256)
@@ -397,6 +507,7 @@ module _ (old : Untold) (now : SenderFollowers) (past : List Numbered) (line : N
         counted = subst (λ (t : List ℕ). Counts t (events_of (line ∷ past))) (sym counts) (counts_one old.counts (events_of past) line.event place place_is small is_one have.counted);
         kept = λ number put is. by_number number put is (eqb_tells number line.number);
         all = λ number stream place m at. by number stream place m (newest_or_before past line number stream place m at);
+        marked = marked_new;
       }
         where
           by_number : (number : ℕ) (put : Put) → get nat_cmp new.puts number ≡ Some put
@@ -412,14 +523,14 @@ module _ (old : Untold) (now : SenderFollowers) (past : List Numbered) (line : N
               no e = cc
 
           by : (number stream place : ℕ) (m : List ℕ) → IsNewest past line number stream place m ⊎ IsPutAt past number stream place m
-              → IsKept (get nat_cmp new.puts) number stream place m ⊎ (IsRight (events_of (line ∷ past)) → IsAnswered stream (events_of (line ∷ past)) place)
+              → IsKept (get nat_cmp new.puts) number stream place m ⊎ (IsMarked new.answered stream × (IsRight (events_of (line ∷ past)) → IsAnswered stream (events_of (line ∷ past)) place))
           by number stream place m (inl newest) = inl (by_newest number stream place m newest)
           by number stream place m (inr before) = map_left (all_behind number stream place m before)
             where
-              map_left : IsKept mid number stream place m ⊎ (IsRight (events_of (line ∷ past)) → IsAnswered stream (events_of (line ∷ past)) place)
-                  → IsKept (get nat_cmp new.puts) number stream place m ⊎ (IsRight (events_of (line ∷ past)) → IsAnswered stream (events_of (line ∷ past)) place)
+              map_left : IsKept mid number stream place m ⊎ (IsMarked marks stream × (IsRight (events_of (line ∷ past)) → IsAnswered stream (events_of (line ∷ past)) place))
+                  → IsKept (get nat_cmp new.puts) number stream place m ⊎ (IsMarked new.answered stream × (IsRight (events_of (line ∷ past)) → IsAnswered stream (events_of (line ∷ past)) place))
               map_left (inl (put, is, own, here, message)) = inl (put, others number (held number put is) ∙ is, own, here, message)
-              map_left (inr was) = inr was
+              map_left (inr was) = inr (marked_so stream was.0, was.1)
 
     -- whichever it is
     pub read_either : (between : Untold) → ((number : ℕ) → get nat_cmp between.puts number ≡ mid number) → between.counts ≡ old.counts → IsStream line.event.stream
@@ -471,28 +582,29 @@ few_more number e past = by ((number == e.stream) && is_put e.act e.reply) refl
     by false is = let none = ap one_if is in omega (arith, none)
 
 -- what is told does not depend on which line is the next
-pub same_taken : (now new : Untold) (past : List Numbered) → new.followers ≡ now.followers → new.counts ≡ now.counts → new.puts ≡ now.puts → HasTaken now past → HasTaken new past
-same_taken now new past followers counts puts have = record {
+pub same_taken : (now new : Untold) (past : List Numbered) → new.followers ≡ now.followers → new.counts ≡ now.counts → new.answered ≡ now.answered → new.puts ≡ now.puts → HasTaken now past → HasTaken new past
+same_taken now new past followers counts marks puts have = record {
   followed = λ right. subst (λ (f : SenderFollowers). HaveFollowedSenders f (events_of past)) (sym followers) (have.followed right);
   counted = subst (λ (t : List ℕ). Counts t (events_of past)) (sym counts) have.counted;
   kept = λ number put is. have.kept number put (ap (λ t. get nat_cmp t number) (sym puts) ∙ is);
   all = λ number stream place m at. by number stream place m (have.all number stream place m at);
+  marked = λ stream mark. have.marked stream (subst (λ (l : List Bool). IsMarked l stream) marks mark);
 }
   where
-    by : (number stream place : ℕ) (m : List ℕ) → IsKept (get nat_cmp now.puts) number stream place m ⊎ (IsRight (events_of past) → IsAnswered stream (events_of past) place)
-        → IsKept (get nat_cmp new.puts) number stream place m ⊎ (IsRight (events_of past) → IsAnswered stream (events_of past) place)
+    by : (number stream place : ℕ) (m : List ℕ) → IsKept (get nat_cmp now.puts) number stream place m ⊎ (IsMarked now.answered stream × (IsRight (events_of past) → IsAnswered stream (events_of past) place))
+        → IsKept (get nat_cmp new.puts) number stream place m ⊎ (IsMarked new.answered stream × (IsRight (events_of past) → IsAnswered stream (events_of past) place))
     by number stream place m (inl (put, is, own, here, message)) = inl (put, ap (λ t. get nat_cmp t number) puts ∙ is, own, here, message)
-    by number stream place m (inr was) = inr was
+    by number stream place m (inr was) = inr (subst (λ (l : List Bool). IsMarked l stream) (sym marks) was.0, was.1)
 
 -- the next line is one more
 pub next_taken : (old now new : Untold) (next : ℕ) (past : List Numbered) (line : Numbered) → HasRead old next past → line.number ≡ old.next → old.next + 1 < 2 ^ 64
-    → Takes old now line → new.followers ≡ now.followers → new.counts ≡ now.counts → new.puts ≡ now.puts → new.next ≡ old.next + 1 → HasRead new (next + 1) (line ∷ past)
-next_taken old now new next past line have is few takes followers counts puts more =
+    → Takes old now line → new.followers ≡ now.followers → new.counts ≡ now.counts → new.answered ≡ now.answered → new.puts ≡ now.puts → new.next ≡ old.next + 1 → HasRead new (next + 1) (line ∷ past)
+next_taken old now new next past line have is few takes followers counts marks puts more =
     let here : line.number ≡ next = is ∙ have.next_is in
     let next_is = have.next_is in
     let most = have.few line.event.stream in
     record {
-      taken = same_taken now new (line ∷ past) followers counts puts (takes past have.taken (free here) (omega (arith, few, next_is, most)));
+      taken = same_taken now new (line ∷ past) followers counts marks puts (takes past have.taken (free here) (omega (arith, few, next_is, most)));
       next_is = omega (arith, more, next_is);
       before = All-cons (λ (l : Numbered). l.number < next + 1) line past (omega (arith, here))
           (All-weaker (λ (l : Numbered). l.number < next) (λ (l : Numbered). l.number < next + 1) (λ l less. omega (arith, less)) past have.before);
@@ -584,11 +696,11 @@ module _ (next : ℕ) (past : List Numbered) (lines : Lines) where
   module _ (rest : List ℕ) (untold : Untold) (so_far : IsFurther next past lines rest untold) where
     -- the next line is one more
     pub one_further : (line : Numbered) (more : List ℕ) (now new : Untold) → InRange lines.version line → rest ≡ line_text line ++ more → line.number ≡ untold.next → untold.next + 1 < 2 ^ 64
-        → Takes untold now line → new.followers ≡ now.followers → new.counts ≡ now.counts → new.puts ≡ now.puts → new.next ≡ untold.next + 1 → IsFurther next past lines more new
-    one_further line more now new known is here few takes followers counts puts one =
+        → Takes untold now line → new.followers ≡ now.followers → new.counts ≡ now.counts → new.answered ≡ now.answered → new.puts ≡ now.puts → new.next ≡ untold.next + 1 → IsFurther next past lines more new
+    one_further line more now new known is here few takes followers counts marks puts one =
         let count : untold.next ≡ next + length so_far.events = so_far.have.next_is in
         let numbers : numbered next so_far.events ++ line ∷ [] ≡ numbered next (so_far.events ++ line.event ∷ []) = numbered_push next untold.next so_far.events line count here in
-        let taken = next_taken untold now new (next + length so_far.events) (reverse (numbered next so_far.events) ++ past) line so_far.have here few takes followers counts puts one in
+        let taken = next_taken untold now new (next + length so_far.events) (reverse (numbered next so_far.events) ++ past) line so_far.have here few takes followers counts marks puts one in
         let long = length-append so_far.events (line.event ∷ []) in
         record {
           events = so_far.events ++ line.event ∷ [];

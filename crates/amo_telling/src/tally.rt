@@ -1,5 +1,6 @@
 //! What is known of a stream's puts at a start.
 ghost use Rattle.std.specs.Prelude.{◌≡◌, ◌||◌};
+ghost use Rattle.amo_telling.specs.Untold.{no_puts};
 ghost use Rattle.amo_telling.specs.Unanswered.{is_sent, is_settled_by_now, is_unsettled};
 
 use crate::unanswered::{Told, is_sent, is_settled};
@@ -8,8 +9,6 @@ use amo_outcomes::SenderOutcome;
 /// What is known of those puts of a stream that no ack answered.
 #[derive(Clone, Copy, Debug)]
 pub(crate) struct Tally {
-    /// How many there are.
-    pub(crate) kept: usize,
     /// One was sent.
     pub(crate) is_sent: bool,
     /// It is not settled what became of one that is told as unknown.
@@ -20,9 +19,10 @@ pub(crate) struct Tally {
 
 impl Tally {
     /// There are none.
-    pub(crate) fn new() -> Tally {
+    pub(crate) fn new() -> Tally
+        ensures { result ≡ no_puts }
+    {
         Tally {
-            kept: 0,
             is_sent: false,
             is_unsettled: false,
             is_settled: false,
@@ -31,9 +31,8 @@ impl Tally {
 
     /// One more, which became this, and is told so.
     pub(crate) fn note(&mut self, outcome: Option<SenderOutcome>, told: Option<Told>)
-        ensures { self.new ≡ record { kept = self.new.kept; is_sent = self.old.is_sent || is_sent outcome; is_unsettled = self.old.is_unsettled || is_unsettled outcome told; is_settled = self.old.is_settled || is_settled_by_now outcome told } }
+        ensures { self.new ≡ record { is_sent = self.old.is_sent || is_sent outcome; is_unsettled = self.old.is_unsettled || is_unsettled outcome told; is_settled = self.old.is_settled || is_settled_by_now outcome told } }
     {
-        self.kept = self.kept.saturating_add(1);
         self.is_sent = self.is_sent || is_sent(outcome);
         self.is_unsettled = self.is_unsettled || is_unsettled(outcome, told);
         self.is_settled = self.is_settled || is_settled_by_now(outcome, told);

@@ -22,6 +22,8 @@ pub struct Untold {
     followers: SenderFollowers,
     /// How many puts each stream took, that of stream 1 first.
     counts: [usize; STREAMS as usize],
+    /// Of each stream, whether an ack answered a put of it.
+    answered: [bool; STREAMS as usize],
     /// Those that no ack answered, by the numbers of their lines.
     puts: BTreeMap<u64, Put>,
     /// The numbers of those of each stream that a crash has not forgotten, that of stream 1 first.
@@ -34,7 +36,9 @@ pub struct Untold {
 impl Untold {
     ghost use Rattle.std.specs.Prelude.{◌+◌, ◌++◌, ◌<◌, ◌≤◌, ◌≢◌, ◌⊎◌, ◌^◌, ◌-◌, ◌∷◌, ℕ, List, [], Some, false, true, get_or, IfSome, IsTrue, OnOk};
     ghost use Rattle.std.specs.List.{Contains};
+    ghost use Rattle.std.specs.Bool.{Decides};
     ghost use Rattle.std.specs.Option.{is_some};
+    ghost use Rattle.amo_lives.specs.declared.doubt.Span.{Span};
     ghost use Rattle.std.specs.Ordering.{nat_cmp};
     ghost use Rattle.std.specs.BTreeMap.{get};
     ghost use Rattle.amo_outcomes.specs.SenderFollowers.{HaveFollowedSenders};
@@ -47,9 +51,9 @@ impl Untold {
     ghost use Rattle.amo_core.specs.declared.act.Act.TheVariants as act;
     ghost use Rattle.amo_core.specs.declared.reply.Reply.TheVariants as reply;
     ghost use Rattle.amo_telling.specs.Outcomes.{is_put};
-    ghost use Rattle.amo_telling.specs.Untold.{Drops, GoesOn, HasRead, IsAnsweredBehind, IsSent, IsSentHere, KeepsPut, Recalls, Takes, TellsAll, TellsPut, TellsPuts, events_of};
+    ghost use Rattle.amo_telling.specs.Untold.{AreTallies, AreThose, Drops, GoesOn, HasRead, IsAnsweredBehind, IsInDoubt, IsSent, IsSentHere, IsSettledByNow, KeepsPut, Recalls, Takes, TellsAll, TellsPut, TellsPuts, WasSentOn, events_of};
     ghost use Rattle.amo_telling.specs.Unanswered.{settled_line};
-    ghost use Rattle.std.specs.List.{flat_map};
+    ghost use Rattle.std.specs.List.{flat_map, range_with_len};
 
     /// Nothing was read. The first line is to be of this number.
     pub fn new(alloc: Global, first: u64) -> Result<Untold, AllocError>
@@ -59,6 +63,7 @@ impl Untold {
             alloc,
             followers: SenderFollowers::new(alloc)?,
             counts: [0; STREAMS as usize],
+            answered: [false; STREAMS as usize],
             puts: BTreeMap::new(alloc),
             pending: no_numbers(alloc)?,
             next: first,
@@ -214,8 +219,11 @@ impl Untold {
         ensures same { (self.new.followers ≡ self.old.followers) × (self.new.counts ≡ self.old.counts) × (self.new.next ≡ self.old.next) }
         ensures dropped { Drops self.old self.new (number ∷ []) }
     {
-        if self.is_answered(number) {
-            self.puts.remove(&number);
+        if !self.is_answered(number) {
+            return;
+        }
+        if let Some(put) = self.puts.remove(&number) {
+            self.answered[put.stream as usize - 1] = true;
         }
     }
 
@@ -247,7 +255,7 @@ impl Untold {
     /// A put that was taken on the line of this number is kept, and is open; a crash forgets those that are.
     fn note(&mut self, number: u64, event: &Event) -> Result<(), AllocError>
         requires { IsStream event.now.stream }
-        ensures same { (self.new.followers ≡ self.old.followers) × (self.new.next ≡ self.old.next) }
+        ensures same { (self.new.followers ≡ self.old.followers) × (self.new.answered ≡ self.old.answered) × (self.new.next ≡ self.old.next) }
         ensures kept { OnOk result ((m : List ℕ) → event.now.act ≡ act.Put m → event.now.reply ≡ reply.Ok → KeepsPut self.old self.new number event.now.stream m) }
         ensures none { is_put event.now.act event.now.reply ≡ false → (self.new.counts ≡ self.old.counts) × (self.new.puts ≡ self.old.puts) }
     {
@@ -264,7 +272,7 @@ impl Untold {
     /// A put that was taken on the line of this number is kept, and is open.
     fn keep(&mut self, number: u64, stream: u32, message: &[u8]) -> Result<(), AllocError>
         requires { IsStream stream }
-        ensures same { (self.new.followers ≡ self.old.followers) × (self.new.next ≡ self.old.next) }
+        ensures same { (self.new.followers ≡ self.old.followers) × (self.new.answered ≡ self.old.answered) × (self.new.next ≡ self.old.next) }
         ensures kept { OnOk result (KeepsPut self.old self.new number stream message.now) }
     {
         let place = stream as usize - 1;
@@ -297,21 +305,31 @@ impl Untold {
 
     /// The streams on which it is in doubt what became of a message: one is told as unknown, and that is not settled; or one was so before, on a stream
     /// of these, and none was sent there since. In their order.
-    pub fn in_doubt(&self, doubts: &[Span], before: &[u32]) -> Result<Vec<u32>, AllocError> {
+    pub fn in_doubt(&self, doubts: &[Span], before: &[u32]) -> Result<Vec<u32>, AllocError>
+        ensures { IfOk result (λ streams. (next : ℕ) (past : List Numbered) → HasRead self.now next past → IsRight (events_of past)
+            → AreThose (IsInDoubt self.now (events_of past) doubts.now before.now) (range_with_len 1 256) streams.items) }
+    {
         let tallies = self.tallies(doubts)?;
         let mut streams = Vec::new(self.alloc);
         'streams: for place in 0..STREAMS {
-            let stream = place + 1;
-            let is_unsettled = match tallies.get(place as usize) {
-                Some(tally) => tally.is_unsettled,
-                None => false,
-            };
-            let stays = before.contains(&stream) && !self.has_sent(stream, tallies.as_slice());
-            if is_unsettled || stays {
-                streams.push(stream)?;
+            if self.is_in_doubt(place + 1, before, tallies.as_slice()) {
+                streams.push(place + 1)?;
             }
         }
         Ok(streams)
+    }
+
+    /// Whether it is in doubt what became of a message on a stream, where this is known of the puts of each.
+    fn is_in_doubt(&self, stream: u32, before: &[u32], tallies: &[Tally]) -> bool
+        requires stream { IsStream stream }
+        requires all { length tallies.now ≡ 256 }
+        ensures { (doubts : List Span) → AreTallies self.now doubts tallies.now → (next : ℕ) (past : List Numbered) → HasRead self.now next past → IsRight (events_of past)
+            → Decides result (IsInDoubt self.now (events_of past) doubts before.now stream) }
+    {
+        if tallies[stream as usize - 1].is_unsettled {
+            return true;
+        }
+        before.contains(&stream) && !self.has_sent(stream, tallies)
     }
 
     /// A line for each stream in doubt on which a message was sent.
@@ -322,7 +340,8 @@ impl Untold {
         json: bool,
         text: &mut Vec<u8>,
     ) -> Result<(), AllocError>
-        ensures { OnOk result ((streams : List ℕ) × ((stream : ℕ) → Contains streams stream → Contains in_doubt.now stream) × (text.new.items ≡ text.old.items ++ flat_map (settled_line json) streams)) }
+        ensures { OnOk result ((streams : List ℕ) × ((next : ℕ) (past : List Numbered) → HasRead self.now next past → IsRight (events_of past) → AreThose (WasSentOn (events_of past)) in_doubt.now streams)
+            × (text.new.items ≡ text.old.items ++ flat_map (settled_line json) streams)) }
     {
         let tallies = self.tallies(doubts)?;
         for stream in in_doubt {
@@ -340,43 +359,54 @@ impl Untold {
         json: bool,
         text: &mut Vec<u8>,
     ) -> Result<(), AllocError>
-        ensures { OnOk result ((streams : List ℕ) × (text.new.items ≡ text.old.items ++ flat_map (settled_line json) streams)) }
+        ensures { OnOk result ((streams : List ℕ) × ((past : List Event) → HaveFollowedSenders self.now.followers past → AreThose (IsSettledByNow self.now past doubts.now) (range_with_len 1 256) streams)
+            × (text.new.items ≡ text.old.items ++ flat_map (settled_line json) streams)) }
     {
         let tallies = self.tallies(doubts)?;
         'streams: for place in 0..STREAMS {
-            let is_settled = match tallies.get(place as usize) {
-                Some(tally) => tally.is_settled && !tally.is_unsettled,
-                None => false,
-            };
-            if is_settled {
+            if self.is_settled_by_now(place + 1, tallies.as_slice()) {
                 push_settled(text, place + 1, json)?;
             }
         }
         Ok(())
     }
 
-    /// Whether a message was sent on a stream, where this is known of the puts of each: one that was answered, or another.
-    fn has_sent(&self, stream: u32, tallies: &[Tally]) -> bool {
-        let Some(place) = (stream as usize).checked_sub(1) else {
+    /// Whether nothing is in doubt on a stream of which a put is told as unknown, where this is known of the puts of each.
+    fn is_settled_by_now(&self, stream: u32, tallies: &[Tally]) -> bool
+        requires stream { IsStream stream }
+        requires all { length tallies.now ≡ 256 }
+        ensures { (doubts : List Span) → AreTallies self.now doubts tallies.now → (past : List Event) → HaveFollowedSenders self.now.followers past
+            → Decides result (IsSettledByNow self.now past doubts stream) }
+    {
+        if tallies[stream as usize - 1].is_unsettled {
             return false;
-        };
-        match (tallies.get(place), self.counts.get(place)) {
-            (Some(tally), Some(count)) => tally.is_sent || tally.kept < *count,
-            _ => false,
         }
+        tallies[stream as usize - 1].is_settled
+    }
+
+    /// Whether a message was sent on a stream, where this is known of the puts of each: one that was answered, or another.
+    fn has_sent(&self, stream: u32, tallies: &[Tally]) -> bool
+        requires { length tallies.now ≡ 256 }
+        ensures { (doubts : List Span) → AreTallies self.now doubts tallies.now → (next : ℕ) (past : List Numbered) → HasRead self.now next past → IsRight (events_of past)
+            → Decides result (WasSentOn (events_of past) stream) }
+    {
+        if stream == 0 || stream > STREAMS {
+            return false;
+        }
+        let place = stream as usize - 1;
+        tallies[place].is_sent || self.answered[place]
     }
 
     /// What is known of the puts of each stream, that of stream 1 first.
-    fn tallies(&self, doubts: &[Span]) -> Result<Vec<Tally>, AllocError> {
+    fn tallies(&self, doubts: &[Span]) -> Result<Vec<Tally>, AllocError>
+        ensures all { IfOk result (λ tallies. length tallies.items ≡ 256) }
+        ensures known { IfOk result (λ tallies. AreTallies self.now doubts.now tallies.items) }
+    {
         let mut tallies = vec![in self.alloc; Tally::new(); STREAMS as usize]?;
         for (number, put) in self.puts.iter() {
             let outcome = self.followers.outcome(put.stream, put.place);
             let told = told_of(outcome, *number, doubts);
-            if let Some(place) = (put.stream as usize).checked_sub(1)
-                && let Some(tally) = tallies.get_mut(place)
-            {
-                tally.note(outcome, told);
-            }
+            tallies[put.stream as usize - 1].note(outcome, told);
         }
         Ok(tallies)
     }

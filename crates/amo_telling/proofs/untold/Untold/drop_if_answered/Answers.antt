@@ -1,8 +1,8 @@
-use Rattle.std.proofs.Common.{refl}
-use Rattle.std.specs.BTreeMap.{get}
-use Rattle.std.specs.Ordering.{nat_cmp}
-use Rattle.amo_telling.proofs.Untolds.{one_dropped}
+use Rattle.std.proofs.Common.{◌-◌, refl, rules, set, sym, true}
+use Rattle.amo_telling.proofs.Untolds.{one_marked}
 use Rattle.amo_telling.proofs.untold.Untold.drop_if_answered.Goals as goal
 
-pub returns-then-is_answered-clause-dropped : goal.returns-then-is_answered-clause-dropped
-returns-then-is_answered-clause-dropped c = one_dropped c.args.self.now (get nat_cmp c.remove.new.self) c.args.number (c.if-is_answered.ensures refl) c.remove.ensures.updates.1 c.remove.ensures.updates.2
+pub returns-in-Some-clause-dropped : goal.returns-in-Some-clause-dropped
+returns-in-Some-clause-dropped c =
+    let now = record c.args.self.now { puts = c.remove.new.self; answered = set c.args.self.now.answered (c.in-Some.put.stream - 1) true } in
+    one_marked c.args.self.now now c.args.number c.in-Some.put (sym c.in-Some.ensures.value) (c.if-not-is_answered.ensures refl) refl (search rules) c.in-Some.ensures.updates.1 c.in-Some.ensures.updates.2

@@ -3,4 +3,4 @@ use Rattle.amo_telling.proofs.Untolds.{nothing_read}
 use Rattle.amo_telling.proofs.untold.Untold.new.Goals as goal
 
 pub returns : goal.returns
-returns c = nothing_read _ _ c.in_ok-new.ensures refl c.new-2.ensures.empty refl
+returns c = nothing_read _ _ c.in_ok-new.ensures refl refl c.new-2.ensures.empty refl

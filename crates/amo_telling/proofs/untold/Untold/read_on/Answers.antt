@@ -25,7 +25,7 @@ loop-rest-preserved-in_ok-take c =
       version = here.2 ∙ so_far.version;
       read = λ next past have.
           one_further next past c.args.lines c.loop-rest.rest.text.now c.loop-rest.self (so_far.read next past have) c.in-Some.line c.in-Some.more.text.now c.take.new.self _
-          (rw so_far.version at here.0) here.1 (c.if-not-goes_on.ensures.yes refl).0 (c.if-not-goes_on.ensures.yes refl).1 c.in_ok-take.ensures.taken refl refl refl (ap (λ n. n + 1) c.in_ok-take.ensures.next);
+          (rw so_far.version at here.0) here.1 (c.if-not-goes_on.ensures.yes refl).0 (c.if-not-goes_on.ensures.yes refl).1 c.in_ok-take.ensures.taken refl refl refl refl (ap (λ n. n + 1) c.in_ok-take.ensures.next);
     }
 
 pub loop-rest-preserved-in_ok-take-2 : goal.loop-rest-preserved-in_ok-take-2
@@ -35,7 +35,7 @@ loop-rest-preserved-in_ok-take-2 c =
       version = here.2 ∙ so_far.version;
       read = λ next past have.
           one_further next past c.args.lines c.loop-rest.rest.text.now c.loop-rest.self (so_far.read next past have) c.in-Some.line c.in-Some.more.text.now c.take.new.self _
-          (rw so_far.version at here.0) here.1 (c.if-not-goes_on.ensures.yes refl).0 (c.if-not-goes_on.ensures.yes refl).1 c.in_ok-take.ensures.taken refl refl refl (ap (λ n. n + 1) c.in_ok-take.ensures.next);
+          (rw so_far.version at here.0) here.1 (c.if-not-goes_on.ensures.yes refl).0 (c.if-not-goes_on.ensures.yes refl).1 c.in_ok-take.ensures.taken refl refl refl refl (ap (λ n. n + 1) c.in_ok-take.ensures.next);
     }
 
 pub loop-rest-preserved : goal.loop-rest-preserved
@@ -45,7 +45,7 @@ loop-rest-preserved c =
       version = here.2 ∙ so_far.version;
       read = λ next past have.
           one_further next past c.args.lines c.loop-rest.rest.text.now c.loop-rest.self (so_far.read next past have) c.in-Some.line c.in-Some.more.text.now c.take.new.self _
-          (rw so_far.version at here.0) here.1 (c.if-not-goes_on.ensures.yes refl).0 (c.if-not-goes_on.ensures.yes refl).1 c.in_ok-take.ensures.taken refl refl refl (ap (λ n. n + 1) c.in_ok-take.ensures.next);
+          (rw so_far.version at here.0) here.1 (c.if-not-goes_on.ensures.yes refl).0 (c.if-not-goes_on.ensures.yes refl).1 c.in_ok-take.ensures.taken refl refl refl refl (ap (λ n. n + 1) c.in_ok-take.ensures.next);
     }
 
 pub returns-clause-read : goal.returns-clause-read

@@ -13,6 +13,7 @@ returns-clause-taken c =
     on_ok_weaker c.note.result (λ kept past have free few.
     read_either c.args.self.now c.follow.new.self past c.args.line.now c.as_slice.result.now have
     (λ number here. c.in_ok-sent.ensures number (subst (λ (l : List ℕ). Contains l number) c.as_slice.ensures.value here))
-    c.in_ok-follow.ensures (get nat_cmp c.drop_answered.new.self.puts) dropped.dropped
-    _ (noted.same.0 ∙ dropped.same.0)
+    c.in_ok-follow.ensures (get nat_cmp c.drop_answered.new.self.puts) dropped.dropped.0
+    c.drop_answered.new.self.answered dropped.dropped.1 dropped.dropped.2 dropped.dropped.3
+    _ (noted.same.0 ∙ dropped.same.0) noted.same.1
     c.drop_answered.new.self (λ number. refl) dropped.same.1 c.requires free few noted.none kept) noted.kept
