@@ -20,3 +20,4 @@ pub mod Delivering
 pub mod Fresh
 pub mod Getting
 pub mod Doubting
+pub mod Keeping

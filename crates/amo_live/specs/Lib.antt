@@ -14,4 +14,5 @@ pub mod Plans
 pub mod Service
 pub mod Shown
 pub mod Standing
+pub mod Unanswered
 pub mod Words

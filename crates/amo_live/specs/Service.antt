@@ -1,5 +1,5 @@
 -- A host at work.
-use Rattle.std.specs.Prelude.{◌≡◌, ℕ, zero, suc, Bool, true, false, if◌then◌else◌, Option, Some, List, get_or, length, map}
+use Rattle.std.specs.Prelude.{◌≡◌, ℕ, zero, suc, Bool, true, false, if◌then◌else◌, Option, Some, List, [], ◌∷◌, ◌++◌, get_or, length, map}
 use Rattle.amo_object.specs.declared.step.End.{End}
 use Rattle.amo_object.specs.declared.step.End.TheVariants.{Sender, Receiver}
 use Rattle.amo_core.specs.declared.act.Act.{Act}
@@ -16,6 +16,7 @@ use Rattle.amo_live.specs.declared.lines.Spelling.{Spelling}
 use Rattle.amo_live.specs.declared.service.Lane.{Lane}
 use Rattle.amo_live.specs.declared.service.Service.{Service}
 use Rattle.amo_live.specs.declared.service.Setup.{Setup}
+use Rattle.amo_live.specs.Unanswered.{KeptLines}
 
 -- how many streams it has, from 1 on
 abbrev pub streams_of : {L S W : Type 0} → Service L S W → ℕ
@@ -44,6 +45,19 @@ doubted lanes (suc place) = get_or (map (λ (lane : Lane). lane.in_doubt) lanes)
 
 abbrev pub is_in_doubt : {L S W : Type 0} → Service L S W → ℕ → Bool
 is_in_doubt service stream = doubted service.lanes.items stream
+
+-- those of these streams, from stream 1 on, on which it is
+abbrev pub doubtful_to : (ℕ → Bool) → ℕ → List ℕ
+doubtful_to doubts zero = []
+doubtful_to doubts (suc streams) = doubtful_to doubts streams ++ (if doubts (suc streams) then (suc streams ∷ []) else [])
+
+-- those of the streams that it was set up for
+abbrev pub doubtful : {L S W : Type 0} → Service L S W → List ℕ
+doubtful service = doubtful_to (is_in_doubt service) service.setup.streams
+
+-- the lines that it keeps of a sender's journal
+abbrev pub unanswered_by : {L S W : Type 0} → Service L S W → KeptLines
+unanswered_by service = service.unanswered
 
 -- a delivery brings a sender that asked for an identifier to send messages
 abbrev pub begins_to_send : Option Mode → Mode → Bool

@@ -123,6 +123,12 @@ impl<S: Sink> Journal<S> {
         self.bytes
     }
 
+    /// The line that was written last since it was opened, whole, its number and its end too; empty where none was. That of an event that stands
+    /// already is not written.
+    pub fn last_line(&self) -> &[u8] {
+        self.room.as_slice()
+    }
+
     /// Writes the line of this event, whole, with the next number; unless it stands already.
     ///
     /// Where that fails a beginning of the line was written, and the journal can only be opened again. It is full where no number is left, and its

@@ -64,6 +64,7 @@ mod service;
 mod socket;
 mod stats;
 mod turns;
+mod unanswered;
 mod words;
 
 pub use amo_disk::{Cause, Durable, OpenFault};

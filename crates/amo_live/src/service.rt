@@ -13,11 +13,13 @@ ghost use Rattle.amo_live.specs.Words.{BearsNew, IsNew, StaysDrawn};
 mod door;
 mod due;
 mod getting;
+mod keeping;
 mod notes;
 
 use crate::acts::is_for;
 use crate::ids::Ids;
 use crate::lines::{Spelling, Word};
+use crate::unanswered::Unanswered;
 use crate::{Dropped, Figures, Host, Lineage, LiveFault, NamedMessage, Times};
 use amo_core::{MAX_WAITING, Mode};
 use amo_journal::Version;
@@ -83,6 +85,8 @@ pub struct Service<L, S, W> {
     shown: Vec<u8>,
     /// What messages are called that have no answer yet, where answers tell it.
     ids: Ids,
+    /// The lines of a sender's journal that tell of messages without an answer. A receiver has none.
+    unanswered: Unanswered,
     /// The handshakes that ended since what is shown was cleared.
     settled: Vec<Settled>,
     /// How many bytes may be shown in this turn.
@@ -146,6 +150,14 @@ impl Setup {
             _ => Version::Two,
         }
     }
+
+    /// Of how many streams it has the sender.
+    fn senders(&self) -> u32 {
+        match self.side {
+            End::Sender => self.streams,
+            End::Receiver => 0,
+        }
+    }
 }
 
 impl<L: Link + Drop, S: Sink + Drop, W: Lineage + Drop> Service<L, S, W> {
@@ -165,6 +177,7 @@ impl<L: Link + Drop, S: Sink + Drop, W: Lineage + Drop> Service<L, S, W> {
     {
         let lanes = lanes_of(alloc, setup.streams)?;
         let ids = Ids::new(alloc, setup.streams)?;
+        let unanswered = Unanswered::new(alloc, setup.senders())?;
         Ok(Service {
             host,
             setup,
@@ -172,6 +185,7 @@ impl<L: Link + Drop, S: Sink + Drop, W: Lineage + Drop> Service<L, S, W> {
             words,
             shown: Vec::new(alloc),
             ids,
+            unanswered,
             settled: Vec::new(alloc),
             room: 0,
             unshown: None,
@@ -351,6 +365,7 @@ impl<L: Link, S: Sink, W: Lineage> Service<L, S, W> {
                 Ok(Some(NamedMessage { message, id }))
             }
             Ok(_) => {
+                self.keep_put(stream)?;
                 self.owe(stream, lane);
                 self.tell_put(stream, id, line)?;
                 self.begin(stream, now)?;
@@ -449,6 +464,7 @@ impl<L: Link, S: Sink, W: Lineage> Service<L, S, W> {
             return Ok(());
         }
         let started = self.start_anew(stream, now)?;
+        self.keep_start(stream, started)?;
         self.note_start(stream, lane, started, now);
         Ok(())
     }
@@ -599,6 +615,7 @@ impl<L: Link, S: Sink, W: Lineage> Service<L, S, W> {
         let is_other = is_other(before, mode);
         self.tell_settled(stream, before, mode)?;
         self.tell_ack(&packet, told_by_ack(before, mode, end))?;
+        self.keep_delivery(stream, before, mode, end.messages)?;
         self.arrive(stream, mode, is_other, brought_by(&packet), now);
         self.go_on(stream, mode, is_other, end, now)
     }

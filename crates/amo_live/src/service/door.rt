@@ -127,6 +127,7 @@ impl<L: Link, S: Sink, W: Lineage> Service<L, S, W> {
         match self.host.put(stream, message)? {
             Err(_) => Ok(None),
             Ok(position) => {
+                self.keep_put(stream)?;
                 self.owe(stream, lane);
                 self.begin(stream, now)?;
                 Ok(Some(EventAt { position, line }))

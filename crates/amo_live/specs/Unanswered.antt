@@ -1,0 +1,43 @@
+-- The lines of a sender's journal that matter for messages without an answer.
+use Rattle.std.specs.Prelude.{ℕ, zero, suc, Bool, true, false, List, [], ◌∷◌, ◌++◌, drop, get_or, slice_set}
+use Rattle.std.specs.List.{filter, flat_map}
+use Rattle.amo_live.specs.declared.unanswered.Kind.{Kind}
+use Rattle.amo_live.specs.declared.unanswered.Kind.TheVariants.{Put, Start, Accept}
+
+-- a line: what it tells, and its text
+pub record Kept : Type 0 where
+  pub kind : Kind
+  pub text : List ℕ
+
+-- those of each stream, from stream 1 on, in the order in which they were written
+abbrev pub KeptLines : Type 0
+KeptLines = List (List Kept)
+
+-- one more is kept, behind those of its stream
+abbrev pub keeping : ℕ → Kept → KeptLines → KeptLines
+keeping zero line kept = kept
+keeping (suc place) line kept = slice_set kept place (get_or kept place [] ++ line ∷ [])
+
+-- whether a line is that of a put
+abbrev pub tells_put : Kind → Bool
+tells_put Put = true
+tells_put Start = false
+tells_put Accept = false
+
+abbrev pub is_put : Kept → Bool
+is_put line = tells_put line.kind
+
+-- what is left of a stream's lines where a handshake of so many messages ended: the puts behind the first so many
+abbrev pub left_by : ℕ → List Kept → List Kept
+left_by messages lines = drop messages (filter is_put lines)
+
+abbrev pub ended : ℕ → ℕ → KeptLines → KeptLines
+ended zero messages kept = kept
+ended (suc place) messages kept = slice_set kept place (left_by messages (get_or kept place []))
+
+-- the text of a stream's lines, and of those of all streams
+abbrev pub text_on : List Kept → List ℕ
+text_on lines = flat_map (λ (line : Kept). line.text) lines
+
+abbrev pub text_of : KeptLines → List ℕ
+text_of kept = flat_map text_on kept
