@@ -9,8 +9,8 @@ ghost use Rattle.amo_live.specs.Standing.{BeganSo, standing_of};
 ghost use Rattle.amo_live.specs.Words.{words_in};
 
 use crate::{
-    Backlog, Bell, Desk, Durable, Ended, Host, Input, Journal, Limits, Lineage, LiveFault, Plan,
-    ProcessFault, Service, Setup, serve,
+    Backlog, Bell, Desk, Durable, Ended, Host, Input, Journal, Keeper, Limits, Lineage, LiveFault,
+    Plan, ProcessFault, Service, Setup, serve,
 };
 use amo_disk::Start;
 use amo_journal::Version;
@@ -25,7 +25,8 @@ use std::rt::Clock;
 /// Runs a host of 1 to 256 streams over this link until its clients are done. The system waits for the link by this number. A host that sends
 /// takes lines from the reader, and one that receives leaves it alone; answers and messages go to the output. The journal goes on in the sink, in
 /// this place, and new handshakes get these words. Who rings the bell asks it to come to its end. On the streams in doubt earlier lives sent messages of
-/// which it is not known what became of them; once that is settled, it is told. It is refused where batches are to be started for which it has no lines.
+/// which it is not known what became of them; once that is settled, it is told. The keeper looks at the host behind each of its turns. It is refused
+/// where batches are to be started for which it has no lines.
 pub fn run_process<
     R: AllocGlobal + Clock + Eprint,
     I: Read + AsRawFd + Drop,
@@ -33,6 +34,7 @@ pub fn run_process<
     L: Link + Drop,
     S: Durable + Drop,
     W: Lineage + Drop,
+    K: Keeper<L, S, W>,
 >(
     rt: &R,
     plan: Plan,
@@ -45,6 +47,7 @@ pub fn run_process<
     words: W,
     bell: Bell,
     in_doubt: &[u32],
+    keeper: &mut K,
 ) -> Result<Ended, ProcessFault>
     requires { (1 ≤ plan.setup.streams) × (plan.setup.streams ≤ 256) }
 {
@@ -63,7 +66,9 @@ pub fn run_process<
         kept: Backlog::new(alloc, plan.setup.streams)?,
         bell,
     };
-    work(rt, alloc, plan, link, sink, place, words, desk, in_doubt)
+    work(
+        rt, alloc, plan, link, sink, place, words, desk, in_doubt, keeper,
+    )
 }
 
 /// Starts a host over this link, with a journal that goes on in this place, and makes its turns.
@@ -74,6 +79,7 @@ fn work<
     W: Lineage + Drop,
     I: Read + Drop,
     O: Write + Drop,
+    K: Keeper<L, S, W>,
 >(
     rt: &C,
     alloc: Global,
@@ -84,6 +90,7 @@ fn work<
     words: W,
     desk: Desk<I, O>,
     in_doubt: &[u32],
+    keeper: &mut K,
 ) -> Result<Ended, ProcessFault>
     requires { (1 ≤ plan.setup.streams) × (plan.setup.streams ≤ 256) }
 {
@@ -92,7 +99,7 @@ fn work<
     for stream in in_doubt {
         service.doubt(*stream);
     }
-    match serve(rt, &mut service, &mut desk, plan.limits) {
+    match serve(rt, &mut service, &mut desk, plan.limits, keeper) {
         Ok(ended) => {
             desk.bell.answer(ended);
             Ok(ended)

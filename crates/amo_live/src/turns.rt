@@ -14,8 +14,8 @@ use crate::notices::Notices;
 use crate::ready::{Ready, Waited, takes_more, wait};
 use crate::stats::Stats;
 use crate::{
-    Backlog, Bell, Durable, Figures, Input, Line, Lineage, LiveFault, MOST_DATAGRAMS, NamedMessage,
-    ServeFault, Service, Spelling,
+    Backlog, Bell, Durable, Figures, Input, Keeper, Line, Lineage, LiveFault, MOST_DATAGRAMS,
+    NamedMessage, ServeFault, Service, Spelling,
 };
 use amo_net::Link;
 use std::alloc::{AllocError, Global};
@@ -88,12 +88,21 @@ pub enum Ended {
     Torn,
 }
 
-/// Makes one turn after another until the clients are done.
-pub fn serve<C: Clock + Eprint, L: Link, S: Durable, W: Lineage, I: Read, O: Write>(
+/// Makes one turn after another until the clients are done. The keeper looks at the host behind each.
+pub fn serve<
+    C: Clock + Eprint,
+    L: Link,
+    S: Durable,
+    W: Lineage,
+    I: Read,
+    O: Write,
+    K: Keeper<L, S, W>,
+>(
     rt: &C,
     service: &mut Service<L, S, W>,
     desk: &mut Desk<I, O>,
     limits: Limits,
+    keeper: &mut K,
 ) -> Result<Ended, ServeFault>
     requires { IsNoted S.written service.old.host }
     ensures noted { OnOk result (IsNoted S.written service.new.host) }
@@ -141,6 +150,7 @@ pub fn serve<C: Clock + Eprint, L: Link, S: Durable, W: Lineage, I: Read, O: Wri
             limits.sync,
             milliseconds(until, now),
         )?;
+        keeper.look(service)?;
         told_torn = told_torn || desk.tell_of_torn(rt);
     }
     Ok(Ended::OnItsWay)

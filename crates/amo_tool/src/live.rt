@@ -7,7 +7,8 @@ use crate::retelling::{Manner, tell_untold};
 use crate::stopping::{hang_bell, take_down_bell};
 use amo_disk::{Cause, Disk, Opened, Start, open};
 use amo_live::{
-    Durable, Ended, HostLives, LiveFault, OpenedLives, Plan, ProcessFault, Socket, run_process,
+    Durable, Ended, HostLives, LiveFault, NoKeeper, OpenedLives, Plan, ProcessFault, Socket,
+    run_process,
 };
 use amo_object::End;
 use amo_settings::{HostSettings, ReceiveSettings, SendSettings};
@@ -224,6 +225,7 @@ fn run_noted<
         words,
         bell,
         in_doubt.as_slice(),
+        &mut NoKeeper,
     );
     take_down_bell(rt, path)?;
     match ran {

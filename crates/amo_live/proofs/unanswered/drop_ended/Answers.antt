@@ -1,6 +1,6 @@
 use Rattle.std.proofs.Common.{◌≡◌, ◌-◌, suc, true, false, rules, arith}
 use Rattle.amo_live.specs.Unanswered.{is_put}
-use Rattle.amo_live.proofs.Keeping.{HasPassed, all_passed, leaves_other, leaves_put, none_passed, one_leaves, one_stays}
+use Rattle.amo_live.proofs.Keeping.{leaves_other, leaves_put, none_passed, one_leaves, one_stays}
 use Rattle.amo_live.proofs.unanswered.drop_ended.Goals.{then-not-is_put, else-not-is_put+then-left-gt0, else-not-is_put+else-left-gt0+in_ok-push_back}
 use Rattle.amo_live.proofs.unanswered.drop_ended.Goals as goal
 

@@ -1,5 +1,5 @@
-use Rattle.std.proofs.Common.{◌≡◌, ◌+◌, suc, true, false, ap, arith, rules, ◌∙◌}
-use Rattle.amo_live.specs.Service.{doubtful_to, is_in_doubt}
+use Rattle.std.proofs.Common.{◌≡◌, ◌+◌, suc, true, false, arith, rules}
+use Rattle.amo_live.specs.Service.{is_in_doubt}
 use Rattle.amo_live.proofs.Keeping.{none_doubtful, one_doubtful}
 use Rattle.amo_live.proofs.service.Service.streams_in_doubt.Goals.{then-is_in_doubt+in_ok-push, else-is_in_doubt}
 use Rattle.amo_live.proofs.service.Service.streams_in_doubt.Goals as goal
