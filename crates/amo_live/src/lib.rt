@@ -22,6 +22,9 @@
 //! a key and a line for each life, which is written before the life's first word is drawn; so a host keeps no word that it used. Where the words of a
 //! life are at their end another one begins.
 //!
+//! **A sender keeps the lines that still matter**: of its journal those that tell of messages without an answer, [`Service::unanswered_lines`]. They bring
+//! the sender of each stream to where the whole journal does. A [`Keeper`] looks at a host behind each of its turns, when all lines are with the system.
+//!
 //! The contracts say it so. Each call that makes an event asks that the journal has all lines so far, and gives that back with
 //! Ok. It never touches the link: what its row emits is added to the packets that are to leave. [`Host::send`], which hands them to the
 //! link, asks for the same. Where a line fails the call answers a fault, and says only that a beginning of the lines was written: no

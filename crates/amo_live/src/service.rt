@@ -4,9 +4,10 @@ ghost use Rattle.amo_core.specs.declared.mode.Mode.TheVariants.{Quiet, Send};
 ghost use Rattle.amo_packet.specs.Packet.{body_of, packet_of};
 ghost use Rattle.amo_packet.specs.Grammar.{Spells, messages_of};
 ghost use Rattle.amo_journal.specs.Version.{newest};
+ghost use Rattle.amo_live.specs.Backlog.{kept_on};
 ghost use Rattle.amo_live.specs.Client.{PutsNamed, has};
 ghost use Rattle.amo_live.specs.Host.{Delivered, Did, IsNoted};
-ghost use Rattle.amo_live.specs.Service.{IsAtRest, PutsNone, got_by, is_in_doubt, new_version, shown_by, spelling_of, start_of, starts_batches, streams_of, words_of};
+ghost use Rattle.amo_live.specs.Service.{IsAtRest, PutsNone, got_by, is_in_doubt, new_version, shown_by, spelling_of, start_of, starts_batches, streams_of, unanswered_by, words_of};
 ghost use Rattle.amo_live.specs.Shown.{BeginsWithPut, ShowsMore};
 ghost use Rattle.amo_live.specs.Words.{BearsNew, IsNew, StaysDrawn};
 
@@ -174,6 +175,7 @@ impl<L: Link + Drop, S: Sink + Drop, W: Lineage + Drop> Service<L, S, W> {
         ensures words { IfOk result (λ service. words_of service ≡ words) }
         ensures shown { IfOk result (λ service. (shown_by service).text ≡ []) }
         ensures spelling { IfOk result (λ service. spelling_of service ≡ setup.spelling) }
+        ensures unanswered { IfOk result (λ service. (stream : ℕ) → kept_on stream (unanswered_by service) ≡ []) }
     {
         let lanes = lanes_of(alloc, setup.streams)?;
         let ids = Ids::new(alloc, setup.streams)?;
