@@ -7,7 +7,7 @@ use crate::names::{piece_name, sync_names};
 use crate::{Folder, Standing};
 use std::alloc::Global;
 use std::fs::File;
-use std::io::{self, ErrorKind, Write};
+use std::io::{self, ErrorKind, Seek, SeekFrom, Write};
 use std::os::unix::fs::MetadataExt;
 use std::rt::{Clock, Files};
 use std::time::{Duration, Instant};
@@ -55,12 +55,12 @@ impl Written {
         })
     }
 
-    /// Whether the newest piece, which this file is, is as it was written: nobody cut it, added to it or took it away, and it had its name, which is this
-    /// path, a moment ago.
+    /// Whether the newest piece, which this file is, is as it was written: nobody cut it or added to it, and it had its name, which is this path, a moment
+    /// ago.
     fn is_as_written<R: Clock + Files<File = File>>(
         &mut self,
         rt: &R,
-        file: &File,
+        file: &mut File,
         path: &str,
     ) -> io::Result<bool> {
         let now = Instant::now(rt)?;
@@ -74,10 +74,9 @@ impl Written {
         }
     }
 
-    /// Whether this, which is that file, is as long, and has some name.
-    fn is_whole(self, file: &File) -> io::Result<bool> {
-        let found = file.metadata()?;
-        Ok(found.nlink() > 0 && found.len() == self.length)
+    /// Whether this, which is that file, is as long. The system tells where its end is in half the time that it takes to tell all of a file.
+    fn is_whole(self, file: &mut File) -> io::Result<bool> {
+        Ok(file.seek(SeekFrom::End(0))? == self.length)
     }
 
     /// Whether what has this name is that file, and as long.
@@ -139,11 +138,11 @@ impl<R: Clock + Files<File = File>> Folder for Directory<'_, R> {
     ghost standing = { λ d. Some d.standing };
 
     /// Where somebody else cut the piece, added to it, removed or moved it, as a rotation of logs does, the next host would not find there what was written:
-    /// nothing more is appended. A move under load is noticed some milliseconds later, all else at once.
+    /// nothing more is appended. Under load it is noticed some milliseconds later that a piece was moved or removed, and at once that it was cut.
     fn append(&mut self, bytes: &[u8]) -> io::Result<usize> {
         if !self
             .written
-            .is_as_written(self.rt, &self.newest, self.path.as_str())?
+            .is_as_written(self.rt, &mut self.newest, self.path.as_str())?
         {
             return Err(io::Error::from(ErrorKind::InvalidData));
         }
@@ -159,10 +158,14 @@ impl<R: Clock + Files<File = File>> Folder for Directory<'_, R> {
         Ok(())
     }
 
-    /// Where some of its bytes are not on the disk, it is refused.
+    /// Where some of its bytes are not on the disk, it is refused; and where somebody else changed it, whenever it was looked at last: it would get its number
+    /// so.
     fn close(&mut self) -> io::Result<()> {
         if !self.standing.bytes {
             return Err(io::Error::from(ErrorKind::InvalidInput));
+        }
+        if !self.written.is_at(self.rt, self.path.as_str())? {
+            return Err(io::Error::from(ErrorKind::InvalidData));
         }
         self.highest = give_number(self.rt, self.alloc, self.path.as_str(), self.highest)?;
         self.standing.names = false;

@@ -5,10 +5,13 @@ use std::rt::Clock;
 use std::thread;
 use std::time::{Duration, Instant};
 
-/// How often a host looks whether something has come before it sleeps. A peer that answers at once does so sooner than a sleeper wakes.
-const LOOKS: u32 = 64;
+/// How often a host looks whether something has come before it lets others run: to do so at each look would take as long again.
+const LOOKS: u32 = 8;
 
-/// How long it looks at most, in microseconds. On a busy machine each look lets others run first, and so could take as long as a sleep.
+/// How often it does that before it sleeps. A peer that answers at once does so sooner than a sleeper wakes.
+const ROUNDS: u32 = 24;
+
+/// How long it looks at most, in microseconds. On a busy machine others run first, which could take as long as a sleep.
 const LOOKING: u64 = 50;
 
 /// What a host waits for, by the numbers that the system has for them. A negative number is not waited for.
@@ -62,11 +65,21 @@ fn comes_soon<C: Clock>(rt: &C, waited: &mut [pollfd; 4]) -> bool {
         return false;
     };
     let limit = Duration::from_micros(LOOKING);
-    for _look in 0..LOOKS {
+    for _round in 0..ROUNDS {
+        if has_come(waited) {
+            return true;
+        }
         match since.elapsed(rt) {
             Ok(looked) if looked < limit => thread::yield_now(),
             _ => return false,
         }
+    }
+    false
+}
+
+/// Whether something has come at one of some looks.
+fn has_come(waited: &mut [pollfd; 4]) -> bool {
+    for _look in 0..LOOKS {
         if net::poll(waited, 0) != 0 {
             return true;
         }

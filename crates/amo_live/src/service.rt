@@ -90,6 +90,8 @@ pub struct Service<L, S, W> {
     unanswered: Unanswered,
     /// The handshakes that ended since what is shown was cleared.
     settled: Vec<Settled>,
+    /// Where a datagram is received, once one was: it is as long as the longest, and made once.
+    datagram: Option<Box<[u8; MAX_DATAGRAM]>>,
     /// How many bytes may be shown in this turn.
     room: usize,
     /// The number in the journal of the first message that was got and not shown.
@@ -189,6 +191,7 @@ impl<L: Link + Drop, S: Sink + Drop, W: Lineage + Drop> Service<L, S, W> {
             ids,
             unanswered,
             settled: Vec::new(alloc),
+            datagram: None,
             room: 0,
             unshown: None,
             unread: false,
@@ -541,7 +544,6 @@ impl<L: Link, S: Sink, W: Lineage> Service<L, S, W> {
     }
 
     /// Takes so many of the datagrams that have come.
-    #[tactic(auto, using(crate::proofs::Fresh::bears_none))]
     fn take_datagrams(&mut self, datagrams: u32, now: u64) -> Result<(), LiveFault>
         requires { IsNoted S.written self.old.host }
         ensures noted { OnOk result (IsNoted S.written self.new.host) }
@@ -551,9 +553,36 @@ impl<L: Link, S: Sink, W: Lineage> Service<L, S, W> {
         ensures spelling { spelling_of self.new ≡ spelling_of self.old }
         ensures words { OnOk result (BearsNew W.is_drawn (words_of self.old) (words_of self.new) self.old.host.pass self.new.host.pass) }
     {
-        let mut buffer = [0; MAX_DATAGRAM];
+        let mut buffer = match self.datagram.take() {
+            Some(buffer) => buffer,
+            None => match Box::new(self.host.alloc, [0; MAX_DATAGRAM]) {
+                Ok(buffer) => buffer,
+                Err(_) => return Err(LiveFault::NoMemory),
+            },
+        };
+        self.take_by(&mut buffer, datagrams, now)?;
+        self.datagram = Some(buffer);
+        Ok(())
+    }
+
+    /// Takes so many of the datagrams that have come, one after another in this buffer.
+    #[tactic(auto, using(crate::proofs::Fresh::bears_none))]
+    fn take_by(
+        &mut self,
+        buffer: &mut [u8; MAX_DATAGRAM],
+        datagrams: u32,
+        now: u64,
+    ) -> Result<(), LiveFault>
+        requires { IsNoted S.written self.old.host }
+        ensures noted { OnOk result (IsNoted S.written self.new.host) }
+        ensures none_put { OnOk result (PutsNone self.old.host.pass self.new.host.pass) }
+        ensures streams { streams_of self.new ≡ streams_of self.old }
+        ensures shown { OnOk result (ShowsMore (spelling_of self.old) self.old.host.pass self.new.host.pass (shown_by self.old) (shown_by self.new)) }
+        ensures spelling { spelling_of self.new ≡ spelling_of self.old }
+        ensures words { OnOk result (BearsNew W.is_drawn (words_of self.old) (words_of self.new) self.old.host.pass self.new.host.pass) }
+    {
         'datagrams: for _datagram in 0..datagrams {
-            let Some(length) = self.host.hear(&mut buffer) else {
+            let Some(length) = self.host.hear(buffer) else {
                 break;
             };
             self.heard = true;

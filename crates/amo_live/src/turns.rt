@@ -218,6 +218,8 @@ fn hand_out<L: Link, S: Durable, W: Lineage, I: Read, O: Write>(
     if text_first {
         service.host.send();
     }
+    // Whether the output takes more is asked while the peer is at work, and not while it waits.
+    desk.room();
     Ok(())
 }
 

@@ -27,9 +27,11 @@ const PIECE: usize = 16 * 1024;
 /// The longest that it waits without looking up, in microseconds.
 const LONGEST: u64 = 60_000_000;
 
-/// How often a host looks whether something has come before it sleeps, and for how many microseconds at most: who answers at once does so sooner than
-/// a sleeper wakes. Where it waits for many it does not look.
-const LOOKS: u32 = 64;
+/// How often a host looks whether something has come before it lets others run, how often it does that before it sleeps, and for how many microseconds
+/// at most: who answers at once does so sooner than a sleeper wakes. Where it waits for many it does not look.
+const LOOKS: u32 = 8;
+
+const ROUNDS: u32 = 24;
 
 const LOOKING: u64 = 50;
 
@@ -167,13 +169,23 @@ impl Door {
             return false;
         };
         let limit = Duration::from_micros(LOOKING);
-        for _look in 0..LOOKS {
-            if net::poll(self.waited.as_mut_slice(), 0) != 0 {
+        for _round in 0..ROUNDS {
+            if self.has_come() {
                 return true;
             }
             match since.elapsed(rt) {
                 Ok(looked) if looked < limit => thread::yield_now(),
                 _ => return false,
+            }
+        }
+        false
+    }
+
+    /// Whether something has come at one of some looks.
+    fn has_come(&mut self) -> bool {
+        for _look in 0..LOOKS {
+            if net::poll(self.waited.as_mut_slice(), 0) != 0 {
+                return true;
             }
         }
         false

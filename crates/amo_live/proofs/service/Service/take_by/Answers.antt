@@ -2,7 +2,7 @@ use Rattle.std.proofs.Common.{◌≡◌, ◌∙◌, refl, sym, rules}
 use Rattle.amo_live.specs.Service.{shown_by, spelling_of, words_of}
 use Rattle.amo_live.proofs.Fresh.{bears_as, bears_on}
 use Rattle.amo_live.proofs.Showing.{shows_as, shows_on}
-use Rattle.amo_live.proofs.service.Service.take_datagrams.Goals as goal
+use Rattle.amo_live.proofs.service.Service.take_by.Goals as goal
 
 pub datagrams-preserved : goal.datagrams-preserved
 datagrams-preserved g c =

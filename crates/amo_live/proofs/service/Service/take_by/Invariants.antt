@@ -3,7 +3,7 @@ use Rattle.amo_live.specs.Host.{IsNoted}
 use Rattle.amo_live.specs.Service.{PutsNone, shown_by, spelling_of, streams_of, words_of}
 use Rattle.amo_live.specs.Shown.{ShowsMore}
 use Rattle.amo_live.specs.Words.{BearsNew}
-use Rattle.amo_live.proofs.service.Service.take_datagrams.Given as goal
+use Rattle.amo_live.proofs.service.Service.take_by.Given as goal
 
 -- the journal has all lines so far, no message was put, and what has happened is shown
 abbrev pub invariant-datagrams : goal.invariant-datagrams
