@@ -7,13 +7,3 @@ pub trait Keeper<L, S, W> {
     /// A turn is over.
     fn look(&mut self, service: &Service<L, S, W>) -> Result<(), ServeFault>;
 }
-
-/// Nobody does.
-#[derive(Clone, Copy, Debug)]
-pub struct NoKeeper;
-
-impl<L, S, W> Keeper<L, S, W> for NoKeeper {
-    fn look(&mut self, _service: &Service<L, S, W>) -> Result<(), ServeFault> {
-        Ok(())
-    }
-}

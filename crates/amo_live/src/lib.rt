@@ -83,7 +83,7 @@ pub use host_lives::HostLives;
 pub use id::Id;
 pub use input::{Input, Line};
 pub use journal::Journal;
-pub use keeper::{Keeper, NoKeeper};
+pub use keeper::Keeper;
 pub use lines::{LineFault, Spelling};
 pub use lives_file::OpenedLives;
 pub use named::NamedMessage;

@@ -3,12 +3,12 @@ ghost use Rattle.std.specs.Prelude.{◌≡◌, ◌<◌, ◌≤◌};
 ghost use Rattle.amo_settings.specs.Limits.{IsHostWithin};
 
 use crate::failure::Failure;
+use crate::marking::Marker;
 use crate::retelling::{Manner, tell_untold};
 use crate::stopping::{hang_bell, take_down_bell};
 use amo_disk::{Cause, Disk, Opened, Start, open};
 use amo_live::{
-    Durable, Ended, HostLives, LiveFault, NoKeeper, OpenedLives, Plan, ProcessFault, Socket,
-    run_process,
+    Durable, Ended, HostLives, LiveFault, OpenedLives, Plan, ProcessFault, Socket, run_process,
 };
 use amo_object::End;
 use amo_settings::{HostSettings, ReceiveSettings, SendSettings};
@@ -212,6 +212,7 @@ fn run_noted<
     let mut output = output;
     let in_doubt = tell_earlier(rt, path, start.lines, &plan, &mut output)?;
     let bell = hang_bell(rt, path)?;
+    let mut marker = Marker::new(rt, path, &plan, in_doubt.as_slice())?;
     let number = socket.number();
     let ran = run_process(
         rt,
@@ -225,7 +226,7 @@ fn run_noted<
         words,
         bell,
         in_doubt.as_slice(),
-        &mut NoKeeper,
+        &mut marker,
     );
     take_down_bell(rt, path)?;
     match ran {

@@ -19,6 +19,7 @@ mod following;
 mod got;
 mod judging;
 mod live;
+mod marking;
 mod pieces;
 mod progress;
 mod replaying;

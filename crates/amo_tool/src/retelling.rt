@@ -36,16 +36,101 @@ pub(crate) fn tell_untold<R: AllocGlobal + Eprint + Files<File = File>, O: Write
     output: &mut O,
 ) -> Result<Vec<u32>, Failure> {
     let mut told = ToldFile::read(rt, journal)?;
-    let first = told.first_untold(rt, lines);
-    if first < lines {
-        let mut retelling = Retelling::new(rt, journal, first)?;
+    let mut first = told.first_untold(rt, lines);
+    let mut last = line_in_front_of(rt, journal, first)?;
+    if told.lines() == Some(first) && !is_trusted(rt.alloc(), &told, last.as_ref(), first)? {
+        first = told.distrust(rt, lines);
+    }
+    let mut recalled = None;
+    if !told.list().is_empty() {
+        recalled = recall(rt.alloc(), told.list(), first)?;
+        if recalled.is_none() {
+            first = told.distrust(rt, lines);
+        }
+    }
+    if first < lines || recalled.is_some() {
+        let mut retelling = Retelling::new(rt, journal, first, recalled)?;
         if !retelling.read(rt)? {
             return Ok(told.into_in_doubt());
         }
         retelling.show(rt, manner.json, &mut told, output)?;
+        last = Some(retelling.last);
     }
-    told.keep(rt, lines, manner.sync)?;
+    let last = match last.as_ref() {
+        Some(line) => line.as_slice(),
+        None => &[],
+    };
+    told.keep(rt, lines, last, manner.sync)?;
     Ok(told.into_in_doubt())
+}
+
+/// Whether the file tells of this journal, of which this is the line in front of that of this number. Where that stood in a piece that was moved away, nobody
+/// can say that it does not.
+fn is_trusted(
+    alloc: Global,
+    told: &ToldFile,
+    line: Option<&Vec<u8>>,
+    first: u64,
+) -> Result<bool, AllocError> {
+    match line {
+        Some(line) => told.is_behind(alloc, line.as_slice()),
+        None if first == 0 => told.is_behind(alloc, &[]),
+        None => Ok(true),
+    }
+}
+
+/// The text of the line in front of that of this number in the journal of this name, if it is there.
+fn line_in_front_of<R: AllocGlobal + Files<File = File>>(
+    rt: &R,
+    name: &str,
+    number: u64,
+) -> Result<Option<Vec<u8>>, Failure> {
+    match number.checked_sub(1) {
+        Some(number) => line_of(rt, name, number),
+        None => Ok(None),
+    }
+}
+
+/// The text of the line of this number in the journal of this name, if it is there, without its end.
+pub(crate) fn line_of<R: AllocGlobal + Files<File = File>>(
+    rt: &R,
+    name: &str,
+    number: u64,
+) -> Result<Option<Vec<u8>>, Failure> {
+    let mut journal = Followed::from_line(rt, name, number)?;
+    let mut room = vec![in rt.alloc(); 0u8; ROOM]?;
+    'parts: for _part in 0..u64::MAX {
+        let count = journal.fill(room.as_mut_slice())?;
+        let come = &room.as_slice()[..count.min(room.len())];
+        let whole = whole_lines(come);
+        if whole.is_empty() {
+            if count > 0 || !journal.go_on(rt)? {
+                break;
+            }
+            continue;
+        }
+        let lines = if journal.is_at_beginning() {
+            open(whole).text
+        } else {
+            whole
+        };
+        if let Some((line, _)) = cut(from_line(lines, number), b'\n') {
+            let is_found = number_in_front(line) == Some(number);
+            let line = Vec::from_slice(rt.alloc(), line)?;
+            return Ok(is_found.then_some(line));
+        }
+        journal.pass(whole.len());
+    }
+    Ok(None)
+}
+
+/// A reader that knows the lines of this journal, which stand somewhere in front of the line of this number, and goes on at that one; none where there is
+/// no such journal.
+fn recall(alloc: Global, list: &[u8], first: u64) -> Result<Option<Untold>, AllocError> {
+    let mut untold = Untold::new(alloc, first)?;
+    let (left, progress) = untold.recall(open(list))?;
+    let is_whole = progress == Progress::Whole && left.text.is_empty();
+    Ok(is_whole.then_some(untold))
 }
 
 /// From where on lines are read.
@@ -62,24 +147,29 @@ enum Sought {
 struct Retelling<'a> {
     journal: Followed,
     room: Vec<u8>,
+    /// The text of the last line that was read.
+    last: Vec<u8>,
     found: Found<'a>,
 }
 
 impl<'a> Retelling<'a> {
-    /// The journal of this name, from the line of this number on. Nothing was read.
+    /// The journal of this name, from the line of this number on, of which nothing was read. Of the lines in front of it those that matter are recalled.
     fn new<R: AllocGlobal + Files<File = File>>(
         rt: &R,
         name: &'a str,
         first: u64,
+        recalled: Option<Untold>,
     ) -> Result<Retelling<'a>, Failure> {
         Ok(Retelling {
             journal: Followed::from_line(rt, name, first)?,
             room: vec![in rt.alloc(); 0u8; ROOM]?,
+            last: Vec::new(rt.alloc()),
             found: Found {
                 alloc: rt.alloc(),
                 name,
                 version: Version::One,
                 sought: Sought::Line(first),
+                recalled,
                 untold: None,
             },
         })
@@ -122,6 +212,11 @@ impl<'a> Retelling<'a> {
         let bytes = &room[..length.min(room.len())];
         let is_beginning = self.journal.is_at_beginning();
         let is_read = self.found.read(rt, bytes, is_beginning)?;
+        let last = last_line(bytes);
+        if number_in_front(last).is_some() {
+            self.last.clear();
+            self.last.extend_from_slice(last)?;
+        }
         self.journal.pass(length);
         Ok(is_read)
     }
@@ -134,7 +229,7 @@ impl<'a> Retelling<'a> {
         told: &mut ToldFile,
         output: &mut O,
     ) -> Result<(), Failure> {
-        let Some(untold) = self.found.untold.as_ref() else {
+        let Some(untold) = self.found.known() else {
             return Ok(());
         };
         let doubts = Doubts::read(rt, self.found.name)?;
@@ -154,11 +249,21 @@ struct Found<'a> {
     name: &'a str,
     version: Version,
     sought: Sought,
+    /// What is known of the lines in front of it, until it has come.
+    recalled: Option<Untold>,
     /// What was read from there on, once it has come.
     untold: Option<Untold>,
 }
 
 impl Found<'_> {
+    /// What is known of the lines that were read or recalled.
+    fn known(&self) -> Option<&Untold> {
+        match self.untold.as_ref() {
+            Some(untold) => Some(untold),
+            None => self.recalled.as_ref(),
+        }
+    }
+
     /// Reads whole lines, with which a piece begins, or which go on in it. Answers whether each of them is one.
     fn read<R: Eprint>(
         &mut self,
@@ -211,6 +316,7 @@ impl Found<'_> {
                 Some(number) if number == sought => self.begin(number)?,
                 Some(number) => {
                     tell_missing(rt, self.name, sought, number);
+                    self.recalled = None;
                     self.sought = Sought::Start;
                 }
                 None => {}
@@ -238,9 +344,13 @@ impl Found<'_> {
         Ok(rest)
     }
 
-    /// The line of this number comes next, with which a life begins.
+    /// The line of this number comes next, with which a life begins, or in front of which lines were recalled.
     fn begin(&mut self, number: u64) -> Result<(), AllocError> {
-        self.untold = Some(Untold::new(self.alloc, number)?);
+        let untold = match self.recalled.take() {
+            Some(recalled) => recalled,
+            None => Untold::new(self.alloc, number)?,
+        };
+        self.untold = Some(untold);
         Ok(())
     }
 }
@@ -267,6 +377,15 @@ fn from_line(lines: &[u8], number: u64) -> &[u8] {
         rest = behind;
     }
     rest
+}
+
+/// The last of these lines, without its end.
+fn last_line(lines: &[u8]) -> &[u8] {
+    let text = match lines.strip_suffix(b"\n") {
+        Some(text) => text,
+        None => lines,
+    };
+    &text[whole_lines(text).len().min(text.len())..]
 }
 
 /// The number in front of a line.

@@ -1,8 +1,10 @@
-//! The file beside a sender's journal that keeps of how many of its lines each put is told, and on which streams one was told to be unknown.
+//! The file beside a sender's journal that keeps of how many of its lines each put is told, but for some that it lists, and on which streams one was told
+//! to be unknown.
 use crate::failure::Failure;
 use amo_disk::Cause;
-use amo_text::{cut, push_decimal, read_decimal, read_stream};
+use amo_text::{cut, push_decimal, push_hex, read_decimal, read_stream};
 use amo_world::STREAMS;
+use sha2::{Digest, Sha256};
 use std::alloc::{AllocError, Global};
 use std::fs::{self, File, OpenOptions};
 use std::io::{self, ErrorKind, Read, Write};
@@ -16,8 +18,17 @@ const MODE: u32 = 0o600;
 /// What it begins with, in front of the numbers.
 const FRONT: &[u8] = b"amo told ";
 
-/// More bytes than it has.
-const MOST: u64 = 2048;
+/// More bytes than it has: a line, and of each stream the lines of its messages that have no answer.
+const MOST: u64 = 16_777_216;
+
+/// How many bytes its last line has: two digests in HEX behind a word.
+const SEAL: usize = 134;
+
+/// How many of them stand in front of the second digest.
+const WITNESS: usize = 69;
+
+/// What that line begins with.
+const SUM: &[u8] = b"sum ";
 
 /// The file of this path, and what it says.
 #[derive(Drop)]
@@ -26,6 +37,10 @@ pub(crate) struct ToldFile {
     said: Said,
     /// The streams on which it is not settled what became of a message that was told to be unknown.
     in_doubt: Vec<u32>,
+    /// A journal of those of the first lines that matter for puts on them which are not told. It has no line where all are.
+    list: Vec<u8>,
+    /// The digest of the last of these lines, and what stands behind it.
+    witness: Vec<u8>,
 }
 
 /// What the file says.
@@ -33,7 +48,7 @@ pub(crate) struct ToldFile {
 enum Said {
     /// There is none.
     Nothing,
-    /// Each put on the first so many lines is told.
+    /// Each put on the first so many lines is told, but for those in the list.
     Lines(u64),
     /// It says something else.
     Strange,
@@ -47,17 +62,25 @@ impl ToldFile {
         rt: &R,
         journal: &str,
     ) -> Result<ToldFile, Failure> {
-        let path = format!(in rt.alloc(); "{journal}.told")?;
+        let path = path_of(rt.alloc(), journal)?;
         let mut bytes = Vec::new(rt.alloc());
         let mut in_doubt = Vec::new(rt.alloc());
+        let mut list = Vec::new(rt.alloc());
+        let mut witness = Vec::new(rt.alloc());
         let said = match read_front(rt, path.as_str(), &mut bytes) {
-            Ok(()) => match read_told(rt.alloc(), bytes.as_slice())? {
-                Some((lines, streams)) => {
-                    in_doubt = streams;
-                    Said::Lines(lines)
+            Ok(()) => {
+                let (front, seal) = sealed(bytes.as_slice());
+                let is_whole = is_seal_of(rt.alloc(), front, seal)?;
+                match read_told(rt.alloc(), front)? {
+                    Some((lines, streams, listed)) if is_whole => {
+                        in_doubt = streams;
+                        list.extend_from_slice(listed)?;
+                        witness.extend_from_slice(&seal[WITNESS.min(seal.len())..])?;
+                        Said::Lines(lines)
+                    }
+                    _ => Said::Strange,
                 }
-                None => Said::Strange,
-            },
+            }
             Err(error) => match error.kind() {
                 ErrorKind::NotFound => Said::Nothing,
                 ErrorKind::OutOfMemory => return Err(Failure::NoMemory),
@@ -68,6 +91,8 @@ impl ToldFile {
             path,
             said,
             in_doubt,
+            list,
+            witness,
         })
     }
 
@@ -84,7 +109,35 @@ impl ToldFile {
         };
         let _ = rt.eprintln(told);
         self.in_doubt.clear();
+        self.list.clear();
         0
+    }
+
+    /// Those of the lines in front of that one which matter for puts on them that are not told, as a journal.
+    pub(crate) fn list(&self) -> &[u8] {
+        self.list.as_slice()
+    }
+
+    /// How many lines it says are told, if it does.
+    pub(crate) fn lines(&self) -> Option<u64> {
+        match self.said {
+            Said::Lines(lines) => Some(lines),
+            Said::Nothing | Said::Strange | Said::Unread(_) => None,
+        }
+    }
+
+    /// Whether it is of a journal of which this is the last of these lines.
+    pub(crate) fn is_behind(&self, alloc: Global, line: &[u8]) -> Result<bool, AllocError> {
+        let mut digest = Vec::new(alloc);
+        push_digest(&mut digest, line)?;
+        digest.extend_from_slice(b"\n")?;
+        Ok(digest.as_slice() == self.witness.as_slice())
+    }
+
+    /// It is of another journal, or its list is none. Answers the number of the journal's first line, and standard error is told why.
+    pub(crate) fn distrust<R: Eprint>(&mut self, rt: &R, lines: u64) -> u64 {
+        self.said = Said::Strange;
+        self.first_untold(rt, lines)
     }
 
     /// The streams on which it is not settled what became of a message that was told to be unknown.
@@ -102,34 +155,88 @@ impl ToldFile {
         self.in_doubt
     }
 
-    /// Keeps that each put on the first so many lines is told, where it does not say so. A file of a journal without lines is not begun.
+    /// Keeps that each put on the first so many lines, of which this is the last, is told, where it does not say so. A file of a journal without lines is not
+    /// begun.
     pub(crate) fn keep<R: AllocGlobal + Files<File = File>>(
         &self,
         rt: &R,
         lines: u64,
+        last: &[u8],
         sync: bool,
     ) -> Result<(), Failure> {
         match self.said {
             Said::Nothing if lines == 0 => return Ok(()),
-            Said::Lines(said) if said == lines => return Ok(()),
+            Said::Lines(said) if said == lines && self.list.is_empty() => return Ok(()),
             _ => {}
         }
-        let path = self.path.as_str();
-        let beside = format!(in rt.alloc(); "{path}.new")?;
         let mut text = Vec::new(rt.alloc());
         push_told(&mut text, lines, self.in_doubt())?;
-        if let Err(error) = write_beside(rt, beside.as_str(), text.as_slice(), sync) {
-            return Err(Failure::of_disk(rt.alloc(), beside.as_str(), Cause::from(error)));
-        }
-        match fs::rename(rt, beside.as_str(), path) {
-            Ok(()) => Ok(()),
-            Err(error) => Err(Failure::of_disk(rt.alloc(), path, Cause::from(error))),
-        }
+        write_told(rt, self.path.as_str(), text, last, sync)
     }
 }
 
-/// Appends what the file says: `amo told LINES`, each stream behind a space, and a line feed.
-fn push_told(text: &mut Vec<u8>, lines: u64, in_doubt: &[u32]) -> Result<(), AllocError> {
+/// The path of the file beside the journal of this path.
+pub(crate) fn path_of(alloc: Global, journal: &str) -> Result<String, AllocError> {
+    format!(in alloc; "{journal}.told")
+}
+
+/// Makes the file of this path anew, of this text and its seal: it tells of lines of which this is the last. It is made beside first, so that it is there
+/// whole, as it was or as it is to be.
+pub(crate) fn write_told<R: AllocGlobal + Files<File = File>>(
+    rt: &R,
+    path: &str,
+    text: Vec<u8>,
+    last: &[u8],
+    sync: bool,
+) -> Result<(), Failure> {
+    let mut text = text;
+    push_seal(&mut text, last)?;
+    let beside = format!(in rt.alloc(); "{path}.new")?;
+    if let Err(error) = write_beside(rt, beside.as_str(), text.as_slice(), sync) {
+        let _ = fs::remove_file(rt, beside.as_str());
+        return Err(Failure::of_disk(rt.alloc(), beside.as_str(), Cause::from(error)));
+    }
+    match fs::rename(rt, beside.as_str(), path) {
+        Ok(()) => Ok(()),
+        Err(error) => Err(Failure::of_disk(rt.alloc(), path, Cause::from(error))),
+    }
+}
+
+/// Appends the last line: `sum`, the digest of all that stands in front of it, and that of this line of a journal.
+fn push_seal(text: &mut Vec<u8>, line: &[u8]) -> Result<(), AllocError> {
+    let digest: [u8; 32] = Sha256::digest(text.as_slice());
+    text.extend_from_slice(SUM)?;
+    push_hex(text, &digest)?;
+    text.extend_from_slice(b" ")?;
+    push_digest(text, line)?;
+    text.extend_from_slice(b"\n")
+}
+
+/// Appends the SHA-256 digest of these bytes in HEX.
+fn push_digest(text: &mut Vec<u8>, bytes: &[u8]) -> Result<(), AllocError> {
+    let digest: [u8; 32] = Sha256::digest(bytes);
+    push_hex(text, &digest)
+}
+
+/// These bytes in front of a seal, and the seal.
+fn sealed(bytes: &[u8]) -> (&[u8], &[u8]) {
+    bytes.split_at(bytes.len().saturating_sub(SEAL))
+}
+
+/// Whether a seal begins as that of this text does.
+fn is_seal_of(alloc: Global, front: &[u8], seal: &[u8]) -> Result<bool, AllocError> {
+    let mut begun = Vec::new(alloc);
+    begun.extend_from_slice(SUM)?;
+    push_digest(&mut begun, front)?;
+    Ok(seal.len() == SEAL && seal.starts_with(begun.as_slice()))
+}
+
+/// Appends what the file says in front of its list: `amo told LINES`, each stream behind a space, and a line feed.
+pub(crate) fn push_told(
+    text: &mut Vec<u8>,
+    lines: u64,
+    in_doubt: &[u32],
+) -> Result<(), AllocError> {
     text.extend_from_slice(FRONT)?;
     push_decimal(text, lines)?;
     for stream in in_doubt {
@@ -139,16 +246,25 @@ fn push_told(text: &mut Vec<u8>, lines: u64, in_doubt: &[u32]) -> Result<(), All
     text.extend_from_slice(b"\n")
 }
 
-/// How many lines these bytes say, and which streams, in their order, if that is all they say.
-fn read_told(alloc: Global, bytes: &[u8]) -> Result<Option<(u64, Vec<u32>)>, AllocError> {
-    let Some(numbers) = numbers_in(bytes) else {
+/// How many lines these bytes say, and which streams, in their order; and what stands behind that line. None where they begin with no such line.
+fn read_told(alloc: Global, bytes: &[u8]) -> Result<Option<(u64, Vec<u32>, &[u8])>, AllocError> {
+    let Some((numbers, list)) = numbers_in(bytes) else {
         return Ok(None);
     };
-    let (number, mut rest) = first_field(numbers);
+    let (number, streams) = first_field(numbers);
     let Some(lines) = read_decimal(number) else {
         return Ok(None);
     };
+    match read_streams(alloc, streams)? {
+        Some(streams) => Ok(Some((lines, streams, list))),
+        None => Ok(None),
+    }
+}
+
+/// The streams that a text names, rising, with a space between two; none where it is no such text.
+fn read_streams(alloc: Global, text: Option<&[u8]>) -> Result<Option<Vec<u32>>, AllocError> {
     let mut streams = Vec::new(alloc);
+    let mut rest = text;
     let mut last = 0;
     'streams: for _stream in 0..STREAMS {
         let Some(fields) = rest else {
@@ -162,20 +278,13 @@ fn read_told(alloc: Global, bytes: &[u8]) -> Result<Option<(u64, Vec<u32>)>, All
         streams.push(last)?;
         rest = behind;
     }
-    match rest {
-        None => Ok(Some((lines, streams))),
-        Some(_) => Ok(None),
-    }
+    Ok(rest.is_none().then_some(streams))
 }
 
-/// What stands behind the front of a line, if these bytes are one that begins so.
-fn numbers_in(bytes: &[u8]) -> Option<&[u8]> {
+/// What stands behind the front of the first line of these bytes, if it begins so, and behind the line.
+fn numbers_in(bytes: &[u8]) -> Option<(&[u8], &[u8])> {
     let (line, behind) = cut(bytes, b'\n')?;
-    if behind.is_empty() {
-        line.strip_prefix(FRONT)
-    } else {
-        None
-    }
+    Some((line.strip_prefix(FRONT)?, behind))
 }
 
 /// What stands in front of the first space, and what behind it, if there is one.

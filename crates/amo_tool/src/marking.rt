@@ -1,0 +1,138 @@
+//! Keeps, while a sender is at work, from which line of its journal on its next start is to tell.
+use crate::failure::Failure;
+use crate::retelling::line_of;
+use crate::told_file::{path_of, push_told, write_told};
+use amo_live::{Keeper, Lineage, Plan, ServeFault, Service};
+use amo_net::Link;
+use amo_object::End;
+use amo_text::Sink;
+use std::alloc::{AllocError, Global};
+use std::fs::{self, File};
+use std::rt::Files;
+
+/// Writes the file beside a sender's journal anew once a piece of the journal was full and another one has a line. So a start reads that one alone, and the
+/// list of those lines in front of it that matter.
+#[derive(Drop)]
+pub(crate) struct Marker<'r, R> {
+    rt: &'r R,
+    journal: &'r str,
+    path: String,
+    piece: u64,
+    sync: bool,
+    /// The streams in doubt that the host has not.
+    beyond: Vec<u32>,
+    /// How many bytes the host has to have written, and more, for the next step; none at a host that tells nothing at its start.
+    next: Option<u64>,
+    /// The piece is full, and the next line begins another one.
+    is_full: bool,
+}
+
+impl<'r, R: AllocGlobal + Files<File = File>> Marker<'r, R> {
+    /// That of the host with this journal, which is open, and to which nothing was written. These streams are in doubt.
+    pub(crate) fn new(
+        rt: &'r R,
+        journal: &'r str,
+        plan: &Plan,
+        in_doubt: &[u32],
+    ) -> Result<Marker<'r, R>, AllocError> {
+        let mut beyond = Vec::new(rt.alloc());
+        for stream in in_doubt {
+            if *stream > plan.setup.streams {
+                beyond.push(*stream)?;
+            }
+        }
+        Ok(Marker {
+            rt,
+            journal,
+            path: path_of(rt.alloc(), journal)?,
+            piece: plan.piece,
+            sync: plan.limits.sync,
+            beyond,
+            next: match plan.setup.side {
+                End::Sender => Some(plan.piece.saturating_sub(length_of(rt, journal))),
+                End::Receiver => None,
+            },
+            is_full: false,
+        })
+    }
+
+    /// Whether a piece was full when the host had written fewer bytes than these, and another one has begun by now.
+    fn has_begun(&mut self, bytes: u64) -> bool {
+        let Some(next) = self.next else {
+            return false;
+        };
+        if bytes <= next {
+            return false;
+        }
+        if self.is_full {
+            self.next = Some(next.saturating_add(self.piece));
+        } else {
+            self.next = Some(bytes);
+        }
+        self.is_full = !self.is_full;
+        !self.is_full
+    }
+}
+
+/// How many bytes the file of this path has.
+fn length_of<R: Files<File = File>>(rt: &R, path: &str) -> u64 {
+    match fs::metadata(rt, path) {
+        Ok(found) => found.len(),
+        Err(_) => 0,
+    }
+}
+
+impl<L: Link, S: Sink, W: Lineage, R: AllocGlobal + Eprint + Files<File = File>> Keeper<L, S, W>
+    for Marker<'_, R> {
+    /// Where the file cannot be written, that is told: the host goes on, and its next start reads more.
+    fn look(&mut self, service: &Service<L, S, W>) -> Result<(), ServeFault> {
+        if !self.has_begun(service.host.journal_bytes()) {
+            return Ok(());
+        }
+        if let Err(failure) = self.mark(service) {
+            let _ = self.rt.eprintln(failure);
+        }
+        Ok(())
+    }
+}
+
+impl<R: AllocGlobal + Files<File = File>> Marker<'_, R> {
+    /// Writes what the file says of a host whose lines are all written down.
+    fn mark<L: Link, S: Sink, W: Lineage>(
+        &self,
+        service: &Service<L, S, W>,
+    ) -> Result<(), Failure> {
+        let lines = service.host.next_line();
+        let Some(last) = line_of(self.rt, self.journal, lines.saturating_sub(1))? else {
+            return Ok(());
+        };
+        let text = told_by(self.rt.alloc(), service, self.beyond.as_slice())?;
+        write_told(
+            self.rt,
+            self.path.as_str(),
+            text,
+            last.as_slice(),
+            self.sync,
+        )
+    }
+}
+
+/// What the file says of a host whose lines are all written down: how many there are, on which streams something is in doubt, those that it has not too, and,
+/// as a journal, which lines matter for messages without an answer.
+fn told_by<L: Link, S: Sink, W: Lineage>(
+    alloc: Global,
+    service: &Service<L, S, W>,
+    beyond: &[u32],
+) -> Result<Vec<u8>, AllocError> {
+    let mut text = Vec::new(alloc);
+    let mut in_doubt = service.streams_in_doubt()?;
+    in_doubt.extend_from_slice(beyond)?;
+    push_told(&mut text, service.host.next_line(), in_doubt.as_slice())?;
+    let mut lines = Vec::new(alloc);
+    service.unanswered_lines(&mut lines)?;
+    if !lines.is_empty() {
+        text.extend_from_slice(service.host.version().heading())?;
+        text.extend_from_slice(lines.as_slice())?;
+    }
+    Ok(text)
+}
