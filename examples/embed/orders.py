@@ -2,12 +2,10 @@
 """Hands orders from a table to `amo send`, each to be carried out once, and learns what became of each: over crashes of this program and of both hosts.
 
     orders.py TABLE add TEXT                         writes an order into the table
-    orders.py TABLE show                             prints each order with its state
     orders.py TABLE send JOURNAL PEER AMO send ..    sends what is new, by the command that follows; PEER is the other host's journal, or -
     orders.py TABLE work JOURNAL AMO                 carries out what the host that receives has got, until it is ended
 
 An order is new, sent (nothing is known of it yet), done, or in doubt: it may have been carried out, or may still be. Only what is new is sent.
-docs/EMBEDDING.md tells why each step stands where it does.
 """
 
 import json
@@ -17,18 +15,13 @@ import sys
 import threading
 import time
 
-STATES = {"got": "done", "gone": "new", "open": "sent"}
-
 
 class Orders:
     def __init__(self, path):
         self.base = sqlite3.connect(path, timeout=30, isolation_level=None)
         self.base.execute("PRAGMA synchronous = FULL")
-        self.base.execute("CREATE TABLE IF NOT EXISTS orders (id INTEGER PRIMARY KEY, text TEXT, state TEXT DEFAULT 'new')")
-        self.base.execute("CREATE TABLE IF NOT EXISTS work (line INTEGER PRIMARY KEY, text TEXT)")
-
-    def add(self, text):
-        self.base.execute("INSERT INTO orders (text) VALUES (?)", (text,))
+        for table in "orders (id INTEGER PRIMARY KEY, text TEXT, state TEXT DEFAULT 'new')", "work (line INTEGER PRIMARY KEY, text TEXT)":
+            self.base.execute(f"CREATE TABLE IF NOT EXISTS {table}")
 
     def of(self, *states):
         return [row for row in self.base.execute("SELECT id, text, state FROM orders ORDER BY id").fetchall() if row[2] in states]
@@ -55,7 +48,7 @@ def settle(orders, amo, journal, peer):
         outcome = known.get(number, "gone")
         if outcome == "unknown" and by_both.get(number) != "open":
             outcome = by_both.get(number, "unknown")
-        orders.mark(number, STATES.get(outcome, "doubt"))
+        orders.mark(number, {"got": "done", "gone": "new", "open": "sent"}.get(outcome, "doubt"))
 
 
 def start(command):
@@ -80,8 +73,7 @@ def send(orders, journal, peer, command):
             # First the table: were the line first, and this program killed behind it, the order would be sent again.
             orders.mark(new[0], "sent")
             sent.add(new[0])
-            line = {"stream": stream, "id": str(new[0]), "text": f"{new[0]} {new[1]}"}
-            print(json.dumps(line), file=host.stdin, flush=True)
+            print(json.dumps({"stream": stream, "id": str(new[0]), "text": f"{new[0]} {new[1]}"}), file=host.stdin, flush=True)
 
     try:
         # It notes the crash before it: what waited then is gone.
@@ -94,8 +86,8 @@ def send(orders, journal, peer, command):
             told = json.loads(line)
             if told["event"] == "refused":
                 sys.exit(f"order {told.get('id')}: {told['reason']}")
-            if told["event"] in ("yes", "no"):
-                orders.mark(int(told["id"]), "done" if told["event"] == "yes" else "doubt")
+            if state := {"yes": "done", "no": "doubt"}.get(told["event"]):
+                orders.mark(int(told["id"]), state)
                 sent.remove(int(told["id"]))
                 hand_on(told["stream"])
     except BrokenPipeError:
@@ -117,9 +109,7 @@ def work(orders, journal, amo):
 def main(table, act, *words):
     orders = Orders(table)
     if act == "add":
-        orders.add(*words)
-    elif act == "show":
-        print(*("\t".join(map(str, row)) for row in orders.of("new", "sent", "done", "doubt")), sep="\n")
+        orders.base.execute("INSERT INTO orders (text) VALUES (?)", words)
     elif act == "send":
         while orders.of("new", "sent"):
             send(orders, *words[:2], words[2:])
@@ -127,5 +117,4 @@ def main(table, act, *words):
         work(orders, *words)
 
 
-if __name__ == "__main__":
-    main(*sys.argv[1:])
+main(*sys.argv[1:])
