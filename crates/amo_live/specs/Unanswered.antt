@@ -1,8 +1,8 @@
 -- The lines of a sender's journal that matter for messages without an answer.
-use Rattle.std.specs.Prelude.{ℕ, zero, suc, Bool, true, false, List, [], ◌∷◌, ◌++◌, drop, get_or, slice_set}
+use Rattle.std.specs.Prelude.{ℕ, zero, suc, Bool, true, false, List, [], ◌∷◌, ◌++◌, drop, get_or, if◌then◌else◌, slice_set}
 use Rattle.std.specs.List.{filter, flat_map}
-use Rattle.amo_live.specs.declared.unanswered.Kind.{Kind}
-use Rattle.amo_live.specs.declared.unanswered.Kind.TheVariants.{Put, Start, Accept}
+use Rattle.amo_live.specs.declared.stream_lines.Kind.{Kind}
+use Rattle.amo_live.specs.declared.stream_lines.Kind.TheVariants.{Put, Start, Accept}
 
 -- a line: what it tells, and its text
 pub record Kept : Type 0 where
@@ -26,6 +26,17 @@ tells_put Accept = false
 
 abbrev pub is_put : Kept → Bool
 is_put line = tells_put line.kind
+
+-- how many lines tell of a handshake
+abbrev pub others : List Kept → ℕ
+others [] = 0
+others (line ∷ rest) = if is_put line then others rest else suc (others rest)
+
+-- the lines but for so many of the first that tell of a handshake
+abbrev pub kept_of : ℕ → List Kept → List Kept
+kept_of zero lines = lines
+kept_of (suc left_out) [] = []
+kept_of (suc left_out) (line ∷ rest) = if is_put line then (line ∷ kept_of (suc left_out) rest) else kept_of left_out rest
 
 -- what is left of a stream's lines where a handshake of so many messages ended: the puts behind the first so many
 abbrev pub left_by : ℕ → List Kept → List Kept

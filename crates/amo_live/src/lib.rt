@@ -67,6 +67,7 @@ mod recent;
 mod service;
 mod socket;
 mod stats;
+mod stream_lines;
 mod turns;
 mod unanswered;
 mod words;

@@ -5,7 +5,7 @@ ghost use Rattle.amo_live.specs.Unanswered.{text_of};
 
 use crate::Lineage;
 use crate::service::Service;
-use crate::unanswered::Kind;
+use crate::stream_lines::Kind;
 use amo_core::Mode;
 use amo_net::Link;
 use amo_text::Sink;
@@ -85,7 +85,10 @@ impl<L: Link, S: Sink, W: Lineage> Service<L, S, W> {
                 let line = self.host.journal.last_line();
                 self.unanswered.keep(stream, Kind::Accept, line)
             }
-            (Some(Mode::Send), Mode::Quiet) => self.unanswered.end(stream, messages),
+            (Some(Mode::Send), Mode::Quiet) => {
+                self.unanswered.end(stream, messages);
+                Ok(())
+            }
             _ => Ok(()),
         }
     }
