@@ -21,3 +21,4 @@ pub mod Fresh
 pub mod Getting
 pub mod Doubting
 pub mod Keeping
+pub mod Listening

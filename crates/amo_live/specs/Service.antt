@@ -38,6 +38,12 @@ words_of service = service.words
 abbrev pub IsAtRest : {L S W : Type 0} → Service L S W → Type 0
 IsAtRest service = (service.owed ≡ 0) × AreCalm service.host.pump.host
 
+-- it listened for datagrams, and nothing else
+abbrev pub Listened : {L S W : Type 0} → Service L S W → Service L S W → Type 0
+Listened before after =
+    (after.host ≡ record before.host { link = after.host.link }) × (streams_of after ≡ streams_of before) × (shown_by after ≡ shown_by before)
+    × (after.setup ≡ before.setup) × (words_of after ≡ words_of before)
+
 -- whether it is in doubt what became of an earlier message of a stream
 abbrev pub doubted : List Lane → ℕ → Bool
 doubted lanes zero = false

@@ -1,11 +1,16 @@
 //! Waiting for what comes first.
+ghost use Rattle.amo_live.specs.Service.{Listened};
+
+use crate::{Lineage, Service};
+use amo_net::Link;
+use amo_text::Sink;
 use libc::net;
 use libc::types::pollfd;
 use std::rt::Clock;
 use std::thread;
 use std::time::{Duration, Instant};
 
-/// How often a host looks whether something has come before it lets others run: to do so at each look would take as long again.
+/// How often a host listens before it looks whether anything else has come, and lets others run: to do so each time would take as long again.
 const LOOKS: u32 = 8;
 
 /// How often it does that before it sleeps. A peer that answers at once does so sooner than a sleeper wakes.
@@ -44,8 +49,16 @@ pub struct Ready {
     pub bell: bool,
 }
 
-/// Waits until something has come or the output is gone, or for so many milliseconds; without a limit where that is negative.
-pub fn wait<C: Clock>(rt: &C, what: Waited, limit: i32) -> Ready {
+/// Waits until something has come or the output is gone, or for so many milliseconds; without a limit where that is negative. For a while the service
+/// listens itself: it hears a datagram sooner than the system tells that there is one.
+pub fn wait<C: Clock, L: Link, S: Sink, W: Lineage>(
+    rt: &C,
+    service: &mut Service<L, S, W>,
+    what: Waited,
+    limit: i32,
+) -> Ready
+    ensures { Listened service.old service.new }
+{
     let mut waited = [
         watched(what.lines, net::POLLIN),
         watched(what.socket, net::POLLIN),
@@ -53,35 +66,31 @@ pub fn wait<C: Clock>(rt: &C, what: Waited, limit: i32) -> Ready {
         watched(what.bell, net::POLLIN),
     ];
     let at_once = net::poll(&mut waited, 0) != 0;
-    if !at_once && limit != 0 && !comes_soon(rt, &mut waited) {
+    if !at_once && limit != 0 && !comes_soon(rt, service, &mut waited) {
         net::poll(&mut waited, limit);
     }
-    found_in(&waited, at_once)
+    found_in(&waited, at_once, service.has_come())
 }
 
 /// Whether something comes while the host looks.
-fn comes_soon<C: Clock>(rt: &C, waited: &mut [pollfd; 4]) -> bool {
+fn comes_soon<C: Clock, L: Link, S: Sink, W: Lineage>(
+    rt: &C,
+    service: &mut Service<L, S, W>,
+    waited: &mut [pollfd; 4],
+) -> bool
+    ensures { Listened service.old service.new }
+{
     let Ok(since) = Instant::now(rt) else {
         return false;
     };
     let limit = Duration::from_micros(LOOKING);
-    for _round in 0..ROUNDS {
-        if has_come(waited) {
+    'rounds: for _round in 0..ROUNDS {
+        if service.listen(LOOKS) || net::poll(waited, 0) != 0 {
             return true;
         }
         match since.elapsed(rt) {
             Ok(looked) if looked < limit => thread::yield_now(),
             _ => return false,
-        }
-    }
-    false
-}
-
-/// Whether something has come at one of some looks.
-fn has_come(waited: &mut [pollfd; 4]) -> bool {
-    for _look in 0..LOOKS {
-        if net::poll(waited, 0) != 0 {
-            return true;
         }
     }
     false
@@ -96,10 +105,11 @@ fn watched(number: i32, events: i16) -> pollfd {
     }
 }
 
-fn found_in(waited: &[pollfd; 4], at_once: bool) -> Ready {
+/// What was found, and whether a datagram was heard.
+fn found_in(waited: &[pollfd; 4], at_once: bool, heard: bool) -> Ready {
     Ready {
         lines: waited[0].revents != 0,
-        socket: waited[1].revents != 0,
+        socket: heard || waited[1].revents != 0,
         at_once,
         is_gone: waited[2].revents & !net::POLLOUT != 0,
         bell: waited[3].revents != 0,

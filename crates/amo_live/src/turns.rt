@@ -3,7 +3,7 @@ ghost use Rattle.std.specs.Prelude.{◌≡◌, ◌≢◌, ℕ, List, [], ◌∷�
 ghost use Rattle.std.specs.Io.KnownBytes.{Appends, Consumes};
 ghost use Rattle.amo_live.specs.Client.{Moves, Serves, Waits, is_torn, message_of, moment};
 ghost use Rattle.amo_live.specs.Host.{IsNoted};
-ghost use Rattle.amo_live.specs.Service.{shown_by, spelling_of, streams_of, words_of};
+ghost use Rattle.amo_live.specs.Service.{Listened, shown_by, spelling_of, streams_of, words_of};
 ghost use Rattle.amo_live.specs.Shown.{IsRefusing, IsShown, ShowsMore};
 ghost use Rattle.amo_live.specs.Words.{BearsNew};
 ghost use Rattle.amo_live.specs.declared.turns.Ended.TheVariants.{AtRest};
@@ -18,6 +18,7 @@ use crate::{
     NamedMessage, ServeFault, Service, Spelling,
 };
 use amo_net::Link;
+use amo_text::Sink;
 use std::alloc::{AllocError, Global};
 use std::io::{Read, Write};
 use std::rt::Clock;
@@ -179,7 +180,7 @@ fn turn<C: Clock + Eprint, L: Link, S: Durable, W: Lineage, I: Read, O: Write>(
     ensures puts { desk.new.puts ≡ desk.old.puts }
     ensures unread { OnOk result (desk.old.puts ≡ false → desk.new.reader ≡ desk.old.reader) }
 {
-    let datagrams = desk.wait(rt, limit, service.has_unread())?;
+    let datagrams = desk.wait(rt, service, limit)?;
     let now = microseconds(rt, start)?;
     let room = desk.room();
     service.hear(now, room, datagrams, desk.bell.was_rung())?;
@@ -509,13 +510,20 @@ impl<I: Read, O: Write> Desk<I, O> {
 
     /// Waits, also until messages that wait to be shown can be, and reads lines once where some have come, unless as many messages wait to be put as
     /// may. A host that puts none reads nothing, and ends where nobody reads its messages any more. Answers how many datagrams are to be taken.
-    fn wait<C: Clock>(&mut self, rt: &C, limit: i32, takes: bool) -> Result<u32, ServeFault>
+    fn wait<C: Clock, L: Link, S: Sink, W: Lineage>(
+        &mut self,
+        rt: &C,
+        service: &mut Service<L, S, W>,
+        limit: i32,
+    ) -> Result<u32, ServeFault>
+        ensures listened { Listened service.old service.new }
         ensures unread { OnOk result (self.old.puts ≡ false → self.new.reader ≡ self.old.reader) }
         ensures waits { OnOk result ((bytes : List ℕ) × Consumes (I.remaining self.old.reader) (I.remaining self.new.reader) bytes × Waits self.old.input self.new.input bytes) }
         ensures same { self.new ≡ record self.old { reader = self.new.reader; input = self.new.input; bell = self.new.bell } }
     {
         let reads = self.reads();
-        let ready = wait(rt, self.waited(reads, takes), limit);
+        let what = self.waited(reads, service.has_unread());
+        let ready = wait(rt, service, what, limit);
         let datagrams = datagrams_in(&ready);
         if ready.is_gone {
             return Err(ServeFault::Gone);
