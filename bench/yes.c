@@ -2,6 +2,7 @@
 
      yes lines STREAMS COUNT COMMAND..                 by a sender that this program starts, over its standard input and output
      yes doors STREAMS COUNT PORT LIFE PORT LIFE       by the doors of a sender and of a receiver that are there, the sender's first
+     yes reads                                         times nothing: reads the lines of a receiver on its standard input, until they end
 
    At a door a put, and the question what became of it, leave together; at the other one a take waits for the message, of a process of its own. */
 #include "client.h"
@@ -10,6 +11,7 @@
 #include <signal.h>
 #include <strings.h>
 #include <sys/prctl.h>
+#include <sys/time.h>
 #include <sys/wait.h>
 #include <unistd.h>
 
@@ -101,6 +103,26 @@ static void by_lines(char **command) {
     wait(NULL);
 }
 
+/* Reads lines, of which each is a stream and a message, and looks at both. */
+static void read_lines(void) {
+    static char told[ROOM];
+    static long messages[MOST_STREAMS + 1];
+    size_t filled = 0;
+    ssize_t more;
+    while ((more = read(0, told + filled, ROOM - filled)) > 0) {
+        filled += more;
+        char *line = told, *end;
+        for (; (end = memchr(line, '\n', told + filled - line)); line = end + 1) {
+            size_t stream = strtoul(line, &line, 10);
+            if (stream < 1 || stream > MOST_STREAMS || end - line != 9)
+                stop("a line is no message");
+            messages[stream]++;
+        }
+        filled -= line - told;
+        memmove(told, line, filled);
+    }
+}
+
 static int takes(void) {
     return door == &doors[1];
 }
@@ -156,17 +178,21 @@ static void hear(size_t at) {
 
 /* Asks a door until all messages have their answers, which only the sender's tells. */
 static void ask_door(struct door *asked) {
+    struct timeval longest = {LONGEST_WAIT / 1000, 0};
     door = asked;
     for (size_t at = 0; at < streams; at++) {
         connections[at].socket = connected(atoi(door->port));
+        if (setsockopt(connections[at].socket, SOL_SOCKET, SO_RCVTIMEO, &longest, sizeof longest))
+            stop("a time limit");
         looked_at[at] = (struct pollfd){connections[at].socket, POLLIN, 0};
         ask(at);
     }
     while (done < count) {
-        if (poll(looked_at, streams, LONGEST_WAIT) < 1)
+        /* One connection alone is read at once: its socket has a time limit. */
+        if (streams > 1 && poll(looked_at, streams, LONGEST_WAIT) < 1)
             stop("an answer does not come");
         for (size_t at = 0; at < streams; at++)
-            if (looked_at[at].revents)
+            if (streams == 1 || looked_at[at].revents)
                 hear(at);
     }
 }
@@ -185,11 +211,13 @@ static void by_doors(void) {
 }
 
 int main(int words, char **word) {
+    if (words == 2 && !strcmp(word[1], "reads"))
+        return read_lines(), 0;
     int is_lines = words > 4 && !strcmp(word[1], "lines"), is_doors = words == 8 && !strcmp(word[1], "doors");
     streams = words > 3 ? strtoul(word[2], NULL, 10) : 0;
     count = words > 3 ? strtoul(word[3], NULL, 10) : 0;
     if (!(is_lines || is_doors) || streams < 1 || streams > MOST_STREAMS || !(times = malloc((count + 1) * sizeof *times)))
-        return fputs("usage: yes lines STREAMS COUNT COMMAND.. | yes doors STREAMS COUNT PORT LIFE PORT LIFE\n", stderr), 2;
+        return fputs("usage: yes lines STREAMS COUNT COMMAND.. | yes doors STREAMS COUNT PORT LIFE PORT LIFE | yes reads\n", stderr), 2;
     signal(SIGPIPE, SIG_IGN);
     for (int at = 0; is_doors && at < 2; at++)
         doors[at] = (struct door){word[4 + 2 * at], word[5 + 2 * at]};
