@@ -5,3 +5,4 @@ pub mod Pairs
 pub mod Blame
 pub mod Appends
 pub mod Alike
+pub mod Onward

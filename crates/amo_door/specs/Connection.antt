@@ -1,5 +1,11 @@
 -- Connections, as contracts see them.
-use Rattle.std.specs.Prelude.{◌≡◌, ◌⊎◌, ℕ, List, ◌++◌, length, take}
+use Rattle.std.specs.Prelude.{◌≡◌, ◌⊎◌, ℕ, ◌+◌, ◌-◌, ◌^◌, ◌≤◌, ◌==◌, nat_lt, min, Bool, true, false, not, ◌&&◌, if◌then◌else◌, Option, None, Some, Result, Ok, Err, IsOk, IsErr, MatchResult, List, [], ◌++◌, length, take, drop}
+use Rattle.http1.specs.declared.error.WriteError.{WriteError}
+use Rattle.http1.specs.declared.error.WriteError.TheVariants as WriteFault
+use Rattle.amo_door.specs.declared.connection.Phase.{Phase}
+use Rattle.amo_door.specs.declared.connection.Phase.TheVariants as phase
+use Rattle.amo_door.specs.declared.connection.Stage.{Stage}
+use Rattle.amo_door.specs.declared.connection.Stage.TheVariants as stage
 use Rattle.amo_door.specs.declared.connection.Step.{Step}
 use Rattle.amo_door.specs.declared.connection.Step.TheVariants.{Call, Wait, Over}
 
@@ -7,13 +13,207 @@ use Rattle.amo_door.specs.declared.connection.Step.TheVariants.{Call, Wait, Over
 pub record ConnectionState : Type 0 where
   pub input : List ℕ
   pub output : List ℕ
+  -- what it is at
+  pub stage : Stage
+  -- the head of a request was read, and its body has not come whole
+  pub has_begun : Bool
+  -- the client sends no more
+  pub has_ended : Bool
+  -- how many bytes were thrown away behind a refusal
+  pub thrown : ℕ
+  -- how many requests were answered
+  pub answered : ℕ
 
--- so many of the bytes that came were added to what waits, or all of them were thrown away
-abbrev pub Takes : List ℕ → List ℕ → ℕ → List ℕ → Type 0
-Takes old bytes count new = (new ≡ old ++ take count bytes) ⊎ ((count ≡ length bytes) × (new ≡ old))
+-- a connection on which nothing came
+abbrev pub unused : ConnectionState
+unused = record { input = []; output = []; stage = stage.Reading; has_begun = false; has_ended = false; thrown = 0; answered = 0 }
 
--- a request came whole, and wants an answer
-abbrev pub IsCall : Step → Type 0
-IsCall (Call call message) = Unit {0}
-IsCall Wait = ⊥
-IsCall Over = ⊥
+-- what one is at where requests are read
+abbrev pub reading_phase : Bool → ℕ → Phase
+reading_phase true waiting = phase.Body
+reading_phase false waiting = if waiting == 0 then phase.Idle else phase.Head
+
+-- what one is at, by its stage, whether a request has begun, and how many bytes wait to be read
+abbrev pub phase_at : Stage → Bool → ℕ → Phase
+phase_at stage.Reading begun waiting = reading_phase begun waiting
+phase_at stage.Asked begun waiting = phase.Asked
+phase_at stage.Following begun waiting = phase.Following
+phase_at stage.Closing begun waiting = phase.Closing
+phase_at stage.Over begun waiting = phase.Over
+
+abbrev pub phase_of : ConnectionState → Phase
+phase_of c = phase_at c.stage c.has_begun (length c.input)
+
+-- whether more bytes are wanted, by its stage, where the client may send more and so many wait to be read
+abbrev pub wants_at : Stage → ℕ → Bool
+wants_at stage.Reading waiting = nat_lt waiting 17408
+wants_at stage.Asked waiting = nat_lt waiting 17408
+wants_at stage.Following waiting = nat_lt waiting 17408
+wants_at stage.Closing waiting = true
+wants_at stage.Over waiting = false
+
+abbrev pub wants_input : ConnectionState → Bool
+wants_input c = not c.has_ended && wants_at c.stage (length c.input)
+
+-- how many bytes it takes at once
+abbrev pub room_at : Stage → ℕ → ℕ
+room_at stage.Reading waiting = 17408 - waiting
+room_at stage.Asked waiting = 17408 - waiting
+room_at stage.Following waiting = 17408 - waiting
+room_at stage.Closing waiting = 17408
+room_at stage.Over waiting = 17408 - waiting
+
+abbrev pub room_of : ConnectionState → ℕ
+room_of c = room_at c.stage (length c.input)
+
+-- one number more, as far as there are such numbers
+abbrev pub one_more : ℕ → ℕ
+one_more count = min (count + 1) (2 ^ 64 - 1)
+
+-- there is no more to do
+abbrev pub over : ConnectionState → ConnectionState
+over c = record c { stage = stage.Over }
+
+-- what was not read is dropped, and no more is read; what is pending is sent
+abbrev pub closed : ConnectionState → ConnectionState
+closed c = record c { input = []; has_begun = false; stage = if length c.output == 0 then stage.Over else stage.Closing }
+
+-- so many bytes more were thrown away: a client that sends on and on is let go
+abbrev pub thrown_at : ℕ → ConnectionState → ConnectionState
+thrown_at thrown c = record c { thrown = thrown; stage = if nat_lt 262144 thrown then stage.Over else c.stage }
+
+abbrev pub throws : ℕ → ConnectionState → ConnectionState
+throws count c = thrown_at (min (c.thrown + count) (2 ^ 64 - 1)) c
+
+-- how many of so many bytes it takes
+abbrev pub taken_count : Stage → ℕ → ℕ → ℕ
+taken_count stage.Reading waiting came = min came (17408 - waiting)
+taken_count stage.Asked waiting came = min came (17408 - waiting)
+taken_count stage.Following waiting came = min came (17408 - waiting)
+taken_count stage.Closing waiting came = came
+taken_count stage.Over waiting came = min came (17408 - waiting)
+
+-- the connection that has taken so many of these bytes: behind a refusal they are thrown away
+abbrev pub taken_at : Stage → ConnectionState → List ℕ → ℕ → ConnectionState
+taken_at stage.Reading c bytes count = record c { input = c.input ++ take count bytes }
+taken_at stage.Asked c bytes count = record c { input = c.input ++ take count bytes }
+taken_at stage.Following c bytes count = record c { input = c.input ++ take count bytes }
+taken_at stage.Closing c bytes count = throws count c
+taken_at stage.Over c bytes count = record c { input = c.input ++ take count bytes }
+
+-- what it is at once so many bytes are left to be sent
+abbrev pub stage_behind : Stage → ℕ → Stage
+stage_behind stage.Reading left = stage.Reading
+stage_behind stage.Asked left = stage.Asked
+stage_behind stage.Following left = stage.Following
+stage_behind stage.Closing left = if left == 0 then stage.Over else stage.Closing
+stage_behind stage.Over left = stage.Over
+
+-- the connection of which so many bytes were sent
+abbrev pub without_sent : ℕ → ConnectionState → ConnectionState
+without_sent count c = record c { output = drop count c.output; stage = stage_behind c.stage (length (drop count c.output)) }
+
+-- bytes in front were read
+abbrev pub IsRest : List ℕ → List ℕ → Type 0
+IsRest old new = (count : ℕ) × (new ≡ drop count old)
+
+-- what is to be sent goes on behind what was
+abbrev pub Extends : List ℕ → List ℕ → Type 0
+Extends old new = (more : List ℕ) × (new ≡ old ++ more)
+
+-- it is at what it was at, or comes to its end
+abbrev pub StaysOrEnds : Stage → Stage → Type 0
+StaysOrEnds old new = (new ≡ old) ⊎ ((new ≡ stage.Closing) ⊎ (new ≡ stage.Over))
+
+-- requests were read, and those that are refused were answered
+pub record GoesOn (old new : ConnectionState) : Type 0 where
+  pub input : IsRest old.input new.input
+  pub output : Extends old.output new.output
+  pub stage : StaysOrEnds old.stage new.stage
+  pub has_ended : new.has_ended ≡ old.has_ended
+  pub thrown : new.thrown ≡ old.thrown
+  pub answered : old.answered ≤ new.answered
+
+-- the same, and then a request came whole: it waits for its answer, and not too much is to be sent
+pub record IsAsked (old new : ConnectionState) : Type 0 where
+  pub input : IsRest old.input new.input
+  pub output : Extends old.output new.output
+  pub bounded : length new.output ≤ 65536
+  pub stage : new.stage ≡ stage.Asked
+  pub has_begun : new.has_begun ≡ false
+  pub has_ended : new.has_ended ≡ old.has_ended
+  pub thrown : new.thrown ≡ old.thrown
+  pub answered : old.answered ≤ new.answered
+
+-- what comes of requests that are read
+abbrev pub Comes : ConnectionState → ConnectionState → Step → Type 0
+Comes old new (Call call message) = IsAsked old new
+Comes old new Wait = GoesOn old new
+Comes old new Over = GoesOn old new × (new.stage ≡ stage.Over)
+
+-- the same, where there may be more
+abbrev pub MayCome : ConnectionState → ConnectionState → Option Step → Type 0
+MayCome old new None = GoesOn old new
+MayCome old new (Some step) = Comes old new step
+
+-- what a connection comes to, by what it was at: where no requests are read it stays as it is, but that one who followed and sends no more is let go
+abbrev pub Goes : {E : Type 0} → Stage → ConnectionState → Result Step E → ConnectionState → Type 0
+Goes stage.Reading old result new = MatchResult result (Comes old new) (λ _. GoesOn old new × (new.stage ≡ stage.Over))
+Goes stage.Asked old result new = (result ≡ Ok Wait) × (new ≡ old)
+Goes stage.Following old result new = (result ≡ Ok Wait) × (new ≡ (if old.has_ended then closed old else old))
+Goes stage.Closing old result new = (result ≡ Ok Wait) × (new ≡ old)
+Goes stage.Over old result new = (result ≡ Ok Over) × (new ≡ old)
+
+-- one more request was answered, and so much is to be sent now
+abbrev pub counted : ConnectionState → List ℕ → ConnectionState
+counted c output = record c { output = output; answered = one_more c.answered }
+
+-- the request that waited for its answer has it: the next one is read, or none, or the answer could not be spelt
+abbrev pub Answered : ConnectionState → ConnectionState → Type 0
+Answered told new = (new ≡ record told { stage = stage.Reading }) ⊎ ((new ≡ closed told) ⊎ (new ≡ over told))
+
+-- what an answer comes to, by what the connection was at: where no request waits for one it is over
+abbrev pub Answers : {T E : Type 0} → Stage → ConnectionState → Result T E → ConnectionState → Type 0
+Answers stage.Reading old result new = IsOk result × (new ≡ over old)
+Answers stage.Asked old result new =
+    Extends old.output new.output × MatchResult result (λ _. Answered (counted old new.output) new) (λ _. new ≡ over (counted old new.output))
+Answers stage.Following old result new = IsOk result × (new ≡ over old)
+Answers stage.Closing old result new = IsOk result × (new ≡ over old)
+Answers stage.Over old result new = IsOk result × (new ≡ over old)
+
+-- so much more is to be sent, and it follows; or that could not be spelt, which ends it
+abbrev pub Follows : ConnectionState → ConnectionState → Type 0
+Follows old new = ((more : List ℕ) × (new ≡ record old { output = old.output ++ more; stage = stage.Following })) ⊎ (new ≡ over old)
+
+-- what comes of following, by what the connection was at: where no request waits for its answer it is over
+abbrev pub Begins : {T E : Type 0} → Stage → ConnectionState → Result T E → ConnectionState → Type 0
+Begins stage.Reading old result new = IsOk result × (new ≡ over old)
+Begins stage.Asked old result new = MatchResult result (λ _. Follows old new) (λ _. new ≡ over old)
+Begins stage.Following old result new = IsOk result × (new ≡ over old)
+Begins stage.Closing old result new = IsOk result × (new ≡ over old)
+Begins stage.Over old result new = IsOk result × (new ≡ over old)
+
+-- what telling one who follows comes to: one that lags too far behind is let go
+abbrev pub TellsOne : {T E : Type 0} → Bool → ConnectionState → Result T E → ConnectionState → Type 0
+TellsOne true old result new = IsOk result × (new ≡ over old)
+TellsOne false old result new = MatchResult result (λ _. Follows old new) (λ _. new ≡ over old)
+
+-- what telling comes to, by what the connection was at: where it does not follow, nothing happens
+abbrev pub Tells : {T E : Type 0} → Stage → ConnectionState → Result T E → ConnectionState → Type 0
+Tells stage.Reading old result new = IsOk result × (new ≡ old)
+Tells stage.Asked old result new = IsOk result × (new ≡ old)
+Tells stage.Following old result new = TellsOne (nat_lt 65536 (length old.output)) old result new
+Tells stage.Closing old result new = IsOk result × (new ≡ old)
+Tells stage.Over old result new = IsOk result × (new ≡ old)
+
+-- what a refusal comes to: it was answered and no more is read; or memory was refused
+abbrev pub Refuses : {T E : Type 0} → ConnectionState → Result T E → ConnectionState → Type 0
+Refuses old result new = MatchResult result
+    (λ _. (output : List ℕ) × Extends old.output output × (new ≡ closed (counted old output)))
+    (λ _. (new ≡ old) ⊎ ((output : List ℕ) × Extends old.output output × (new ≡ over (counted old output))))
+
+-- how what was written ends a call: what could not be written whole ends the connection
+abbrev pub Settles : {T E : Type 0} → ConnectionState → Result T WriteError → Result T E → ConnectionState → Type 0
+Settles old (Ok done) result new = IsOk result × (new ≡ old)
+Settles old (Err WriteFault.OutOfMemory) result new = IsErr result × (new ≡ over old)
+Settles old (Err _) result new = IsOk result × (new ≡ over old)

@@ -1,6 +1,7 @@
 //! A connection of a client.
-ghost use Rattle.std.specs.Prelude.{◌≡◌, ◌≤◌, ◌<◌, ◌↔◌, [], drop, length, IfOk, IfSome, IsTrue, OnErr};
-ghost use Rattle.amo_door.specs.Connection.{IsCall, Takes};
+ghost use Rattle.std.specs.Prelude.{◌≡◌, ◌≤◌, ◌<◌, ◌↔◌, ◌⊎◌, true, length, if◌then◌else◌, IfOk, IsTrue, MatchResult, OnErr, OnOk};
+ghost use Rattle.amo_door.specs.Connection.{Answers, Begins, Comes, Goes, GoesOn, Extends, MayCome, Refuses, Settles, Tells, closed, counted, over, phase_of, room_of, taken_at, taken_count, throws, unused, wants_input, without_sent};
+ghost use Rattle.amo_door.specs.declared.connection.Stage.TheVariants as stage;
 ghost use Rattle.httparse.specs.Spans.{IsRequestWithin};
 
 use crate::head::{read_head, refusal_of};
@@ -104,12 +105,12 @@ pub struct Connection {
 }
 
 impl Model for Connection {
-    ghost use Rattle.std.specs.Prelude.{◌≤◌, length};
+    ghost use Rattle.std.specs.Prelude.{◌≤◌, is_some, length};
     ghost use Rattle.amo_door.specs.Connection.{ConnectionState};
 
     ghost Value = { ConnectionState };
 
-    ghost view = { λ c. record { input = c.input.items; output = c.output.items } };
+    ghost view = { λ c. record { input = c.input.items; output = c.output.items; stage = c.stage; has_begun = is_some c.begun; has_ended = c.has_ended; thrown = c.thrown; answered = c.answered } };
 
     ghost invariant = { λ c. length c.input.items ≤ 17408 };
 }
@@ -117,7 +118,7 @@ impl Model for Connection {
 impl Connection {
     /// A connection on which nothing came.
     pub fn new(alloc: Global) -> Connection
-        ensures { result ≡ record { input = []; output = [] } }
+        ensures { result ≡ unused }
     {
         let limits = Limits {
             max_head_len: LONGEST_HEAD,
@@ -147,32 +148,42 @@ impl Connection {
     }
 
     /// Whether more bytes of the client are wanted: else they are left with the system, which holds the client back.
-    pub fn wants_input(&self) -> bool {
-        match self.stage {
-            Stage::Reading | Stage::Asked | Stage::Following => !self.has_ended
-                && self.input.len() < MOST_INPUT,
-            Stage::Closing => !self.has_ended,
+    pub fn wants_input(&self) -> bool
+        ensures { result ≡ wants_input self.now }
+    {
+        let has_room = match self.stage {
+            Stage::Reading | Stage::Asked | Stage::Following => self.input.len() < MOST_INPUT,
+            Stage::Closing => true,
             Stage::Over => false,
-        }
+        };
+        !self.has_ended && has_room
     }
 
     /// Whether a request waits for its answer.
-    pub fn is_asked(&self) -> bool {
+    pub fn is_asked(&self) -> bool
+        ensures { IsTrue result ↔ (self.now.stage ≡ stage.Asked) }
+    {
         self.stage == Stage::Asked
     }
 
     /// Whether the client is told what happens.
-    pub fn is_following(&self) -> bool {
+    pub fn is_following(&self) -> bool
+        ensures { IsTrue result ↔ (self.now.stage ≡ stage.Following) }
+    {
         self.stage == Stage::Following
     }
 
     /// Whether there is no more to do.
-    pub fn is_over(&self) -> bool {
+    pub fn is_over(&self) -> bool
+        ensures { IsTrue result ↔ (self.now.stage ≡ stage.Over) }
+    {
         self.stage == Stage::Over
     }
 
     /// What it is at.
-    pub fn phase(&self) -> Phase {
+    pub fn phase(&self) -> Phase
+        ensures { result ≡ phase_of self.now }
+    {
         match self.stage {
             Stage::Reading if self.begun.is_some() => Phase::Body,
             Stage::Reading if self.input.is_empty() => Phase::Idle,
@@ -185,13 +196,16 @@ impl Connection {
     }
 
     /// How many requests were answered, refusals among them.
-    pub fn answered(&self) -> u64 {
+    pub fn answered(&self) -> u64
+        ensures { result ≡ self.now.answered }
+    {
         self.answered
     }
 
     /// How many bytes [`Connection::take`] takes now at once.
     pub fn room(&self) -> usize
-        ensures { result ≤ MOST_INPUT }
+        ensures within { result ≤ MOST_INPUT }
+        ensures value { result ≡ room_of self.now }
     {
         match self.stage {
             Stage::Closing => MOST_INPUT,
@@ -202,9 +216,9 @@ impl Connection {
     /// Takes as many of these bytes as there is room for, and tells how many these are. Behind a refusal they are thrown away.
     pub fn take(&mut self, bytes: &[u8]) -> Result<usize, AllocError>
         ensures within { IfOk result (λ count. count ≤ length bytes.now) }
-        ensures taken { IfOk result (λ count. Takes self.old.input bytes.now count self.new.input) }
-        ensures output { self.new.output ≡ self.old.output }
-        ensures err { OnErr result (self.new.input ≡ self.old.input) }
+        ensures count { IfOk result (λ count. count ≡ taken_count self.old.stage (length self.old.input) (length bytes.now)) }
+        ensures taken { IfOk result (λ count. self.new ≡ taken_at self.old.stage self.old bytes.now count) }
+        ensures err { OnErr result (self.new ≡ self.old) }
     {
         if self.stage == Stage::Closing {
             self.throw(bytes.len());
@@ -217,7 +231,7 @@ impl Connection {
 
     /// So many bytes were thrown away. A client that sends on and on is let go.
     fn throw(&mut self, count: usize)
-        ensures { self.new ≡ self.old }
+        ensures { self.new ≡ throws count self.old }
     {
         self.thrown = self.thrown.saturating_add(count);
         if self.thrown > MOST_THROWN {
@@ -227,7 +241,7 @@ impl Connection {
 
     /// The client sends no more. What it asked is answered all the same.
     pub fn end_input(&mut self)
-        ensures { self.new ≡ self.old }
+        ensures { self.new ≡ record self.old { has_ended = true } }
     {
         self.has_ended = true;
     }
@@ -249,8 +263,7 @@ impl Connection {
     /// So many bytes of it were sent.
     pub fn sent(&mut self, count: usize)
         requires { count ≤ length self.old.output }
-        ensures output { self.new.output ≡ drop count self.old.output }
-        ensures input { self.new.input ≡ self.old.input }
+        ensures { self.new ≡ without_sent count self.old }
     {
         self.output.advance(count);
         if self.stage == Stage::Closing && self.output.is_empty() {
@@ -260,11 +273,35 @@ impl Connection {
 
     /// Goes on with what came. Requests that are refused it answers itself. Where memory is refused the connection is over.
     pub fn next(&mut self, reader: &Reader<'_>) -> Result<Step, AllocError>
-        ensures { IfOk result (λ step. IsCall step → length self.new.output ≤ MOST_OUTPUT) }
+        ensures { Goes self.old.stage self.old result self.new }
+    {
+        match self.stage {
+            Stage::Reading => self.read_on(reader),
+            Stage::Following => {
+                self.end_following();
+                Ok(Step::Wait)
+            }
+            Stage::Asked | Stage::Closing => Ok(Step::Wait),
+            Stage::Over => Ok(Step::Over),
+        }
+    }
+
+    /// One who follows, and sends no more, is let go.
+    fn end_following(&mut self)
+        ensures { self.new ≡ (if self.old.has_ended then closed self.old else self.old) }
+    {
+        if self.has_ended {
+            self.close();
+        }
+    }
+
+    /// Reads requests, until one came whole or no more can be read.
+    fn read_on(&mut self, reader: &Reader<'_>) -> Result<Step, AllocError>
+        ensures { MatchResult result (Comes self.old self.new) (λ _. GoesOn self.old self.new × (self.new.stage ≡ stage.Over)) }
     {
         let mut spans = [EMPTY_HEADER_SPAN; MOST_FIELDS];
         for _event in 0..MOST_EVENTS {
-            match self.step(reader, &mut spans) {
+            match self.read(reader, &mut spans) {
                 Ok(Some(step)) => return Ok(step),
                 Ok(None) => {}
                 Err(error) => {
@@ -272,27 +309,25 @@ impl Connection {
                     return Err(error);
                 }
             }
+            if self.stage != Stage::Reading {
+                break;
+            }
         }
-        Ok(Step::Wait)
+        match self.stage {
+            Stage::Over => Ok(Step::Over),
+            _ => Ok(Step::Wait),
+        }
     }
 
     /// One event of what came; none where there may be more.
-    fn step(
+    fn read(
         &mut self,
         reader: &Reader<'_>,
         spans: &mut [HeaderSpan],
     ) -> Result<Option<Step>, AllocError>
-        ensures { IfOk result (λ step. IfSome step (λ step. IsCall step → length self.new.output ≤ MOST_OUTPUT)) }
+        ensures ok { IfOk result (MayCome self.old self.new) }
+        ensures err { OnErr result (GoesOn self.old self.new) }
     {
-        match self.stage {
-            Stage::Reading => {}
-            Stage::Following if self.has_ended => {
-                self.close();
-                return Ok(Some(Step::Wait));
-            }
-            Stage::Asked | Stage::Following | Stage::Closing => return Ok(Some(Step::Wait)),
-            Stage::Over => return Ok(Some(Step::Over)),
-        }
         if self.has_much_to_send() {
             return Ok(Some(Step::Wait));
         }
@@ -306,7 +341,7 @@ impl Connection {
         match read.event {
             Event::Head(head) => {
                 self.begin(reader, &head, spans);
-                self.input.advance(read.consumed);
+                self.drop_front(read.consumed);
                 self.go_on()?;
                 Ok(None)
             }
@@ -316,11 +351,11 @@ impl Connection {
                 Ok(None)
             }
             Event::End(_) => {
-                self.input.advance(read.consumed);
+                self.drop_front(read.consumed);
                 self.finish()
             }
             Event::NeedMore => {
-                self.input.advance(read.consumed);
+                self.drop_front(read.consumed);
                 self.need_more();
                 Ok(Some(Step::Wait))
             }
@@ -332,7 +367,10 @@ impl Connection {
     }
 
     /// Drops what was read, where it is still there: a refusal drops all.
-    fn drop_front(&mut self, count: usize) {
+    fn drop_front(&mut self, count: usize)
+        ensures goes_on { GoesOn self.old self.new }
+        ensures output { self.new.output ≡ self.old.output }
+    {
         let count = count.min(self.input.len());
         self.input.advance(count);
     }
@@ -340,7 +378,7 @@ impl Connection {
     /// Takes the request whose head is in front of the input.
     fn begin(&mut self, reader: &Reader<'_>, head: &RequestSpans, spans: &[HeaderSpan])
         requires { IsRequestWithin self.old.input spans.now head.now }
-        ensures { self.new ≡ self.old }
+        ensures { self.new ≡ record self.old { has_begun = true } }
     {
         let input = self.input.as_slice();
         let call = if self.server.has_codings() {
@@ -358,7 +396,9 @@ impl Connection {
     }
 
     /// Goes on behind a head: a body that is not to be read refuses the request, and one that the client holds back is asked for.
-    fn go_on(&mut self) -> Result<(), AllocError> {
+    fn go_on(&mut self) -> Result<(), AllocError>
+        ensures { GoesOn self.old self.new }
+    {
         let Some(begun) = &self.begun else {
             return Ok(());
         };
@@ -374,7 +414,10 @@ impl Connection {
     }
 
     /// Asks for the body where the client waits to be asked.
-    fn ask_on(&mut self) -> Result<(), AllocError> {
+    fn ask_on(&mut self) -> Result<(), AllocError>
+        ensures output { Extends self.old.output self.new.output }
+        ensures kept { self.new ≡ record self.old { output = self.new.output } }
+    {
         if !self.server.expects_continue() {
             return Ok(());
         }
@@ -390,6 +433,7 @@ impl Connection {
     /// Keeps a piece of the body, which lies so in the input.
     fn keep(&mut self, piece: Span) -> Result<(), AllocError>
         requires { (piece.start ≤ piece.end) × (piece.end ≤ length self.old.input) }
+        ensures { GoesOn self.old self.new }
     {
         let bytes = piece.of(self.input.as_slice());
         let room = match &self.begun {
@@ -404,7 +448,8 @@ impl Connection {
 
     /// The request came whole.
     fn finish(&mut self) -> Result<Option<Step>, AllocError>
-        ensures { IfOk result (λ step. IfSome step (λ step. IsCall step → self.new.output ≡ self.old.output)) }
+        ensures ok { length self.old.output ≤ MOST_OUTPUT → IfOk result (MayCome self.old self.new) }
+        ensures err { OnErr result (GoesOn self.old self.new) }
     {
         let Some(begun) = self.begun.take() else {
             return Ok(None);
@@ -412,8 +457,7 @@ impl Connection {
         let call = match begun.call {
             Ok(call) => call,
             Err(refusal) => {
-                let answer = Answer::refusal(self.alloc, refusal)?;
-                self.write(&answer, false)?;
+                self.pass_over(refusal)?;
                 return Ok(None);
             }
         };
@@ -430,15 +474,27 @@ impl Connection {
         }
     }
 
+    /// Refuses a request that has come whole. The next one is read.
+    fn pass_over(&mut self, refusal: Refusal) -> Result<(), AllocError>
+        ensures { GoesOn self.old self.new }
+    {
+        let answer = Answer::refusal(self.alloc, refusal)?;
+        self.write(&answer, false)
+    }
+
     /// No whole event is there. Where the client sends no more, there will be none.
-    fn need_more(&mut self) {
+    fn need_more(&mut self)
+        ensures { self.new ≡ (if self.old.has_ended then closed self.old else self.old) }
+    {
         if self.has_ended {
             self.close();
         }
     }
 
     /// Reads no more. What is pending is sent.
-    fn close(&mut self) {
+    fn close(&mut self)
+        ensures { self.new ≡ closed self.old }
+    {
         self.input.clear();
         self.begun = None;
         self.stage = if self.output.is_empty() {
@@ -450,7 +506,10 @@ impl Connection {
 
     /// Refuses the request that has begun, and reads no more: the rest of it may still come, and is thrown away. Where no head has come there is nothing
     /// to answer, and what is pending is sent.
-    pub fn refuse(&mut self, refusal: Refusal) -> Result<(), AllocError> {
+    pub fn refuse(&mut self, refusal: Refusal) -> Result<(), AllocError>
+        ensures refused { Refuses self.old result self.new }
+        ensures goes_on { GoesOn self.old self.new }
+    {
         let answer = Answer::refusal(self.alloc, refusal)?;
         self.write(&answer, true)?;
         self.close();
@@ -458,7 +517,9 @@ impl Connection {
     }
 
     /// Answers the request that waits for it. Where none does, or it cannot be spelt, the connection is over.
-    pub fn answer(&mut self, answer: &Answer) -> Result<(), AllocError> {
+    pub fn answer(&mut self, answer: &Answer) -> Result<(), AllocError>
+        ensures { Answers self.old.stage self.old result self.new }
+    {
         if self.stage != Stage::Asked {
             self.stage = Stage::Over;
             return Ok(());
@@ -472,7 +533,9 @@ impl Connection {
     }
 
     /// Answers the request that waits for it with what happens from now on (server-sent events, of the HTML standard): [`Connection::tell`] goes on.
-    pub fn follow(&mut self) -> Result<(), AllocError> {
+    pub fn follow(&mut self) -> Result<(), AllocError>
+        ensures { Begins self.old.stage self.old result self.new }
+    {
         if self.stage != Stage::Asked {
             self.stage = Stage::Over;
             return Ok(());
@@ -495,7 +558,9 @@ impl Connection {
     }
 
     /// Tells a client that follows what happened, in the text of such events. One that lags too far behind is let go.
-    pub fn tell(&mut self, text: &[u8]) -> Result<(), AllocError> {
+    pub fn tell(&mut self, text: &[u8]) -> Result<(), AllocError>
+        ensures { Tells self.old.stage self.old result self.new }
+    {
         if self.stage != Stage::Following {
             return Ok(());
         }
@@ -509,7 +574,7 @@ impl Connection {
 
     /// What could not be written whole ends the connection.
     fn settle(&mut self, written: Result<(), WriteError>) -> Result<(), AllocError>
-        ensures { self.new ≡ self.old }
+        ensures { Settles self.old written result self.new }
     {
         match written {
             Ok(()) => Ok(()),
@@ -525,7 +590,12 @@ impl Connection {
     }
 
     /// Appends an answer to what is to be sent.
-    fn write(&mut self, answer: &Answer, closes: bool) -> Result<(), AllocError> {
+    fn write(&mut self, answer: &Answer, closes: bool) -> Result<(), AllocError>
+        ensures output { Extends self.old.output self.new.output }
+        ensures ok { OnOk result ((self.new ≡ counted self.old self.new.output) ⊎ (self.new ≡ over (counted self.old self.new.output))) }
+        ensures err { OnErr result (self.new ≡ over (counted self.old self.new.output)) }
+        ensures counts { self.old.answered ≤ self.new.answered }
+    {
         let written = write_answer(
             self.alloc,
             &mut self.server,

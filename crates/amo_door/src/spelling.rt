@@ -1,4 +1,6 @@
 //! Spells answers for a connection.
+ghost use Rattle.amo_door.specs.Connection.{Extends};
+
 use crate::{Answer, EventPlace, Extra, Kind};
 use bytes::BytesMut;
 use http1::{BodySize, Header, Server, WriteError};
@@ -13,7 +15,9 @@ pub(crate) fn write_answer(
     answer: &Answer,
     is_head: bool,
     closes: bool,
-) -> Result<(), WriteError> {
+) -> Result<(), WriteError>
+    ensures { Extends output.old.items output.new.items }
+{
     let mut digits = Digits::new();
     let mut fields = Vec::new(alloc);
     push(&mut fields, b"cache-control", b"no-store")?;
