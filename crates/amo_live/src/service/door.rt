@@ -1,5 +1,5 @@
 //! What callers are told by other means than what is shown: puts, gets, and how streams are.
-ghost use Rattle.std.specs.Prelude.{◌≡◌, IfOk, IfSome, OnOk};
+ghost use Rattle.std.specs.Prelude.{◌≡◌, length, IfOk, IfSome, OnOk};
 ghost use Rattle.amo_live.specs.Callers.{Gets, PutsAt};
 ghost use Rattle.amo_live.specs.Host.{IsNoted};
 ghost use Rattle.amo_live.specs.Service.{PutsNone, streams_of, words_of};
@@ -56,6 +56,13 @@ impl<L: Link, S: Sink, W: Lineage> Service<L, S, W> {
     /// The handshakes that ended since what is shown was cleared, in their order.
     pub fn settled(&self) -> &[Settled] {
         self.settled.as_slice()
+    }
+
+    /// How many packets are to leave.
+    pub fn leaving(&self) -> usize
+        ensures { result ≡ length self.now.host.outbox.leaving }
+    {
+        self.host.outbox.leaving()
     }
 
     /// The end of the handshake that is open on a packet's stream, if the delivery of the packet is the next event, and ends it.
