@@ -54,6 +54,8 @@ pub struct Door {
     pub(crate) awake: Vec<usize>,
     /// When the others are to be looked at, whatever comes, in microseconds.
     deadline: u64,
+    /// Whether something had come before it waited, or may have.
+    came_at_once: bool,
     /// Whether some client cannot wait until something comes.
     is_pressed: bool,
     /// Whether some client may be following.
@@ -91,6 +93,7 @@ impl Door {
             clients: Vec::new(alloc),
             awake: Vec::new(alloc),
             deadline: u64::MAX,
+            came_at_once: false,
             is_pressed: false,
             is_followed: false,
             followed: 0,
@@ -126,11 +129,21 @@ impl Door {
         if self.is_pressed {
             until = now;
         }
-        let limit = milliseconds(until, now);
-        if limit == 0 || !self.comes_soon(rt) {
-            net::poll(self.waited.as_mut_slice(), limit);
-        }
+        self.wait_for(rt, milliseconds(until, now));
         Ok(())
+    }
+
+    /// Waits until something has come, or for so many milliseconds. Of many it is not asked whether something had come before, and where it does not wait
+    /// it looks again soon.
+    fn wait_for<C: Clock>(&mut self, rt: &C, limit: i32) {
+        self.came_at_once = self.waited.len() > FEW;
+        if limit != 0 && !self.came_at_once {
+            self.came_at_once = net::poll(self.waited.as_mut_slice(), 0) != 0;
+            if self.came_at_once || self.comes_soon(rt) {
+                return;
+            }
+        }
+        net::poll(self.waited.as_mut_slice(), limit);
     }
 
     /// Tells anew what the system is to wait for.
@@ -152,19 +165,18 @@ impl Door {
         }
     }
 
-    /// How many datagrams are to be taken: none where none has come.
+    /// How many datagrams are to be taken: none where none has come. Behind a wait it is one, since looking for another in vain takes as long as taking one.
     pub(crate) fn datagrams(&self) -> u32 {
         match self.waited.get(1) {
-            Some(socket) if socket.revents != 0 => MOST_DATAGRAMS,
+            Some(socket) if socket.revents != 0 => {
+                if self.came_at_once { MOST_DATAGRAMS } else { 1 }
+            }
             _ => 0,
         }
     }
 
     /// Whether something comes while the host looks.
     fn comes_soon<C: Clock>(&mut self, rt: &C) -> bool {
-        if self.waited.len() > FEW {
-            return false;
-        }
         let Ok(since) = Instant::now(rt) else {
             return false;
         };
