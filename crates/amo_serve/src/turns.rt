@@ -121,12 +121,53 @@ fn turn<C: Files<File = File>, L: Link, S: Durable, W: Lineage>(
     responder.serve_waiters(door, now)?;
     responder.ask_clients(door, now)?;
     responder.write_down(sync)?;
+    let_go(rt, responder, door, archive, sync, now)
+}
+
+/// Answers clients and lets packets leave, those first for which the other host waits.
+fn let_go<C: Files<File = File>, L: Link, S: Durable, W: Lineage>(
+    rt: &C,
+    responder: &mut Responder<L, S, W>,
+    door: &mut Door,
+    archive: &mut Archive,
+    sync: bool,
+    now: u64,
+) -> Result<(), DoorFault>
+    requires noted { IsNoted S.written responder.old.service.host }
+    requires flushed { S.flushed responder.old.service.host.journal.sink ≡ S.written responder.old.service.host.journal.sink }
+    requires on_disk { sync ≡ true → S.on_disk responder.old.service.host.journal.sink ≡ S.written responder.old.service.host.journal.sink }
+    ensures noted { OnOk result (IsNoted S.written responder.new.service.host) }
+    ensures pass { responder.new.service.host.pass ≡ responder.old.service.host.pass }
+    ensures numbers { responder.new.numbers ≡ responder.old.numbers }
+    ensures words { words_of responder.new.service ≡ words_of responder.old.service }
+{
+    if responder.is_waited_for() {
+        responder.leave();
+        return answer_all(rt, responder, door, archive, sync, now);
+    }
+    answer_all(rt, responder, door, archive, sync, now)?;
+    responder.leave();
+    Ok(())
+}
+
+/// Answers the clients that are awake, as far as they take it, and reads the journal for one who asks of it.
+fn answer_all<C: Files<File = File>, L: Link, S: Durable, W: Lineage>(
+    rt: &C,
+    responder: &Responder<L, S, W>,
+    door: &mut Door,
+    archive: &mut Archive,
+    sync: bool,
+    now: u64,
+) -> Result<(), DoorFault>
+    requires noted { IsNoted S.written responder.now.service.host }
+    requires flushed { S.flushed responder.now.service.host.journal.sink ≡ S.written responder.now.service.host.journal.sink }
+    requires on_disk { sync ≡ true → S.on_disk responder.now.service.host.journal.sink ≡ S.written responder.now.service.host.journal.sink }
+{
     if door.has_seekers() {
         door.consult(rt, archive, responder.service.host.next_line())?;
     }
     door.wake_followers(responder.news.next())?;
     hand_out(responder, door, sync, now);
-    responder.leave();
     door.flush(now)?;
     Ok(())
 }
@@ -246,11 +287,17 @@ impl<L: Link, S: Durable, W: Lineage> Responder<L, S, W> {
         self.service.host.write_down(sync)
     }
 
+    /// Whether the other host may wait for a packet that is to leave. It does not for the last one of a handshake that has ended, one for each.
+    fn is_waited_for(&self) -> bool {
+        self.service.settled().len() < self.service.leaving()
+    }
+
     /// What is to leave leaves: packets to the link. What was to be shown is not: callers are answered.
     fn leave(&mut self)
         requires noted { IsNoted S.written self.old.service.host }
         requires flushed { S.flushed self.old.service.host.journal.sink ≡ S.written self.old.service.host.journal.sink }
         ensures noted { IsNoted S.written self.new.service.host }
+        ensures journal { self.new.service.host.journal ≡ self.old.service.host.journal }
         ensures pass { self.new.service.host.pass ≡ self.old.service.host.pass }
         ensures numbers { self.new.numbers ≡ self.old.numbers }
         ensures words { words_of self.new.service ≡ words_of self.old.service }

@@ -1,4 +1,5 @@
 use Rattle.std.proofs.Common.{◌≡◌, refl, rules}
+use Rattle.std.proofs.lemmas.Result.{on_ok_weaker}
 use Rattle.amo_live.specs.Service.{words_of}
 use Rattle.amo_live.proofs.Fresh.{bears_as, bears_on}
 use Rattle.amo_serve.proofs.Served.{serves_as, serves_on}
@@ -6,18 +7,18 @@ use Rattle.amo_serve.proofs.turns.turn.Goals as goal
 
 pub returns-clause-serves : goal.returns-clause-serves
 returns-clause-serves g c =
-    let first = c.args.responder.now in let heard = c.hear.new.self in let waited = c.serve_waiters.new.self in let asked = c.ask_clients.new.self in let left = c.leave.new.self in
+    let first = c.args.responder.now in let heard = c.hear.new.self in let waited = c.serve_waiters.new.self in let asked = c.ask_clients.new.self in let left = c.let_go.new.responder in
     let numbers : left.numbers ≡ asked.numbers = search rules in
     let pass : left.service.host.pass ≡ asked.service.host.pass = search rules in
     let to_waited = serves_on first.numbers heard.numbers waited.numbers first.service.host.pass heard.service.host.pass waited.service.host.pass c.in_ok-hear.ensures.serves c.in_ok-serve_waiters.ensures.serves in
     let to_asked = serves_on first.numbers waited.numbers asked.numbers first.service.host.pass waited.service.host.pass asked.service.host.pass to_waited c.in_ok-ask_clients.ensures.serves in
-    serves_as first.numbers asked.numbers first.numbers left.numbers first.service.host.pass asked.service.host.pass first.service.host.pass left.service.host.pass refl numbers refl pass to_asked
+    on_ok_weaker c.let_go.result (λ noted. serves_as first.numbers asked.numbers first.numbers left.numbers first.service.host.pass asked.service.host.pass first.service.host.pass left.service.host.pass refl numbers refl pass to_asked) c.let_go.ensures.noted
 
 pub returns-clause-words : goal.returns-clause-words
 returns-clause-words g c =
-    let first = c.args.responder.now.service in let heard = c.hear.new.self.service in let waited = c.serve_waiters.new.self.service in let asked = c.ask_clients.new.self.service in let left = c.leave.new.self.service in
+    let first = c.args.responder.now.service in let heard = c.hear.new.self.service in let waited = c.serve_waiters.new.self.service in let asked = c.ask_clients.new.self.service in let left = c.let_go.new.responder.service in
     let words : words_of left ≡ words_of asked = search rules in
     let pass : left.host.pass ≡ asked.host.pass = search rules in
     let to_waited = bears_on (words_of first) (words_of heard) (words_of waited) first.host.pass heard.host.pass waited.host.pass c.in_ok-hear.ensures.words c.in_ok-serve_waiters.ensures.words in
     let to_asked = bears_on (words_of first) (words_of waited) (words_of asked) first.host.pass waited.host.pass asked.host.pass to_waited c.in_ok-ask_clients.ensures.words in
-    bears_as (words_of first) (words_of asked) (words_of first) (words_of left) first.host.pass asked.host.pass first.host.pass left.host.pass refl words refl pass to_asked
+    on_ok_weaker c.let_go.result (λ noted. bears_as (words_of first) (words_of asked) (words_of first) (words_of left) first.host.pass asked.host.pass first.host.pass left.host.pass refl words refl pass to_asked) c.let_go.ensures.noted
