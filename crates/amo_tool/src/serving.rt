@@ -10,7 +10,7 @@ use crate::live::{
 };
 use crate::stopping::{hang_bell, take_down_bell};
 use amo_arguments::VERSION;
-use amo_disk::{Cause, Opened, Start, open};
+use amo_disk::{Cause, Disk, Opened, Start, open};
 use amo_door::{Guard, Served, Word};
 use amo_live::{Durable, Ended, HostLives, LiveFault, LivesOpenFault, Plan, Socket};
 use amo_lives::Lives;
@@ -234,17 +234,19 @@ fn serve_noted<
 {
     let alloc = rt.alloc();
     let path = host.journal.as_str();
-    let side = plan.setup.side;
     let file = path_of_lives(alloc, path)?;
     let why = Cell::new(None);
-    let mut words = open_lives::<R, N>(rt, file.as_str(), &plan, start.lines, &why, lives)?;
-    begin_life(alloc, &mut words, file.as_str(), start.lines, &why)?;
-    let (life, archive) = life_told(rt, side, path, file.as_str())?;
-    let identity = identity_of(rt, host, side)?;
+    let begun = begin::<R, N>(rt, host, &plan, file.as_str(), start.lines, &why, lives)?;
     tell_of_start(rt, host.listen.as_str(), port, path, start.lines);
     let _ = eprintln!(rt; "amo: its door is http://{address}");
     let bell = hang_bell(rt, path)?;
     let number = socket.number();
+    let Begun {
+        words,
+        life,
+        archive,
+        identity,
+    } = begun;
     let ran = run_door(
         rt, alloc, plan, door, archive, bell, identity, life, socket, number, disk, start, words,
     );
@@ -255,6 +257,44 @@ fn serve_noted<
         }
         ran => Ok(ran),
     }
+}
+
+/// What a host with a door has once its life began.
+#[derive(Drop)]
+struct Begun<S> {
+    /// Where its next words come from.
+    words: HostLives<S>,
+    /// The word of its life.
+    life: Word,
+    /// Its journal, as it tells of it.
+    archive: Archive,
+    /// What is told of it.
+    identity: Identity,
+}
+
+/// Opens the file of lives at this path, beside a journal of so many lines, and begins a life.
+fn begin<'a, R: AllocGlobal + Clock + Eprint + Files<File = File> + RandomSource, N: Ledger>(
+    rt: &R,
+    host: &HostSettings,
+    plan: &Plan,
+    file: &str,
+    lines: u64,
+    why: &'a Cell<Option<Cause>>,
+    blank: Blank,
+) -> Result<Begun<Disk<'a, File, N>>, Failure>
+    requires { (blank.name ≡ N.name) × (blank.parts ≡ N.parts) × (0 < N.parts) }
+{
+    let side = plan.setup.side;
+    let mut words = open_lives::<R, N>(rt, file, plan, lines, why, blank)?;
+    begin_life(rt.alloc(), &mut words, file, lines, why)?;
+    let (life, archive) = life_told(rt, side, host.journal.as_str(), file)?;
+    let identity = identity_of(rt, host, side)?;
+    Ok(Begun {
+        words,
+        life,
+        archive,
+        identity,
+    })
 }
 
 /// The word of the life that began last, and the journal of this path, as a host of this side with the lives of this file tells of it.
