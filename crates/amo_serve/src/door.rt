@@ -1,9 +1,13 @@
 //! The door: a listener, and the clients that came through it.
+ghost use Rattle.amo_live.specs.Service.{Listened};
+
 use crate::DoorFault;
 use crate::client::Client;
 use crate::waiting::Waiter;
 use amo_door::{Guard, Routes, Served};
-use amo_live::MOST_DATAGRAMS;
+use amo_live::{Lineage, MOST_DATAGRAMS, Service};
+use amo_net::Link;
+use amo_text::Sink;
 use libc::net;
 use libc::types::pollfd;
 use std::alloc::{AllocError, AllocFailed, Global};
@@ -27,9 +31,11 @@ const PIECE: usize = 16 * 1024;
 /// The longest that it waits without looking up, in microseconds.
 const LONGEST: u64 = 60_000_000;
 
-/// How often a host looks whether something has come before it lets others run, how often it does that before it sleeps, and for how many microseconds
-/// at most: who answers at once does so sooner than a sleeper wakes. Where it waits for many it does not look.
-const LOOKS: u32 = 8;
+/// How often a host listens before it looks whether anything else has come; how often it does that before it lets others run, how often that before it sleeps,
+/// and for how many microseconds at most: who answers at once does so sooner than a sleeper wakes. Where it waits for many it does not look.
+const LISTENS: u32 = 2;
+
+const LOOKS: u32 = 4;
 
 const ROUNDS: u32 = 24;
 
@@ -110,15 +116,19 @@ impl Door {
         })
     }
 
-    /// Waits until something has come, or until a time. The system waits for the host's socket by this number, and for its bell by that.
-    pub(crate) fn wait<C: Clock>(
+    /// Waits until something has come, or until a time. The system waits for the host's socket by this number, and for its bell by that. For a while the
+    /// service listens itself: it hears a datagram sooner than the system tells that there is one.
+    pub(crate) fn wait<C: Clock, L: Link, S: Sink, W: Lineage>(
         &mut self,
         rt: &C,
+        service: &mut Service<L, S, W>,
         socket: i32,
         bell: i32,
         due: Option<u64>,
         now: u64,
-    ) -> Result<(), AllocError> {
+    ) -> Result<(), AllocError>
+        ensures { Listened service.old service.new }
+    {
         if self.waited.is_empty() {
             self.watch(socket, bell)?;
         }
@@ -129,17 +139,24 @@ impl Door {
         if self.is_pressed {
             until = now;
         }
-        self.wait_for(rt, milliseconds(until, now));
+        self.wait_for(rt, service, milliseconds(until, now));
         Ok(())
     }
 
     /// Waits until something has come, or for so many milliseconds. Of many it is not asked whether something had come before, and where it does not wait
     /// it looks again soon.
-    fn wait_for<C: Clock>(&mut self, rt: &C, limit: i32) {
+    fn wait_for<C: Clock, L: Link, S: Sink, W: Lineage>(
+        &mut self,
+        rt: &C,
+        service: &mut Service<L, S, W>,
+        limit: i32,
+    )
+        ensures { Listened service.old service.new }
+    {
         self.came_at_once = self.waited.len() > FEW;
         if limit != 0 && !self.came_at_once {
             self.came_at_once = net::poll(self.waited.as_mut_slice(), 0) != 0;
-            if self.came_at_once || self.comes_soon(rt) {
+            if self.came_at_once || self.comes_soon(rt, service) {
                 return;
             }
         }
@@ -166,23 +183,33 @@ impl Door {
     }
 
     /// How many datagrams are to be taken: none where none has come. Behind a wait it is one, since looking for another in vain takes as long as taking one.
-    pub(crate) fn datagrams(&self) -> u32 {
-        match self.waited.get(1) {
-            Some(socket) if socket.revents != 0 => {
-                if self.came_at_once { MOST_DATAGRAMS } else { 1 }
-            }
-            _ => 0,
+    /// One that was heard meanwhile has come, too.
+    pub(crate) fn datagrams(&self, was_heard: bool) -> u32 {
+        let has_come = match self.waited.get(1) {
+            Some(socket) => socket.revents != 0,
+            None => false,
+        };
+        match (was_heard || has_come, self.came_at_once) {
+            (false, _) => 0,
+            (true, false) => 1,
+            (true, true) => MOST_DATAGRAMS,
         }
     }
 
     /// Whether something comes while the host looks.
-    fn comes_soon<C: Clock>(&mut self, rt: &C) -> bool {
+    fn comes_soon<C: Clock, L: Link, S: Sink, W: Lineage>(
+        &mut self,
+        rt: &C,
+        service: &mut Service<L, S, W>,
+    ) -> bool
+        ensures { Listened service.old service.new }
+    {
         let Ok(since) = Instant::now(rt) else {
             return false;
         };
         let limit = Duration::from_micros(LOOKING);
-        for _round in 0..ROUNDS {
-            if self.has_come() {
+        'rounds: for _round in 0..ROUNDS {
+            if self.has_come(service) {
                 return true;
             }
             match since.elapsed(rt) {
@@ -194,9 +221,11 @@ impl Door {
     }
 
     /// Whether something has come at one of some looks.
-    fn has_come(&mut self) -> bool {
-        for _look in 0..LOOKS {
-            if net::poll(self.waited.as_mut_slice(), 0) != 0 {
+    fn has_come<L: Link, S: Sink, W: Lineage>(&mut self, service: &mut Service<L, S, W>) -> bool
+        ensures { Listened service.old service.new }
+    {
+        'looks: for _look in 0..LOOKS {
+            if service.listen(LISTENS) || net::poll(self.waited.as_mut_slice(), 0) != 0 {
                 return true;
             }
         }

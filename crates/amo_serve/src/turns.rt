@@ -54,7 +54,7 @@ pub fn serve_door<C: Clock + Eprint + Files<File = File>, L: Link, S: Durable, W
             return Ok(ended);
         }
         let due = farewell.until(responder.service.next_due());
-        door.wait(rt, socket, bell.number(), due, now)?;
+        door.wait(rt, &mut responder.service, socket, bell.number(), due, now)?;
         let now = microseconds(rt, &start)?;
         responder.ends = hear_bell(rt, door, bell, responder.ends)?;
         turn_or_tell(rt, responder, door, archive, limits.sync, now)?;
@@ -116,7 +116,8 @@ fn turn<C: Files<File = File>, L: Link, S: Durable, W: Lineage>(
     ensures serves { OnOk result (Serves responder.old.numbers responder.new.numbers responder.old.service.host.pass responder.new.service.host.pass) }
     ensures words { OnOk result (BearsNew W.is_drawn (words_of responder.old.service) (words_of responder.new.service) responder.old.service.host.pass responder.new.service.host.pass) }
 {
-    responder.hear(door.datagrams(), now)?;
+    let datagrams = door.datagrams(responder.service.has_come());
+    responder.hear(datagrams, now)?;
     door.hear(now)?;
     responder.serve_waiters(door, now)?;
     responder.ask_clients(door, now)?;

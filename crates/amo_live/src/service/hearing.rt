@@ -14,8 +14,8 @@ use amo_text::Sink;
 const INTERVALS_AWAY: u64 = 64;
 
 impl<L: Link, S: Sink, W: Lineage> Service<L, S, W> {
-    /// Takes so many of the datagrams that have come, and no more than `MOST_DATAGRAMS`; those in front for which nothing leaves and nothing is shown do
-    /// not count. So many bytes of messages may be shown in this turn, those that waited for room first. A host that comes to its end accepts no more
+    /// Takes so many of the datagrams that have come, and no more than `MOST_DATAGRAMS`; those in front for which nothing leaves, nothing is shown and no message
+    /// waits do not count. So many bytes of messages may be shown in this turn, those that waited for room first. A host that comes to its end accepts no more
     /// messages.
     #[tactic(auto, using(crate::proofs::Fresh::bears_none))]
     pub fn hear(
@@ -64,8 +64,8 @@ impl<L: Link, S: Sink, W: Lineage> Service<L, S, W> {
         Ok(())
     }
 
-    /// Takes so many of the datagrams that have come, one after another in this buffer. Up to the first for which a packet is to leave or something is
-    /// to be shown none counts: nobody waits for these, and their lines are written with the next one's.
+    /// Takes so many of the datagrams that have come, one after another in this buffer. Up to the first for which a packet is to leave, something is to be
+    /// shown or a message waits none counts: nobody waits for these, and their lines are written with the next one's.
     #[tactic(auto, using(crate::proofs::Fresh::bears_none))]
     fn take_by(
         &mut self,
@@ -110,7 +110,7 @@ impl<L: Link, S: Sink, W: Lineage> Service<L, S, W> {
     }
 
     /// Looks so many times whether a datagram has come. One that has waits to be taken. Before it took one it has no room for any, and does not look.
-    pub(crate) fn listen(&mut self, looks: u32) -> bool
+    pub fn listen(&mut self, looks: u32) -> bool
         ensures { Listened self.old self.new }
     {
         if self.come.is_some() {
@@ -125,7 +125,7 @@ impl<L: Link, S: Sink, W: Lineage> Service<L, S, W> {
     }
 
     /// Whether a datagram waits to be taken that it heard while it listened.
-    pub(crate) fn has_come(&self) -> bool {
+    pub fn has_come(&self) -> bool {
         self.come.is_some()
     }
 
@@ -141,9 +141,9 @@ impl<L: Link, S: Sink, W: Lineage> Service<L, S, W> {
         None
     }
 
-    /// Whether a packet is to leave, or something is to be shown.
+    /// Whether a packet is to leave, something is to be shown, or a message waits for somebody who takes it.
     fn has_news(&self) -> bool {
-        self.host.outbox.leaving() > 0 || !self.shown.is_empty()
+        self.host.outbox.leaving() > 0 || !self.shown.is_empty() || self.unread
     }
 
     /// Where the peer was heard, and was away before, what waits for it is sent again soon.

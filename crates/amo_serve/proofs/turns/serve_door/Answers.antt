@@ -1,7 +1,8 @@
-use Rattle.std.proofs.Common.{refl, rules}
+use Rattle.std.proofs.Common.{◌≡◌, ap, refl, rules, sym}
+use Rattle.amo_live.specs.Host.{HostState}
 use Rattle.amo_live.specs.Service.{words_of}
-use Rattle.amo_live.proofs.Fresh.{bears_none, bears_on}
-use Rattle.amo_serve.proofs.Served.{serves_none, serves_on}
+use Rattle.amo_live.proofs.Fresh.{bears_as, bears_none, bears_on}
+use Rattle.amo_serve.proofs.Served.{serves_as, serves_none, serves_on}
 use Rattle.amo_serve.proofs.turns.serve_door.Goals as goal
 
 pub turns-init : goal.turns-init
@@ -16,8 +17,12 @@ turns-init g c =
 pub turns-preserved : goal.turns-preserved
 turns-preserved g c =
     let first = c.args.responder.now in let before = c.turns.responder in let after = c.turn_or_tell.new.responder in
+    let waited = c.wait.new.service in
+    let pass : waited.host.pass ≡ before.service.host.pass = ap (λ (t : HostState g.row.L.Denot g.row.S.Denot). t.pass) c.wait.ensures.0 in
     record {
       noted = search rules;
-      serves = serves_on first.numbers before.numbers after.numbers first.service.host.pass before.service.host.pass after.service.host.pass c.turns.invariant.serves c.in_ok-turn_or_tell.ensures.serves;
-      words = bears_on (words_of first.service) (words_of before.service) (words_of after.service) first.service.host.pass before.service.host.pass after.service.host.pass c.turns.invariant.words c.in_ok-turn_or_tell.ensures.words;
+      serves = serves_on first.numbers before.numbers after.numbers first.service.host.pass before.service.host.pass after.service.host.pass c.turns.invariant.serves
+          (serves_as before.numbers after.numbers before.numbers after.numbers waited.host.pass after.service.host.pass before.service.host.pass after.service.host.pass refl refl (sym pass) refl c.in_ok-turn_or_tell.ensures.serves);
+      words = bears_on (words_of first.service) (words_of before.service) (words_of after.service) first.service.host.pass before.service.host.pass after.service.host.pass c.turns.invariant.words
+          (bears_as (words_of waited) (words_of after.service) (words_of before.service) (words_of after.service) waited.host.pass after.service.host.pass before.service.host.pass after.service.host.pass (sym c.wait.ensures.4) refl (sym pass) refl c.in_ok-turn_or_tell.ensures.words);
     }
