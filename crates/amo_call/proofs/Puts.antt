@@ -17,7 +17,7 @@ use Rattle.amo_call.specs.declared.putting.PutTurn.{PutTurn}
 use Rattle.amo_call.specs.Answer.{TellsPut}
 use Rattle.amo_call.specs.Heard.{Heard, ToCall}
 use Rattle.amo_call.specs.Kept.{kept_text}
-use Rattle.amo_call.specs.Puts.{ComesTo, IsFound, Begins, GoesOn, HasPut, IsNextPut, IsPutting, IsToldFull, IsLater, IsLast, IsToldRefusal, OfCall, OfState, OfFate, NothingPut, Resumes, ToldPut}
+use Rattle.amo_call.specs.Puts.{ComesTo, IsFound, Begins, GoesOn, HasPut, IsNextPut, IsPutting, IsAnswered, IsToldFull, IsLater, IsFirst, IsLast, IsToldRefusal, OfCall, OfState, OfFate, NothingPut, Resumes, TellsDelay, ToldPut}
 
 -- the text of a call whose parts are known
 pub text_of_parts : (call : Kept) (claim : Claim) (p : Progress) → call.claim ≡ claim → call.progress ≡ p → kept_text call ≡ kept_text (record { claim = claim; progress = p })
@@ -34,7 +34,8 @@ goes_further heard order found before call p (GoesOn middle next q nothing new) 
 
 -- what is told of some calls is told of more
 full_of_more : (heard : Heard → Type 0) (order : Order) (few more : Kept → Type 0) → ((k : Kept) → few k → more k) → IsToldFull heard order few → IsToldFull heard order more
-full_of_more heard order few more f (IsLater call is putting response answered status) = IsLater call (f call is) putting response answered status
+full_of_more heard order few more f (IsLater call is putting response answered tells) = IsLater call (f call is) putting response answered tells
+full_of_more heard order few more f (IsFirst call is putting response answered status) = IsFirst call (f call is) putting response answered status
 full_of_more heard order few more f (IsLast response state answered told last) = IsLast response state answered told last
 
 refusal_of_more : (heard : Heard → Type 0) (order : Order) (few more : Kept → Type 0) (response : Response) → ((k : Kept) → few k → more k)
@@ -66,7 +67,16 @@ told_of_more heard order few more silent saved told.Doubtful f t = record {
   other = t.other;
 }
 told_of_more heard order few more silent saved told.Full f t = full_of_more heard order few more f t
-told_of_more heard order few more silent saved told.NoAnswer f t = t
+told_of_more heard order few more silent saved told.NoAnswer f (inl nothing) = inl nothing
+told_of_more heard order few more silent saved told.NoAnswer f (inr t) = inr (record {
+  call = t.call;
+  is_reached = f t.call t.is_reached;
+  putting = t.putting;
+  response = t.response;
+  answered = t.answered;
+  status = t.status;
+  untold = t.untold;
+})
 told_of_more heard order few more silent saved told.OtherCall f t = record { call = t.call; is_reached = f t.call t.is_reached; other = t.other; same = t.same }
 told_of_more heard order few more silent saved (told.Refused response) f t = refusal_of_more heard order few more response f t
 
@@ -172,3 +182,26 @@ is_finished_ok heard order fresh silent saved (Err fault) call place response pu
 -- what a value has, at what it is
 pub at_some : {A : Type 0} (r : Option A) (P : A → Type 0) (x : A) → r ≡ Some x → IfSome r P → P x
 at_some {A} r P x e some = subst (λ (o : Option A). IfSome o P) e some
+
+-- what is told of a call that is put off
+pub told_as_delayed : (heard : Heard → Type 0) (order : Order) (silent : Type 0) (saved : List ℕ) (turn : PutTurn) (response : Response) (told : PutTold) → IsPutting order turn.kept
+    → IsAnswered heard turn response → (response.status ≡ 408) ⊎ (response.status ≡ 503) → TellsDelay turn response told
+    → ToldPut heard order (ComesTo heard order (Some turn.kept)) silent saved told
+told_as_delayed heard order silent saved turn response told.Full putting answered status (inl first) =
+    IsFirst turn.kept (IsFound turn.kept refl) putting response (answered.first first) status
+told_as_delayed heard order silent saved turn response told.Full putting answered status (inr tells) =
+    IsLater turn.kept (IsFound turn.kept refl) putting response answered.call tells
+told_as_delayed heard order silent saved turn response told.NoAnswer putting answered status tells = inr (record {
+  call = turn.kept;
+  is_reached = IsFound turn.kept refl;
+  putting = putting;
+  response = response;
+  answered = answered.call;
+  status = status;
+  untold = tells;
+})
+told_as_delayed heard order silent saved turn response (told.Put claim line) putting answered status tells = absurd tells
+told_as_delayed heard order silent saved turn response (told.Became what) putting answered status tells = absurd tells
+told_as_delayed heard order silent saved turn response told.Doubtful putting answered status tells = absurd tells
+told_as_delayed heard order silent saved turn response told.OtherCall putting answered status tells = absurd tells
+told_as_delayed heard order silent saved turn response (told.Refused other) putting answered status tells = absurd tells

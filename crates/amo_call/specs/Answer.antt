@@ -59,3 +59,11 @@ pub record TellsRefusal (word : List ℕ) (response : Response) : Type 0 where
   pub is_word : IsWord word
   pub rest : List ℕ
   pub body : response.body.items ≡ codes "{\"error\":\"" ++ word ++ codes "\"" ++ rest
+
+-- a text has this front
+abbrev pub Begins : List ℕ → List ℕ → Type 0
+Begins front text = (rest : List ℕ) × (text ≡ front ++ rest)
+
+-- there is no room for a message, or its host comes to its end: it was not put, as a host looks first whether it was
+abbrev pub TellsUnput : Response → Type 0
+TellsUnput response = (response.status ≡ 503) × (Begins (codes "{\"error\":\"full\"") response.body.items ⊎ Begins (codes "{\"error\":\"ending\"") response.body.items)

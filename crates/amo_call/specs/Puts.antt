@@ -14,7 +14,7 @@ use Rattle.amo_call.specs.declared.putting.Order.{Order}
 use Rattle.amo_call.specs.declared.putting.PutTold.{PutTold}
 use Rattle.amo_call.specs.declared.putting.PutTold.TheVariants as told
 use Rattle.amo_call.specs.declared.putting.PutTurn.{PutTurn}
-use Rattle.amo_call.specs.Answer.{TellsConflict, TellsFate, TellsPut, TellsState}
+use Rattle.amo_call.specs.Answer.{TellsConflict, TellsFate, TellsPut, TellsState, TellsUnput}
 use Rattle.amo_call.specs.Heard.{Answered, Heard, ToCall, ToFirst}
 use Rattle.amo_call.specs.Kept.{kept_text}
 use Rattle.amo_call.specs.Request.{outcome_target, state_target}
@@ -99,12 +99,29 @@ pub record IsToldDoubt (heard : Heard → Type 0) (order : Order) (reached : Kep
   pub told : TellsConflict call.claim true last response
   pub other : last ≢ call.claim.number
 
--- a call was not made for now, or the life has no number more
+-- a call was not made for now, as its host says or since it was made once, or the life has no number more
 pub data IsToldFull (heard : Heard → Type 0) (order : Order) (reached : Kept → Type 0) : Type 0 where
-  IsLater : (call : Kept) → reached call → IsPutting order call → (response : Response) → heard (ToCall call response)
+  IsLater : (call : Kept) → reached call → IsPutting order call → (response : Response) → heard (ToCall call response) → TellsUnput response → IsToldFull heard order reached
+  IsFirst : (call : Kept) → reached call → IsPutting order call → (response : Response) → heard (ToFirst call response)
       → (response.status ≡ 408) ⊎ (response.status ≡ 503) → IsToldFull heard order reached
   IsLast : (response : Response) (state : StreamState) → Answered heard (state_target order.stream 0) response → TellsState order.stream true state response
       → state.last + 1 ≡ 2 ^ 64 → IsToldFull heard order reached
+
+-- a call was put off that may have been made before, and its host says nothing of that
+pub record IsToldDelay (heard : Heard → Type 0) (order : Order) (reached : Kept → Type 0) : Type 0 where
+  pub call : Kept
+  pub is_reached : reached call
+  pub putting : IsPutting order call
+  pub response : Response
+  pub answered : heard (ToCall call response)
+  pub status : (response.status ≡ 408) ⊎ (response.status ≡ 503)
+  pub untold : ¬ (TellsUnput response)
+
+-- what is told of a call that is put off: that nothing was put where its host says so, and else only where it is the first
+abbrev pub TellsDelay : PutTurn → Response → PutTold → Type 0
+TellsDelay turn response told.Full = (turn.is_first ≡ true) ⊎ TellsUnput response
+TellsDelay turn response told.NoAnswer = ¬ (TellsUnput response)
+TellsDelay turn response _ = ⊥
 
 -- an answer to a put tells neither that it was made nor that nothing happened, and does not put it off
 pub record TellsNoPut (claim : Claim) (response : Response) : Type 0 where
@@ -136,7 +153,7 @@ ToldPut heard order reached silent saved (told.Put claim line) =
 ToldPut heard order reached silent saved (told.Became what) = IsToldFate heard order reached what
 ToldPut heard order reached silent saved told.Doubtful = IsToldDoubt heard order reached
 ToldPut heard order reached silent saved told.Full = IsToldFull heard order reached
-ToldPut heard order reached silent saved told.NoAnswer = silent
+ToldPut heard order reached silent saved told.NoAnswer = silent ⊎ IsToldDelay heard order reached
 ToldPut heard order reached silent saved told.OtherCall = IsToldOther order reached saved
 ToldPut heard order reached silent saved (told.Refused response) = IsToldRefusal heard order reached response
 

@@ -1,12 +1,12 @@
 //! What the answers of a door tell.
-ghost use Rattle.std.specs.Prelude.{◌≡◌, ◌≢◌, ℕ, ◌<◌, ◌^◌, ◌++◌, ◌∷◌, List, IfNone, IfSome, codes};
+ghost use Rattle.std.specs.Prelude.{◌≡◌, ◌≢◌, ◌↔◌, ℕ, ◌<◌, ◌^◌, ◌++◌, ◌∷◌, List, IfNone, IfSome, IsTrue, codes};
 ghost use Rattle.std.specs.Fmt.{decimal};
 ghost use Rattle.amo_door.specs.Answer.{fate_word, place_members};
 ghost use Rattle.amo_door.specs.declared.answer.Fate.{Fate};
 ghost use Rattle.amo_door.specs.declared.claim.EventPlace.{EventPlace};
 ghost use Rattle.amo_door.specs.Word.{IsWord};
 ghost use Rattle.amo_call.specs.declared.answer.StreamState.{StreamState};
-ghost use Rattle.amo_call.specs.Answer.{IsEventPlace, event_members, last_name, TellsConflict, TellsFate, TellsPut, TellsRefusal, TellsState};
+ghost use Rattle.amo_call.specs.Answer.{Begins, IsEventPlace, event_members, last_name, TellsConflict, TellsFate, TellsPut, TellsRefusal, TellsState, TellsUnput};
 ghost use Rattle.amo_text.specs.Line.{Lacks};
 
 use crate::scan::{behind, behind_number, number_before, quoted_in_front, word_before};
@@ -126,6 +126,26 @@ pub fn read_refusal(response: &Response) -> Option<Word>
     let word = behind(response.body.as_slice(), b"{\"error\":\"")?;
     let (word, _rest) = word_before(word, b'"')?;
     Some(word)
+}
+
+/// Whether an answer says that the message of a call was not put: a host that has no room, or comes to its end, looks first whether it was. Another one that
+/// puts a call off, as a door at which too many ask, may say so of a call whose message was put before.
+pub(crate) fn tells_unput(response: &Response) -> bool
+    ensures { IsTrue result ↔ TellsUnput response.now }
+{
+    let body = response.body.as_slice();
+    response.status == 503
+        && (begins(body, b"{\"error\":\"full\"") || begins(body, b"{\"error\":\"ending\""))
+}
+
+/// Whether a text has this front.
+fn begins(text: &[u8], front: &[u8]) -> bool
+    ensures { IsTrue result ↔ Begins front.now text.now }
+{
+    match behind(text, front) {
+        Some(_rest) => true,
+        None => false,
+    }
 }
 
 /// What stands behind the sentence of an answer that tells of a conflict: a sentence has no quote.

@@ -3,9 +3,9 @@ ghost use Rattle.std.specs.Prelude.{◌≡◌, ◌↔◌, Some, ◌⊎◌, true,
 ghost use Rattle.amo_door.specs.declared.claim.EventPlace.{EventPlace};
 ghost use Rattle.amo_call.specs.Answer.{TellsPut};
 ghost use Rattle.amo_call.specs.Kept.{kept_text};
-ghost use Rattle.amo_call.specs.Puts.{ComesTo, HasPut, IsAnswered, IsNextPut, IsPutting, Resumes, ToldPut};
+ghost use Rattle.amo_call.specs.Puts.{ComesTo, HasPut, IsAnswered, IsNextPut, IsPutting, Resumes, TellsDelay, ToldPut};
 
-use crate::answer::{Response, read_conflict, read_fate, read_put, read_state};
+use crate::answer::{Response, read_conflict, read_fate, read_put, read_state, tells_unput};
 use crate::caller::{ask_until, copied};
 use crate::{CallFault, Caller, Kept, Progress, Request};
 use amo_door::{Claim, Fate, Word};
@@ -32,9 +32,9 @@ pub enum PutTold {
     Became(Fate),
     /// Another program puts on the stream, and whether this message was put before is not known.
     Doubtful,
-    /// It was not put yet, as there is no room, or the host comes to its end.
+    /// It was not put yet, as there is no room, or the host comes to its end, or its only call was put off.
     Full,
-    /// No answer came: it may have been put.
+    /// No answer came, or a call that was made before was put off: it may have been put.
     NoAnswer,
     /// The file is that of another call. Nothing was asked.
     OtherCall,
@@ -197,7 +197,8 @@ fn look_at_refusal<C: Caller>(
     ensures { IfOk result (HasPut C.heard order.now (ComesTo C.heard order.now (Some turn.kept)) (C.is_fresh caller.new) (C.is_silent caller.new) (C.saved caller.new)) }
 {
     if is_put_off(response.status) {
-        return Ok(put_again(caller, turn, PutTold::Full));
+        let told = told_of_delay(&turn, &response);
+        return Ok(put_again(caller, turn, told));
     }
     match response.status {
         409 => look_at_conflict(alloc, caller, turn, response, order),
@@ -211,6 +212,18 @@ fn is_put_off(status: u16) -> bool
     ensures { IsTrue result ↔ ((status ≡ 408) ⊎ (status ≡ 503)) }
 {
     status == 408 || status == 503
+}
+
+/// What is told of a call that is put off, where there is no time to make it again. A door at which too many ask, or that a request reached too slowly, says
+/// nothing of what was put before.
+fn told_of_delay(turn: &PutTurn, response: &Response) -> PutTold
+    ensures { TellsDelay turn.now response.now result }
+{
+    if turn.is_first || tells_unput(response) {
+        PutTold::Full
+    } else {
+        PutTold::NoAnswer
+    }
 }
 
 /// The call is made again, where there is time; else this is told.

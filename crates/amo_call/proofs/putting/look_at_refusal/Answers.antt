@@ -1,17 +1,16 @@
 use Rattle.std.proofs.Common.{◌≡◌, true, inl, inr, refl, ◌∙◌, arith}
-use Rattle.amo_call.specs.declared.putting.PutTold.TheVariants as told
-use Rattle.amo_call.specs.Puts.{IsFound, IsLater, OfCall}
-use Rattle.amo_call.proofs.Puts.{goes_again}
+use Rattle.amo_call.specs.Puts.{IsFound, OfCall}
+use Rattle.amo_call.proofs.Puts.{goes_again, told_as_delayed}
 use Rattle.amo_call.proofs.putting.look_at_refusal.Goals as goal
 
 pub returns-then-is_put_off : goal.returns-then-is_put_off
 returns-then-is_put_off g c =
     let C = g.C.Caller in
     let caller = c.put_again.new.caller in
-    let kept = c.args.turn.kept in
-    goes_again C.heard c.args.order.now (C.is_fresh caller) (C.is_silent caller) (C.saved caller) c.put_again.result c.args.turn told.Full
+    goes_again C.heard c.args.order.now (C.is_fresh caller) (C.is_silent caller) (C.saved caller) c.put_again.result c.args.turn c.told_of_delay-told.result
     (c.put_again.ensures.saved ∙ c.requires.saved) c.requires.putting
-    (IsLater kept (IsFound kept refl) c.requires.putting c.args.response c.requires.answered.call (c.is_put_off.ensures.0 c.if-is_put_off.true)) c.put_again.ensures.again
+    (told_as_delayed C.heard c.args.order.now (C.is_silent caller) (C.saved caller) c.args.turn c.args.response c.told_of_delay-told.result c.requires.putting c.requires.answered
+    (c.is_put_off.ensures.0 c.if-is_put_off.true) c.told_of_delay-told.ensures) c.put_again.ensures.again
 
 pub returns-in_default : goal.returns-in_default
 returns-in_default g c =

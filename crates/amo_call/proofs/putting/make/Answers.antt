@@ -1,4 +1,4 @@
-use Rattle.std.proofs.Common.{◌∙◌}
+use Rattle.std.proofs.Common.{inl, ◌∙◌}
 use Rattle.amo_call.specs.declared.answer.Response.{Response}
 use Rattle.amo_call.specs.declared.putting.PutTold.TheVariants as told
 use Rattle.amo_call.specs.Heard.{ToCall}
@@ -12,7 +12,7 @@ returns-in_default g c =
     let caller = c.put_again.new.caller in
     goes_again C.heard c.args.order.now (C.is_fresh caller) (C.is_silent caller) (C.saved caller) c.put_again.result c.args.turn told.NoAnswer
     (c.put_again.ensures.saved ∙ c.make.ensures.saved ∙ c.requires.saved) c.requires.putting
-    (c.put_again.ensures.silent (at_none c.in_ok-response.field-0 (C.is_silent c.make.new.self) c.in_default.is c.in_ok-response.ensures.silent)) c.put_again.ensures.again
+    (inl (c.put_again.ensures.silent (at_none c.in_ok-response.field-0 (C.is_silent c.make.new.self) c.in_default.is c.in_ok-response.ensures.silent))) c.put_again.ensures.again
 
 pub returns-in-Some-read_put : goal.returns-in-Some-read_put
 returns-in-Some-read_put g c =
