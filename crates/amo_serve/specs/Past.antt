@@ -13,15 +13,17 @@ use Rattle.amo_serve.specs.declared.lane.Lane.{Lane}
 use Rattle.amo_serve.specs.declared.past.Past.{Past}
 use Rattle.amo_serve.specs.Fates.{fate_of}
 use Rattle.amo_serve.specs.Lane.{message_of, owners_in}
-use Rattle.amo_serve.specs.Records.{BeginsWith, newest_number}
+use Rattle.amo_serve.specs.Records.{AreFromFirst, BeginsWith, newest_number}
 use Rattle.amo_serve.specs.Reign.{owners_of, reign_after}
 
 -- the events of lines
 abbrev pub events_of : List Numbered → List Event
 events_of lines = map (λ line. line.event) lines
 
--- these lines were taken, the newest of which is first: where their events are right, they were followed; and it is known whose each put is
+-- These lines were taken, the newest of which is first, and the journal's first is one of them: where their events are right, they were followed; and it is known
+-- whose each put is.
 pub record HasTaken (past : Past) (lines : List Numbered) : Type 0 where
+  pub from_first : AreFromFirst lines
   pub followed : IsRight (events_of lines) → HaveFollowedSenders past.followers (events_of lines)
   pub last : past.last ≡ newest_number lines
   pub reign : past.reign ≡ reign_after past.lives.items lines

@@ -16,6 +16,11 @@ abbrev pub Follows : Option ℕ → ℕ → Type 0
 Follows None number = Unit {0}
 Follows (Some last) number = number ≡ last + 1
 
+-- a line of this number is the journal's first, where there is no last one
+abbrev pub IsFirstOrBehind : Option ℕ → ℕ → Type 0
+IsFirstOrBehind None number = number ≡ 0
+IsFirstOrBehind (Some last) number = Unit {0}
+
 -- the number of the newest of lines, which is the first of the list
 abbrev pub newest_number : List Numbered → Option ℕ
 newest_number [] = None
@@ -30,6 +35,11 @@ next_number (line ∷ past) = min (line.number + 1) (2 ^ 64 - 1)
 abbrev pub AreInRow : List Numbered → Type 0
 AreInRow [] = Unit {0}
 AreInRow (line ∷ past) = Follows (newest_number past) line.number × AreInRow past
+
+-- none is missing in front of them: the first one is the journal's
+abbrev pub AreFromFirst : List Numbered → Type 0
+AreFromFirst [] = Unit {0}
+AreFromFirst (line ∷ past) = IsFirstOrBehind (newest_number past) line.number × AreFromFirst past
 
 -- what they spell
 abbrev pub spelt_by : List Numbered → List ℕ

@@ -12,9 +12,17 @@ use Rattle.amo_door.specs.declared.refusal.Refusal.TheVariants.{Conflict, Full, 
 use Rattle.amo_door.specs.Answer.{put_body, status_of_put}
 use Rattle.amo_door.specs.Numbers.{Table}
 use Rattle.amo_door.specs.Refusal.{status_of}
+use Rattle.amo_serve.specs.declared.responder.Reply.{Reply}
+use Rattle.amo_serve.specs.declared.responder.Reply.TheVariants as reply
 use Rattle.amo_serve.specs.declared.responder.taking.Taken.{Taken}
 use Rattle.amo_serve.specs.declared.responder.taking.Taken.TheVariants as taken
 use Rattle.amo_door.specs.Turns.{Answer, Claimed, Fresh, Gone, Keeps, NotNow, Repeated, Stands, Turn, Unclaimed}
+
+-- a reply for which its client does not wait
+abbrev pub IsAtOnce : Reply → Type 0
+IsAtOnce (reply.State stream wait) = ⊥
+IsAtOnce (reply.Take claim wait) = ⊥
+IsAtOnce _ = Unit {0}
 
 -- the message that a turn put, with its stream, if it put one: for a claim that brings one, or without a number
 abbrev pub put_by_turn : Turn → List (ℕ × List ℕ)

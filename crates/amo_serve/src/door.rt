@@ -12,7 +12,7 @@ use libc::net;
 use libc::types::pollfd;
 use std::alloc::{AllocError, AllocFailed, Global};
 use std::collections::VecDeque;
-use std::io::Write;
+use std::io::{ErrorKind, Write};
 use std::net::{TcpListener, TcpStream};
 use std::os::fd::AsRawFd;
 use std::rt::Clock;
@@ -42,6 +42,9 @@ const ROUNDS: u32 = 24;
 const LOOKING: u64 = 50;
 
 const FEW: usize = 16;
+
+/// For how many microseconds no client is taken where the system has no room for one, as where the process has as many files open as it may.
+const CROWDED_OUT: u64 = 100_000;
 
 /// So many of what the system waits for are the host's own. The clients stand behind them.
 const HOSTS_OWN: usize = 3;
@@ -257,6 +260,7 @@ impl Door {
         if is_time {
             self.deadline = u64::MAX;
             self.is_followed = false;
+            self.attend(net::POLLIN);
         }
         let comings = self.waited.iter().skip(HOSTS_OWN);
         for (place, (client, waited)) in self.clients.iter_mut().zip(comings).enumerate() {
@@ -285,12 +289,25 @@ impl Door {
     /// Takes the clients that have come.
     fn accept(&mut self, now: u64) -> Result<(), AllocError> {
         for _client in 0..MOST_TAKEN {
-            let Ok((stream, _address)) = self.listener.accept() else {
-                break;
-            };
-            self.let_in(stream, now)?;
+            match self.listener.accept() {
+                Ok((stream, _address)) => self.let_in(stream, now)?,
+                Err(error) if error.kind() == ErrorKind::WouldBlock => break,
+                Err(_) => {
+                    // The listener would go on to be ready, and the host would never rest.
+                    self.attend(0);
+                    self.deadline = self.deadline.min(now.saturating_add(CROWDED_OUT));
+                    break;
+                }
+            }
         }
         Ok(())
+    }
+
+    /// Waits for this at the listener from now on.
+    fn attend(&mut self, events: i16) {
+        if let Some(listener) = self.waited.first_mut() {
+            listener.events = events;
+        }
     }
 
     /// Takes a client; or tells it that there are too many.

@@ -1,14 +1,14 @@
 //! What became of the messages of a sender's earlier lives, as its journal tells it.
-ghost use Rattle.std.specs.Prelude.{◌≡◌, ◌⊎◌, ◌+◌, ◌≤◌, ◌<◌, ◌^◌, ◌++◌, ◌∷◌, ℕ, List, [], None, Some, false, IfOk, OnOk, drop, length, slice_get};
+ghost use Rattle.std.specs.Prelude.{◌≡◌, ◌⊎◌, ◌↔◌, ◌+◌, ◌≤◌, ◌<◌, ◌^◌, ◌++◌, ◌∷◌, ℕ, List, [], None, Some, false, IfOk, IfSome, IsTrue, OnOk, drop, length, slice_get};
 ghost use Rattle.std.specs.List.{list_any};
 ghost use Rattle.amo_door.specs.declared.answer.Fate.TheVariants as AnyFate;
 ghost use Rattle.amo_journal.specs.declared.numbered.Numbered.{Numbered};
 ghost use Rattle.amo_journal.specs.declared.version.Version.{Version};
-ghost use Rattle.amo_journal.specs.Journal.{InRange};
+ghost use Rattle.amo_journal.specs.Journal.{InRange, line_text};
 ghost use Rattle.amo_world.specs.Stream.{IsStream};
 ghost use Rattle.amo_serve.specs.Fates.{fate_of};
 ghost use Rattle.amo_serve.specs.Lane.{AreEmpty, owners_in};
-ghost use Rattle.amo_serve.specs.Records.{next_number};
+ghost use Rattle.amo_serve.specs.Records.{Follows, IsFirstOrBehind, next_number};
 ghost use Rattle.amo_serve.specs.Reign.{begun, comes_back, holds, is_taken, owner_by, seen, with_next, without_work};
 
 use crate::gets::next_in_row;
@@ -182,7 +182,7 @@ impl Past {
     {
         let mut rest = lines;
         while !rest.text.is_empty() {
-            let Some((line, more)) = next_in_row(alloc, rest, self.last)? else {
+            let Some((line, more)) = next_of_all(alloc, rest, self.last)? else {
                 return Ok(rest);
             };
             self.take(&line)?;
@@ -193,7 +193,8 @@ impl Past {
 
     /// One line more.
     fn take(&mut self, line: &Numbered) -> Result<(), AllocError>
-        requires { (version : Version) × InRange version line.now }
+        requires line { (version : Version) × InRange version line.now }
+        requires first { IsFirstOrBehind self.old.last line.now.number }
         ensures { OnOk result ((past : List Numbered) → HasTaken self.old past → HasTaken self.new (line.now ∷ past)) }
     {
         self.reign.see(self.lives.as_slice(), line);
@@ -244,6 +245,31 @@ impl Past {
             Some(life) if may_have_lost(self.doubts.as_slice(), life.first_line) => Fate::Unknown,
             _ => Fate::Never,
         }
+    }
+}
+
+/// The line in front, if there is one and it follows on the one of this number; where none was read yet, if it is the journal's first. Where the first pieces are
+/// gone nobody knows how many messages a life had put in them.
+fn next_of_all<'a>(
+    alloc: Global,
+    lines: Lines<'a>,
+    last: Option<u64>,
+) -> Result<Option<(Numbered, Lines<'a>)>, AllocError>
+    ensures { IfOk result (λ front. IfSome front (λ f. InRange lines.entry.version f.0 × (lines.entry.text.now ≡ line_text f.0 ++ f.1.text.now) × (f.1.version ≡ lines.entry.version) × Follows last f.0.number × IsFirstOrBehind last f.0.number)) }
+{
+    match next_in_row(alloc, lines, last)? {
+        Some((line, more)) if is_first_or_behind(last, line.number) => Ok(Some((line, more))),
+        _ => Ok(None),
+    }
+}
+
+/// Whether a line of this number is the journal's first, where none was read yet.
+fn is_first_or_behind(last: Option<u64>, number: u64) -> bool
+    ensures { IsTrue result ↔ IsFirstOrBehind last number }
+{
+    match last {
+        Some(_last) => true,
+        None => number == 0,
     }
 }
 

@@ -4,7 +4,7 @@ ghost use Rattle.amo_live.specs.Host.{IsNoted};
 ghost use Rattle.amo_live.specs.Service.{words_of};
 ghost use Rattle.amo_live.specs.Words.{BearsNew};
 ghost use Rattle.amo_door.specs.Numbers.{HasStream};
-ghost use Rattle.amo_serve.specs.Serving.{Serves};
+ghost use Rattle.amo_serve.specs.Serving.{IsAtOnce, Serves};
 
 mod putting;
 mod states;
@@ -160,7 +160,9 @@ impl<L: Link, S: Sink, W: Lineage> Responder<L, S, W> {
     }
 
     /// A refusal, for this reason.
-    fn refuse(&self, refusal: Refusal) -> Result<Reply, LiveFault> {
+    fn refuse(&self, refusal: Refusal) -> Result<Reply, LiveFault>
+        ensures { IfOk result IsAtOnce }
+    {
         Ok(Reply::Answer(Answer::refusal(self.alloc, refusal)?))
     }
 

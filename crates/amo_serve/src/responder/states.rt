@@ -1,7 +1,8 @@
 //! How streams are, and what became of messages.
-ghost use Rattle.std.specs.Prelude.{◌≡◌, ◌+◌, OnOk};
+ghost use Rattle.std.specs.Prelude.{◌≡◌, ◌+◌, IfOk, OnOk, true};
 ghost use Rattle.amo_door.specs.Numbers.{HasStream};
 ghost use Rattle.amo_serve.specs.Fates.{present_fate};
+ghost use Rattle.amo_serve.specs.Serving.{IsAtOnce};
 
 use crate::responder::{Reply, Responder};
 use amo_door::{Answer, Fate, Last, ReceiverState, Refusal, SenderState, Word};
@@ -11,12 +12,14 @@ use amo_object::End;
 use amo_text::Sink;
 
 impl<L: Link, S: Sink, W: Lineage> Responder<L, S, W> {
-    /// What comes of a question how a stream is, whose client waits for so many seconds at most.
-    pub(crate) fn respond_to_state(&self, stream: u32, wait: u64) -> Result<Reply, LiveFault> {
+    /// What comes of a question how a stream is, whose client waits for so many seconds at most. At a host that comes to its end nobody waits.
+    pub(crate) fn respond_to_state(&self, stream: u32, wait: u64) -> Result<Reply, LiveFault>
+        ensures ends { self.now.ends ≡ true → IfOk result IsAtOnce }
+    {
         if !self.has_stream(stream) {
             return self.refuse(Refusal::NoStream);
         }
-        if wait > 0 && !self.is_reached(stream) {
+        if wait > 0 && !self.ends && !self.is_reached(stream) {
             return Ok(Reply::State { stream, wait });
         }
         Ok(Reply::Answer(self.state(stream)?))

@@ -1,5 +1,5 @@
 //! Takes for callers, each once.
-ghost use Rattle.std.specs.Prelude.{◌≡◌, IfOk, IfSome, IsSome, None, OnOk};
+ghost use Rattle.std.specs.Prelude.{◌≡◌, IfOk, IfSome, IsSome, None, OnOk, true};
 ghost use Rattle.amo_live.specs.Host.{IsNoted};
 ghost use Rattle.amo_live.specs.Service.{words_of};
 ghost use Rattle.amo_live.specs.Words.{BearsNew};
@@ -8,7 +8,7 @@ ghost use Rattle.amo_door.specs.declared.answer.Kind.TheVariants.{Bytes};
 ghost use Rattle.amo_door.specs.declared.refusal.Refusal.TheVariants.{Conflict};
 ghost use Rattle.amo_door.specs.Numbers.{HasStream, decision, last_of};
 ghost use Rattle.amo_door.specs.Refusal.{status_of};
-ghost use Rattle.amo_serve.specs.Serving.{Serves, Takes};
+ghost use Rattle.amo_serve.specs.Serving.{IsAtOnce, Serves, Takes};
 
 use crate::responder::{Reply, Responder};
 use amo_door::{Answer, Claim, Decision, EventPlace, Happening, Refusal};
@@ -26,7 +26,7 @@ pub enum Taken {
 }
 
 impl<L: Link, S: Sink, W: Lineage> Responder<L, S, W> {
-    /// What comes of a claim to take, whose client waits for so many seconds at most.
+    /// What comes of a claim to take, whose client waits for so many seconds at most. At a host that comes to its end nobody waits.
     #[tactic(auto, using(crate::proofs::Served::take_serves))]
     pub(crate) fn respond_to_take(
         &mut self,
@@ -38,13 +38,16 @@ impl<L: Link, S: Sink, W: Lineage> Responder<L, S, W> {
         ensures noted { OnOk result (IsNoted S.written self.new.service.host) }
         ensures serves { OnOk result (Serves self.old.numbers self.new.numbers self.old.service.host.pass self.new.service.host.pass) }
         ensures words { OnOk result (BearsNew W.is_drawn (words_of self.old.service) (words_of self.new.service) self.old.service.host.pass self.new.service.host.pass) }
+        ensures ends { self.new.ends ≡ true → IfOk result IsAtOnce }
     {
         if !self.has_stream(claim.stream) {
             return self.refuse(Refusal::NoStream);
         }
         match self.take(claim, now)? {
             Taken::Answer(answer) => Ok(Reply::Answer(answer)),
-            Taken::NotYet(_) if wait == 0 => Ok(Reply::Answer(Answer::nothing(self.alloc))),
+            Taken::NotYet(_) if wait == 0 || self.ends => Ok(Reply::Answer(Answer::nothing(
+                self.alloc,
+            ))),
             Taken::NotYet(claim) => Ok(Reply::Take { claim, wait }),
         }
     }

@@ -1,4 +1,4 @@
-use Rattle.std.proofs.Common.{◌≡◌, ℕ, ◌+◌, ◌∷◌, ◌++◌, ◌∙◌, List, refl, sym, subst, ap, rules}
+use Rattle.std.proofs.Common.{◌≡◌, ℕ, ◌+◌, ◌∷◌, ◌++◌, ◌∙◌, List, Option, refl, sym, subst, ap, rules}
 use Rattle.amo_lives.specs.declared.doubt.Span.{Span}
 use Rattle.amo_lives.specs.declared.life.Life.{Life}
 use Rattle.amo_outcomes.specs.declared.sender_followers.SenderFollowers.{SenderFollowers}
@@ -7,6 +7,7 @@ use Rattle.amo_serve.specs.declared.lane.Owner.{Owner}
 use Rattle.amo_serve.specs.declared.past.Reign.{Reign}
 use Rattle.amo_serve.specs.Lane.{owners_in}
 use Rattle.amo_serve.specs.Past.{events_of}
+use Rattle.amo_serve.specs.Records.{IsFirstOrBehind}
 use Rattle.amo_serve.specs.Reign.{owner_by, owners_of, reign_after, seen}
 use Rattle.amo_serve.proofs.past.Past.take.Goals as goal
 
@@ -21,6 +22,7 @@ returns c = λ past has.
     let kept : c.count_put.new.self.reign ≡ c.see.new.self = search rules in
     let reign : c.see.new.self ≡ reign_after s.lives.items (line ∷ past) = c.see.ensures.seen ∙ (ap (λ (l : List Life). seen l line s.reign) slice ∙ ap (λ (r : Reign). seen s.lives.items line r) has.reign) in
     record {
+      from_first = (subst (λ (last : Option ℕ). IsFirstOrBehind last line.number) has.last c.requires.first, has.from_first);
       followed = λ right. c.in_ok-follow.ensures (events_of past) right (subst (λ (f : SenderFollowers). HaveFollowedSenders f (events_of past)) (sym followers) (has.followed right.1));
       last = refl;
       reign = subst (λ (l : List Life). c.count_put.new.self.reign ≡ reign_after l (line ∷ past)) (sym lives) (kept ∙ reign);
