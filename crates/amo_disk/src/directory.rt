@@ -31,6 +31,18 @@ pub struct Directory<'r, R: Clock + Files<File = File>> {
     newest: File,
     written: Written,
     standing: Standing,
+    // How long the newest piece was when it was on the disk last, where nobody hears of lines before they are there.
+    on_disk: Option<u64>,
+    // Open for nothing but to be closed: so a new piece can be opened, and the names be synced, where others have opened all that the process may.
+    spares: Option<(File, File)>,
+}
+
+/// Two more handles of a file, where the process may have them.
+fn spares_of(file: &File) -> Option<(File, File)> {
+    match (file.try_clone(), file.try_clone()) {
+        (Ok(first), Ok(second)) => Some((first, second)),
+        _ => None,
+    }
 }
 
 /// The file that was written, and how long it is, if nobody else changed it.
@@ -94,7 +106,8 @@ impl Written {
 }
 
 impl<'r, R: Clock + Files<File = File>> Directory<'r, R> {
-    /// The journal of this name, of which these are the highest number of a piece, and the newest one, which is locked and has so many bytes.
+    /// The journal of this name, of which these are the highest number of a piece, and the newest one, which is locked and has so many bytes. With `sync`
+    /// nobody hears of lines before they are on the disk.
     pub(crate) fn new(
         rt: &'r R,
         alloc: Global,
@@ -102,8 +115,10 @@ impl<'r, R: Clock + Files<File = File>> Directory<'r, R> {
         highest: u64,
         newest: File,
         length: u64,
+        sync: bool,
     ) -> io::Result<Directory<'r, R>> {
         let written = Written::of(&newest, length)?;
+        let spares = spares_of(&newest);
         Ok(Directory {
             rt,
             alloc,
@@ -111,6 +126,8 @@ impl<'r, R: Clock + Files<File = File>> Directory<'r, R> {
             highest,
             newest,
             written,
+            on_disk: if sync { Some(length) } else { None },
+            spares,
             standing: Standing {
                 bytes: false,
                 names: false,
@@ -152,10 +169,21 @@ impl<R: Clock + Files<File = File>> Folder for Directory<'_, R> {
         Ok(count)
     }
 
+    /// Where it fails the system counts the bytes as kept all the same, and a next host would go on behind them. So those that nobody heard of are cut off.
     fn sync(&mut self) -> io::Result<()> {
-        self.newest.sync_data()?;
-        self.standing.bytes = true;
-        Ok(())
+        match self.newest.sync_data() {
+            Ok(()) => {
+                self.standing.bytes = true;
+                self.on_disk = self.on_disk.and(Some(self.written.length));
+                Ok(())
+            }
+            Err(error) => {
+                if let Some(length) = self.on_disk {
+                    let _ = self.newest.set_len(length);
+                }
+                Err(error)
+            }
+        }
     }
 
     /// Where some of its bytes are not on the disk, it is refused; and where somebody else changed it, whenever it was looked at last: it would get its number
@@ -179,9 +207,12 @@ impl<R: Clock + Files<File = File>> Folder for Directory<'_, R> {
         if !self.standing.is_closed || !self.standing.bytes {
             return Err(io::Error::from(ErrorKind::InvalidInput));
         }
+        self.spares = None;
         let newest = begin_behind(self.rt, self.path.as_str())?;
         self.written = Written::of(&newest, 0)?;
-        let _closed = mem::replace(&mut self.newest, newest);
+        drop(mem::replace(&mut self.newest, newest));
+        self.on_disk = self.on_disk.and(Some(0));
+        self.spares = spares_of(&self.newest);
         self.standing.names = false;
         self.standing.is_closed = false;
         Ok(())
@@ -190,7 +221,9 @@ impl<R: Clock + Files<File = File>> Folder for Directory<'_, R> {
     /// Where they are there, nothing is asked of the system.
     fn sync_names(&mut self) -> io::Result<()> {
         if !self.standing.names {
+            self.spares = None;
             sync_names(self.rt, self.alloc, self.path.as_str())?;
+            self.spares = spares_of(&self.newest);
             self.standing.names = true;
         }
         Ok(())

@@ -128,10 +128,15 @@ fn hold_piece<R: Files<File = File>>(
         return Ok(None);
     }
     let name = piece_name(alloc, path, number)?;
-    let opened: File = OpenOptions::new()
+    let opened = match OpenOptions::new()
         .read(true)
         .append(true)
-        .open(rt, name.as_str())?;
+        .open(rt, name.as_str())
+    {
+        // It is written only where it has no whole last line: a whole one may be protected.
+        Err(error) if error.kind() == ErrorKind::PermissionDenied => fs::open(rt, name.as_str())?,
+        opened => opened?,
+    };
     let file = with_own_number(opened)?;
     try_lock(&file)?;
     Ok(Some(file))

@@ -33,7 +33,7 @@ pub struct Wanted {
     pub version: Version,
     /// Whether starts of batches are to have lines.
     pub batch: bool,
-    /// Whether it is to be on the disk.
+    /// Whether each turn's lines are to be on the disk.
     pub sync: bool,
     /// How many bytes a piece is to have before another one is begun.
     pub piece: u64,
@@ -50,8 +50,8 @@ pub struct Opened<'a, 'r, R: Clock + Files<File = File>, L: Ledger> {
     pub zeros: u64,
 }
 
-/// Opens the journal of this name, or begins one: nobody else has it, and it is cut behind its last whole line. Where it is to be synced, it and the
-/// entry of its directory are on the disk then. It is refused, and left as it is, where it is none for this host.
+/// Opens the journal of this name, or begins one: nobody else has it, and it is cut behind its last whole line. It and the entry of its directory are on
+/// the disk then, so that what is told of its lines elsewhere outlives no line. It is refused, and left as it is, where it is none for this host.
 ///
 /// The blank becomes the ledger in which contracts count failures. It takes no bytes.
 pub fn open<'a, 'r, R: Clock + Files<File = File>, L: Ledger>(
@@ -68,7 +68,7 @@ pub fn open<'a, 'r, R: Clock + Files<File = File>, L: Ledger>(
     requires piece { 6 < wanted.now.piece }
     ensures calm { IfOk result (λ opened. (opened.disk.sink.failures ≡ 0) × (opened.disk.waiting ≡ [])) }
     ensures roll { IfOk result (λ opened. (opened.disk.sink.writer.limit ≡ wanted.now.piece) × (opened.disk.sink.writer.sync ≡ wanted.now.sync)) }
-    ensures on_disk { IfOk result (λ opened. wanted.now.sync ≡ true → is_on_disk (⟦<Directory<'r, R> as Folder>⟧.standing opened.disk.sink.writer.folder) ≡ true) }
+    ensures on_disk { IfOk result (λ opened. is_on_disk (⟦<Directory<'r, R> as Folder>⟧.standing opened.disk.sink.writer.folder) ≡ true) }
 {
     let name = String::from_str(alloc, path)?;
     let held = hold(rt, alloc, path)?;
@@ -89,10 +89,8 @@ pub fn open<'a, 'r, R: Clock + Files<File = File>, L: Ledger>(
         highest,
         ..
     } = held;
-    let mut directory = Directory::new(rt, alloc, name, highest, newest, length)?;
-    if wanted.sync {
-        directory.settle()?;
-    }
+    let mut directory = Directory::new(rt, alloc, name, highest, newest, length, wanted.sync)?;
+    directory.settle()?;
     let roll = Roll::new(directory, version, wanted.piece, wanted.sync, length);
     Ok(Opened {
         disk: Gathered::new(alloc, Disk::new(roll, cause, blank)),
