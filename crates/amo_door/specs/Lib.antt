@@ -11,3 +11,4 @@ pub mod Answer
 pub mod Guard
 pub mod Connection
 pub mod Event
+pub mod Head

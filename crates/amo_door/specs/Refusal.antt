@@ -3,7 +3,7 @@ use Rattle.std.specs.Prelude.{ℕ, Option, None, Some, List, codes}
 use Rattle.amo_door.specs.declared.query.QueryFault.{QueryFault}
 use Rattle.amo_door.specs.declared.query.QueryFault.TheVariants as query
 use Rattle.amo_door.specs.declared.refusal.Refusal.{Refusal}
-use Rattle.amo_door.specs.declared.refusal.Refusal.TheVariants.{Unreadable, Unknown, Repeated, Missing, Wrong, Stray, Token, Origin, NoPlace, NoStream, NoNumber, OtherSide, Method, Slow, Conflict, OtherLife, UnknownLife, TooLong, LongTarget, Host, LongHead, Journal, Coding, Full, NotNow, Ending, Crowded}
+use Rattle.amo_door.specs.declared.refusal.Refusal.TheVariants.{Unreadable, Unknown, Repeated, Missing, Wrong, Stray, Token, Origin, NoPlace, NoStream, NoNumber, OtherSide, Method, Slow, Conflict, OtherLife, UnknownLife, UnknownLine, TooLong, LongTarget, Host, LongHead, Journal, Coding, Full, NotNow, Ending, Crowded}
 use Rattle.amo_door.specs.Place.{methods_of}
 
 -- the status of a refusal (RFC 9110, section 15; RFC 6585 for 431)
@@ -25,6 +25,7 @@ status_of Slow = 408
 status_of Conflict = 409
 status_of OtherLife = 410
 status_of UnknownLife = 410
+status_of UnknownLine = 410
 status_of TooLong = 413
 status_of LongTarget = 414
 status_of Host = 421
@@ -55,6 +56,7 @@ word_of Slow = codes "slow"
 word_of Conflict = codes "conflict"
 word_of OtherLife = codes "other_life"
 word_of UnknownLife = codes "unknown_life"
+word_of UnknownLine = codes "unknown_line"
 word_of TooLong = codes "too_long"
 word_of LongTarget = codes "long_target"
 word_of Host = codes "host"

@@ -1,6 +1,7 @@
 //! What the head of a request says.
-ghost use Rattle.std.specs.Prelude.{◌≡◌, ◌≤◌, All, length};
+ghost use Rattle.std.specs.Prelude.{◌≡◌, ◌≤◌, All, length, option_copied};
 ghost use Rattle.httparse.specs.Spans.{IsHeaderWithin, IsRequestWithin};
+ghost use Rattle.amo_door.specs.Head.{IsBehind};
 
 use crate::{Call, Credentials, Guard, Method, Refusal, Routes, Served};
 use amo_text::read_decimal;
@@ -36,17 +37,25 @@ pub(crate) fn read_head(
     reader.guard.check(&credentials)?;
     let method = Method::read(head.method.of(input));
     match Call::read(reader.routes, reader.served, method, head.path.of(input)) {
-        // A browser that follows again tells what it was told last (the HTML standard, section 9.2).
-        Ok(Call::Events { after: None }) => Ok(Call::Events {
-            after: last_event(field(input, fields, b"last-event-id")),
+        Ok(Call::Events { after }) => Ok(Call::Events {
+            after: line_behind(field(input, fields, b"last-event-id"), after),
         }),
         read => read,
     }
 }
 
-/// The line of the last event that a client was told of, if it says so.
-fn last_event(field: Option<&[u8]>) -> Option<u64> {
-    read_decimal(field?)
+/// The line behind which those who follow are told: a browser that comes again says which event it was told last, and asks for the same target as before
+/// (the HTML standard, section 9.2). So the field counts where it is the number of a line, and else what the query has.
+fn line_behind(field: Option<&[u8]>, after: Option<u64>) -> Option<u64>
+    ensures { IsBehind (option_copied field.entry) after result }
+{
+    let Some(text) = field else {
+        return after;
+    };
+    match read_decimal(text) {
+        Some(line) => Some(line),
+        None => after,
+    }
 }
 
 /// What the first field of this name has.

@@ -61,6 +61,9 @@ pub enum Refusal {
     /// It asks what became of a message of a life that the host does not know.
     #[error("the host knows of no such life")]
     UnknownLife,
+    /// It asks what was got behind a line that the host's journal does not have.
+    #[error("the host's journal has no such line: it is not the one of which that was a line")]
+    UnknownLine,
     /// Its body is longer than a message may be, or than the place takes.
     #[error("the body is too long: a message has 1024 bytes at most")]
     TooLong,
@@ -112,7 +115,7 @@ impl Refusal {
             Refusal::Method(_) => 405,
             Refusal::Slow => 408,
             Refusal::Conflict => 409,
-            Refusal::OtherLife | Refusal::UnknownLife => 410,
+            Refusal::OtherLife | Refusal::UnknownLife | Refusal::UnknownLine => 410,
             Refusal::TooLong => 413,
             Refusal::LongTarget => 414,
             Refusal::Host => 421,
@@ -145,6 +148,7 @@ impl Refusal {
             Refusal::Conflict => "conflict",
             Refusal::OtherLife => "other_life",
             Refusal::UnknownLife => "unknown_life",
+            Refusal::UnknownLine => "unknown_line",
             Refusal::TooLong => "too_long",
             Refusal::LongTarget => "long_target",
             Refusal::Host => "host",
