@@ -1,12 +1,14 @@
 -- Which messages were got.
-use Rattle.std.proofs.Common.{◌≡◌, ℕ, List, ◌∷◌, Option, Some, None, ap, ◌∙◌}
+use Rattle.std.proofs.Common.{◌≡◌, ℕ, Bool, List, ◌∷◌, Option, Some, None, ap, ◌∙◌}
 use Rattle.amo_object.specs.declared.step.End.TheVariants.{Receiver}
+use Rattle.amo_core.specs.declared.act.Act.{Act}
 use Rattle.amo_core.specs.declared.act.Act.TheVariants as act
 use Rattle.amo_core.specs.declared.mode.Mode.{Mode}
 use Rattle.amo_core.specs.declared.reply.Reply.TheVariants as reply
 use Rattle.amo_book.specs.Pass.{PassState, Answer, Grown, mine}
 use Rattle.amo_live.specs.Callers.{gets_in}
-use Rattle.amo_live.specs.Host.{HostState, Did, message_in, puts_in}
+use Rattle.amo_live.specs.Host.{HostState, Did, Looks, message_in, puts_in}
+use Rattle.amo_live.proofs.Repeating.{looks_still}
 
 -- a get that was answered with a message got it
 pub was_got : (v w : PassState) (stream : ℕ) (m : List ℕ) (answer : Answer) → Some m ≡ message_in answer → Grown v w Receiver stream act.Get answer → gets_in (mine w) ≡ (stream, m) ∷ gets_in (mine v)
@@ -51,3 +53,7 @@ resend_gets h g stream (Some mode) did = ap gets_in did.grown.mine_grew
 pub resend_puts : {L S : Type 0} (h g : HostState L S) (stream : ℕ) (mode : Option Mode) → Did h g stream act.Resend mode → puts_in (mine g.pass) ≡ puts_in (mine h.pass)
 resend_puts h g stream None did = ap (λ (p : PassState). puts_in (mine p)) did.0
 resend_puts h g stream (Some mode) did = ap puts_in did.grown.mine_grew
+
+-- nor does a look at an act get anything
+pub look_gets : {L S : Type 0} (h g : HostState L S) (stream : ℕ) (a : Act) (known : Bool) → Looks h g stream a known → gets_in (mine g.pass) ≡ gets_in (mine h.pass)
+look_gets h g stream a known looks = ap gets_in (looks_still h g stream a known looks)

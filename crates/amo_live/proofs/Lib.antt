@@ -22,3 +22,4 @@ pub mod Getting
 pub mod Doubting
 pub mod Keeping
 pub mod Listening
+pub mod Holding

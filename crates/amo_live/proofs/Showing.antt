@@ -279,12 +279,12 @@ shows_after spelling other u v w first second third spelt one two =
 pub shown_none : (spelling : Spelling) (v : PassState) (old : Told) (known : Option (List ℕ)) → IsShown spelling v v old old known known
 shown_none spelling v old known = record { written = []; appends = Appends-nil known; shows = shows_idle spelling v v old old refl refl }
 
--- all that was to be shown was shown
-pub shown_whole : (spelling : Spelling) (v w x : PassState) (old told new : Told) (before after : Option (List ℕ)) → x ≡ w → ShowsMore spelling v w old told → Appends before after told.text → new ≡ record { text = []; owed = told.owed } → IsShown spelling v x old new before after
-shown_whole spelling v w x old told new before after pass shows appends none = record {
-  written = told.text;
+-- of what was to be shown the front was shown
+pub shown_part : (spelling : Spelling) (v w x : PassState) (old told new : Told) (before after : Option (List ℕ)) (written : List ℕ) → x ≡ w → ShowsMore spelling v w old told → Appends before after written → told ≡ behind written new → IsShown spelling v x old new before after
+shown_part spelling v w x old told new before after written pass shows appends rest = record {
+  written = written;
   appends = appends;
-  shows = shows_as spelling spelling v w v x old told old (behind told.text new) refl refl pass refl (ap (behind told.text) none ∙ line_none told) shows;
+  shows = shows_as spelling spelling v w v x old told old (behind written new) refl refl pass refl (sym rest) shows;
 }
 
 -- behind what was shown before

@@ -19,6 +19,10 @@ abbrev pub gets_in : List Event → List (ℕ × List ℕ)
 gets_in [] = []
 gets_in (e ∷ past) = got_by e.stream e.act e.reply ++ gets_in past
 
+-- no message was got
+abbrev pub GetsNone : PassState → PassState → Type 0
+GetsNone v w = gets_in (mine w) ≡ gets_in (mine v)
+
 -- a message was got of a stream, once; or none was
 abbrev pub Gets : PassState → PassState → ℕ → Option (List ℕ × ℕ) → Type 0
 Gets v w stream None = gets_in (mine w) ≡ gets_in (mine v)

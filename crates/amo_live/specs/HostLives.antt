@@ -1,5 +1,5 @@
 -- The lives of a host, and the words of the last one.
-use Rattle.std.specs.Prelude.{◌≡◌, ◌≢◌, ℕ, ◌+◌, ◌⊎◌, Bool, false, Option, Some, None, List, [], ◌∷◌}
+use Rattle.std.specs.Prelude.{◌≡◌, ◌≢◌, ◌<◌, ℕ, ◌+◌, ◌⊎◌, Bool, false, Option, Some, None, List, [], ◌∷◌}
 use Rattle.std.specs.Io.KnownBytes.{Appends}
 use Rattle.amo_word.specs.Distinct.{AreDistinct, Progress, distinct_word}
 use Rattle.amo_lives.specs.Life.{line_text}
@@ -19,6 +19,15 @@ pub record HostLivesState (S : Type 0) : Type 0 where
 -- the lives that an opened file told of, if it had any heading
 abbrev pub found_in : OpenedLives → Option LivesState
 found_in opened = opened.lives
+
+-- a life of which nothing is known, from the first line on
+abbrev pub IsUnknown : List Life → Type 0
+IsUnknown [] = ⊥
+IsUnknown (life ∷ lives) = (life.first_line ≡ 0) × (life.boot ≡ None) × (life.sync ≡ false) × (lives ≡ [])
+
+-- of a file that begins beside a journal of so many lines: where it has any, such a life is told to have written them
+abbrev pub BeginsBehind : ℕ → List Life → Type 0
+BeginsBehind lines lives = (lines ≡ 0 → lives ≡ []) × (0 < lines → IsUnknown lives)
 
 -- the words that are to come
 abbrev pub to_come : Progress → ℕ → Option ℕ

@@ -1,5 +1,5 @@
 -- A host at work.
-use Rattle.std.specs.Prelude.{◌≡◌, ℕ, zero, suc, Bool, true, false, if◌then◌else◌, Option, Some, List, [], ◌∷◌, ◌++◌, get_or, length, map}
+use Rattle.std.specs.Prelude.{◌≡◌, ℕ, zero, suc, Bool, true, false, if◌then◌else◌, Option, Some, List, [], ◌∷◌, ◌++◌, get_or, slice_get, ◌<◌, ◌≢◌, ◌⊎◌, is_some, None, Contains, length, map}
 use Rattle.amo_object.specs.declared.step.End.{End}
 use Rattle.amo_object.specs.declared.step.End.TheVariants.{Sender, Receiver}
 use Rattle.amo_core.specs.declared.act.Act.{Act}
@@ -9,11 +9,14 @@ use Rattle.amo_core.specs.declared.mode.Mode.TheVariants as mode
 use Rattle.amo_journal.specs.declared.version.Version.{Version}
 use Rattle.amo_journal.specs.declared.version.Version.TheVariants.{One, Two}
 use Rattle.amo_book.specs.Pass.{PassState, mine}
-use Rattle.amo_host.specs.AtStream.{AreCalm}
+use Rattle.amo_host.specs.AtStream.{AreCalm, HasMode}
+use Rattle.amo_host.specs.Host as host
 use Rattle.amo_live.specs.Host.{puts_in}
 use Rattle.amo_live.specs.Shown.{Told}
 use Rattle.amo_live.specs.declared.lines.Spelling.{Spelling}
 use Rattle.amo_live.specs.declared.service.Lane.{Lane}
+use Rattle.amo_live.specs.declared.service.door.SenderLane.{SenderLane}
+use Rattle.amo_live.specs.declared.service.door.Settled.{Settled}
 use Rattle.amo_live.specs.declared.service.Service.{Service}
 use Rattle.amo_live.specs.declared.service.Setup.{Setup}
 use Rattle.amo_live.specs.Unanswered.{KeptLines}
@@ -30,6 +33,10 @@ shown_by service = record { text = service.shown.items; owed = service.ids }
 abbrev pub got_by : {L S W : Type 0} → Service L S W → ℕ
 got_by service = service.got
 
+-- the handshakes that ended since what is shown was cleared, in their order
+abbrev pub settled_by : {L S W : Type 0} → Service L S W → List Settled
+settled_by service = service.settled.items
+
 -- where its next words come from
 abbrev pub words_of : {L S W : Type 0} → Service L S W → W
 words_of service = service.words
@@ -43,6 +50,58 @@ abbrev pub Listened : {L S W : Type 0} → Service L S W → Service L S W → T
 Listened before after =
     (after.host ≡ record before.host { link = after.host.link }) × (streams_of after ≡ streams_of before) × (shown_by after ≡ shown_by before)
     × (after.setup ≡ before.setup) × (words_of after ≡ words_of before)
+
+-- a datagram waits to be taken that it heard while it listened
+abbrev pub has_come : {L S W : Type 0} → Service L S W → Bool
+has_come service = is_some service.come
+
+-- what is known of a stream at first: it has no messages
+abbrev pub nothing_known : Lane
+nothing_known = record { waiting = 0; began = 0; held = 0; owed = false; travelling = 0; last = None; in_doubt = false }
+
+-- what is known of a stream, from 1 on, if it is there
+abbrev pub lane_at : List Lane → ℕ → Option Lane
+lane_at lanes zero = None
+lane_at lanes (suc place) = slice_get lanes place
+
+abbrev pub lane_of : {L S W : Type 0} → Service L S W → ℕ → Option Lane
+lane_of service stream = lane_at service.lanes.items stream
+
+-- how a stream of a sender is of which this is known; one that is not there is as it was at first
+abbrev pub as_sender : Lane → SenderLane
+as_sender lane = record { waiting = lane.waiting; travelling = lane.travelling; owed = lane.owed; last = lane.last }
+
+abbrev pub sender_by : Option Lane → SenderLane
+sender_by None = as_sender nothing_known
+sender_by (Some lane) = as_sender lane
+
+abbrev pub sender_of : {L S W : Type 0} → Service L S W → ℕ → SenderLane
+sender_of service stream = sender_by (lane_of service stream)
+
+-- whether this is the mode of a receiver that holds messages
+abbrev pub is_rcvd : Option Mode → Bool
+is_rcvd (Some mode.Rcvd) = true
+is_rcvd _ = false
+
+-- how many messages have come and were not got, by what is known of a stream
+abbrev pub held_by : Option Lane → ℕ
+held_by None = 0
+held_by (Some lane) = lane.held
+
+abbrev pub held_of : {L S W : Type 0} → Service L S W → ℕ → ℕ
+held_of service stream = held_by (lane_of service stream)
+
+-- a message has come to a stream and was not got, and the stream's side is one that holds messages
+abbrev pub Holds : {L S W : Type 0} → Service L S W → ℕ → Type 0
+Holds service stream = (0 < held_of service stream) × HasMode service.host.pump.host stream mode.Rcvd
+
+-- the stream's side is not there, or is in another mode
+abbrev pub IsElsewhere : host.Host → ℕ → Type 0
+IsElsewhere h stream = (¬ (Contains (host.streams_of h.modes) stream)) ⊎ ((other : Mode) × HasMode h stream other × (other ≢ mode.Rcvd))
+
+-- no message has come that was not got, or the stream's side holds none
+abbrev pub HoldsNone : {L S W : Type 0} → Service L S W → ℕ → Type 0
+HoldsNone service stream = (held_of service stream ≡ 0) ⊎ IsElsewhere service.host.pump.host stream
 
 -- whether it is in doubt what became of an earlier message of a stream
 abbrev pub doubted : List Lane → ℕ → Bool

@@ -5,12 +5,15 @@ use std::fs::{self, Permissions};
 use std::io::{self, ErrorKind, Write};
 use std::net::Net;
 use std::os::fd::AsRawFd;
-use std::os::unix::fs::PermissionsExt;
+use std::os::unix::fs::{FileTypeExt, PermissionsExt};
 use std::os::unix::net::{UnixListener, UnixStream};
 use std::rt::Files;
 
-/// How many who ask are answered. The others see that the host is gone.
+/// How many who ask are held at once. The others wait where the system has them, and are answered at the end.
 const MOST_ASKERS: usize = 16;
+
+/// How many wait there at most, as the system has it at first.
+const MOST_WAITING: usize = 4096;
 
 /// Its owner alone may ask.
 const MODE: u32 = 0o600;
@@ -24,6 +27,8 @@ pub struct Bell {
     listener: Option<UnixListener>,
     askers: Vec<UnixStream>,
     rung: bool,
+    /// The system let no more askers in. They are waited for no longer, since it would tell of them again and again.
+    is_crowded: bool,
 }
 
 impl Bell {
@@ -33,6 +38,7 @@ impl Bell {
             listener: None,
             askers: Vec::new(alloc),
             rung: false,
+            is_crowded: false,
         }
     }
 
@@ -46,15 +52,21 @@ impl Bell {
             listener: Some(listener),
             askers: Vec::new(alloc),
             rung: false,
+            is_crowded: false,
         })
     }
 
     /// The number by which the system waits for it, or a negative one.
     pub fn number(&self) -> i32 {
         match &self.listener {
-            Some(listener) => listener.as_raw_fd(),
-            None => NOTHING,
+            Some(listener) if !self.is_full() => listener.as_raw_fd(),
+            _ => NOTHING,
         }
+    }
+
+    /// Whether those who come now wait for the end.
+    fn is_full(&self) -> bool {
+        self.is_crowded || self.askers.len() >= MOST_ASKERS
     }
 
     /// Whether somebody asked.
@@ -62,21 +74,26 @@ impl Bell {
         self.rung
     }
 
-    /// Hears who asks.
+    /// Hears who asks. Whoever comes asks, also where the process may open no more files, or where they have gone again.
     pub fn hear(&mut self) -> Result<(), AllocError> {
         let Some(listener) = &self.listener else {
             return Ok(());
         };
-        if let Ok((asker, _)) = listener.accept() {
-            self.rung = true;
-            if self.askers.len() < MOST_ASKERS {
+        match listener.accept() {
+            Ok((asker, _)) => {
+                self.rung = true;
                 self.askers.push(asker)?;
+            }
+            Err(error) if error.kind() == ErrorKind::WouldBlock => {}
+            Err(_) => {
+                self.rung = true;
+                self.is_crowded = true;
             }
         }
         Ok(())
     }
 
-    /// Tells those who asked how the host ended, by the digit of its status.
+    /// Tells those who asked how the host ended, by the digit of its status, and those who wait.
     pub fn answer(&mut self, ended: Ended) {
         let status = match ended {
             Ended::AtRest => b"0",
@@ -84,6 +101,16 @@ impl Bell {
             Ended::OnItsWay => b"5",
         };
         for asker in self.askers.iter_mut() {
+            let _ = asker.write_all(status.as_slice());
+        }
+        self.askers.clear();
+        let Some(listener) = &self.listener else {
+            return;
+        };
+        'waiting: for _asker in 0..MOST_WAITING {
+            let Ok((mut asker, _)) = listener.accept() else {
+                break;
+            };
             let _ = asker.write_all(status.as_slice());
         }
     }
@@ -103,10 +130,9 @@ fn listening<R: Files + Net>(rt: &R, path: &str) -> io::Result<UnixListener> {
     Ok(listener)
 }
 
-/// Removes what is at this path, unless it is a file or a folder.
+/// Removes what is at this path, if it is a socket.
 fn remove_socket<R: Files>(rt: &R, path: &str) -> io::Result<()> {
-    let found = fs::symlink_metadata(rt, path)?;
-    if found.is_file() || found.is_dir() || found.is_symlink() {
+    if !fs::symlink_metadata(rt, path)?.file_type().is_socket() {
         return Err(io::Error::from(ErrorKind::AddrInUse));
     }
     fs::remove_file(rt, path)

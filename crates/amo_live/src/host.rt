@@ -1,11 +1,12 @@
 //! A live host: how it opens, hears and sends.
-ghost use Rattle.std.specs.Prelude.{◌≡◌, ◌+◌, ◌<◌, ◌≤◌, [], IfNone, IfOk, IfSome, IsTrue, ◌↔◌, OnOk, OnErr, length, min, true};
+ghost use Rattle.std.specs.Prelude.{◌≡◌, ◌+◌, ◌<◌, ◌≤◌, [], Contains, IfNone, IfOk, IfSome, IsTrue, ◌↔◌, OnOk, OnErr, length, min, true};
 ghost use Rattle.amo_packet.specs.Packet.{body_of, packet_of};
 ghost use Rattle.amo_packet.specs.Grammar.{CanBeWritten, Spells};
 ghost use Rattle.amo_packet.specs.Stream.{IsStream};
 ghost use Rattle.amo_journal.specs.Version.{newest};
 ghost use Rattle.amo_book.specs.Book.{Each};
 ghost use Rattle.amo_host.specs.AtStream.{AreCalm, HasMode, IsDue, IsNextDue};
+ghost use Rattle.amo_host.specs.Host.{streams_of};
 ghost use Rattle.amo_live.specs.Emitted.{WasEmitted};
 ghost use Rattle.amo_live.specs.Host.{IsHost, IsNoted, IsOpened, sides_from};
 ghost use Rattle.amo_live.specs.Noted.{Holds, IsSameJournal};
@@ -138,9 +139,11 @@ impl<L: Link, S: Sink> Host<L, S> {
         self.journal.version()
     }
 
-    /// The number of the journal's next line when the last turn's lines were written down: so many are there, whatever becomes of this process.
-    pub fn safe_line(&self) -> u64 {
-        self.journal.safe_line()
+    /// How many lines its journal had when it was opened.
+    pub fn lines_before(&self) -> u64
+        ensures { result ≡ self.now.journal.first }
+    {
+        self.journal.lines_before()
     }
 
     /// How many bytes of lines its journal was handed.
@@ -176,7 +179,8 @@ impl<L: Link, S: Sink> Host<L, S> {
 
     /// The mode of this stream's side, as its last event left it, if the host has the stream.
     pub fn mode_of(&self, stream: u32) -> Option<Mode>
-        ensures { IfSome result (HasMode self.now.pump.host stream) }
+        ensures found { IfSome result (HasMode self.now.pump.host stream) }
+        ensures absent { IfNone result (¬ (Contains (streams_of self.now.pump.host.modes) stream)) }
     {
         self.pump.mode_of(stream)
     }

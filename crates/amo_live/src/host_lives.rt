@@ -1,5 +1,5 @@
 //! The words of a live host: each of its lives has some of its own, and a line in a file that outlives it.
-ghost use Rattle.std.specs.Prelude.{◌≡◌, None, true, IfOk, IfSome, IsNone, OnOk, ◌⊎◌};
+ghost use Rattle.std.specs.Prelude.{◌≡◌, None, IfOk, IfSome, IsNone, OnOk, ◌⊎◌};
 ghost use Rattle.std.specs.Io.KnownBytes.{Keeps};
 ghost use Rattle.amo_word.specs.Distinct.{AreDistinct};
 ghost use Rattle.amo_live.specs.HostLives.{BeginsLife, Draws, IsBehind, IsDrawn, to_come};
@@ -64,10 +64,10 @@ impl<S> HostLives<S> {
 
 impl<S: Durable> HostLives<S> {
     /// Begins one life more, whose next line in the journal has this number, and draws its first word. Its line is written before that, and put on
-    /// its disk where lines are to be there.
+    /// its disk, also where the journal is not: what a loss of power takes of the journal is told by the lives.
     pub fn begin_life(&mut self, next_line: u64) -> Result<u64, LiveFault>
         ensures life { OnOk result (BeginsLife S.written self.old self.new next_line) }
-        ensures on_disk { OnOk result (self.old.sync ≡ true → S.on_disk self.new.sink ≡ S.written self.new.sink) }
+        ensures on_disk { OnOk result (S.on_disk self.new.sink ≡ S.written self.new.sink) }
         ensures new { IfOk result (IsNew (IsDrawn self.old.lives self.old.words) (IsDrawn self.new.lives self.new.words)) }
         ensures stays { OnOk result (StaysDrawn (IsDrawn self.old.lives self.old.words) (IsDrawn self.new.lives self.new.words)) }
     {
@@ -85,7 +85,7 @@ impl<S: Durable> HostLives<S> {
         };
         self.words = None;
         let mut words = self.lives.begin(&mut self.room, life, &mut self.sink)?;
-        put_on_disk(&mut self.sink, self.sync)?;
+        put_on_disk(&mut self.sink)?;
         let Some(word) = next_nonzero(&mut words) else {
             unreachable!()
         };
@@ -106,15 +106,12 @@ impl<S: Durable> Lineage for HostLives<S> {
     }
 }
 
-/// Puts the lines on their disk, where they are to be there.
+/// Puts the lines on their disk.
 #[tactic(auto, using(crate::proofs::OwnWords::keeps_itself))]
-fn put_on_disk<S: Durable>(sink: &mut S, sync: bool) -> Result<(), LiveFault>
+fn put_on_disk<S: Durable>(sink: &mut S) -> Result<(), LiveFault>
     ensures kept { Keeps (S.written sink.old) (S.written sink.new) }
-    ensures on_disk { OnOk result (sync ≡ true → S.on_disk sink.new ≡ S.written sink.new) }
+    ensures on_disk { OnOk result (S.on_disk sink.new ≡ S.written sink.new) }
 {
-    if !sync {
-        return Ok(());
-    }
     match sink.sync() {
         Ok(()) => Ok(()),
         Err(_) => Err(LiveFault::Lives),

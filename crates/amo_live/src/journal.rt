@@ -25,8 +25,8 @@ pub struct Journal<S> {
     left: u64,
     /// How many bytes of lines it was handed.
     bytes: u64,
-    /// The number of the next line when all lines were handed on last: so many are there, whatever becomes of this process.
-    safe: u64,
+    /// How many lines it had when it was opened.
+    before: u64,
     opened: Snapshot<S>,
     first: Snapshot<u64>,
     is_new: Snapshot<bool>,
@@ -34,9 +34,12 @@ pub struct Journal<S> {
 }
 
 impl<S> Model for Journal<S> {
+    ghost use Rattle.std.specs.Prelude.{◌≡◌};
     ghost use Rattle.amo_live.specs.Noted.{JournalState, front_of};
 
     ghost Value = { JournalState S };
+
+    ghost invariant = { λ j. j.before ≡ j.first.value };
 
     ghost view = { λ j. record { version = j.version; sink = j.sink; next = j.next; left = j.left; opened = j.opened.value; first = j.first.value; front = front_of j.is_new.value j.version; standing = j.standing.value } };
 }
@@ -64,7 +67,7 @@ impl<S: Sink + Drop> Journal<S> {
             next: 0,
             left: 0,
             bytes: 0,
-            safe: 0,
+            before: 0,
             opened,
             first,
             is_new,
@@ -91,7 +94,7 @@ impl<S: Sink> Journal<S> {
             next: lines,
             left,
             bytes: 0,
-            safe: lines,
+            before: lines,
             opened,
             first,
             is_new,
@@ -113,9 +116,11 @@ impl<S: Sink> Journal<S> {
         self.next
     }
 
-    /// The number of the next line when all lines were handed on last.
-    pub fn safe_line(&self) -> u64 {
-        self.safe
+    /// How many lines it had when it was opened.
+    pub fn lines_before(&self) -> u64
+        ensures { result ≡ self.now.first }
+    {
+        self.before
     }
 
     /// How many bytes of lines it was handed since it was opened.
@@ -171,10 +176,7 @@ impl<S: Durable> Journal<S> {
         ensures holds { (history : List Event) → Holds S.written self.old history → Holds S.written self.new history }
     {
         match self.sink.flush() {
-            Ok(()) => {
-                self.safe = self.next;
-                Ok(())
-            }
+            Ok(()) => Ok(()),
             Err(_) => Err(LiveFault::Journal),
         }
     }
@@ -190,10 +192,7 @@ impl<S: Durable> Journal<S> {
         ensures holds { (history : List Event) → Holds S.written self.old history → Holds S.written self.new history }
     {
         match self.sink.sync() {
-            Ok(()) => {
-                self.safe = self.next;
-                Ok(())
-            }
+            Ok(()) => Ok(()),
             Err(_) => Err(LiveFault::Journal),
         }
     }

@@ -1,12 +1,12 @@
 //! The file of a host's lives: it is locked, read, cut behind its last whole line, and appended to.
-ghost use Rattle.std.specs.Prelude.{◌≡◌, ◌<◌, ◌≤◌, [], None, IfOk, IfSome, is_none};
+ghost use Rattle.std.specs.Prelude.{◌≡◌, ◌<◌, ◌≤◌, None, true, IfOk, IfSome, is_none};
 ghost use Rattle.amo_lives.specs.Lives.{reach};
-ghost use Rattle.amo_live.specs.HostLives.{found_in};
+ghost use Rattle.amo_live.specs.HostLives.{BeginsBehind, found_in};
 
 use crate::own_file::{open_alone, sync_entry};
 use crate::{Cause, Durable, HostLives, LivesOpenFault};
 use amo_disk::Disk;
-use amo_lives::{BeginFault, BootId, Lives, LivesFault};
+use amo_lives::{BeginFault, BootId, Life, Lives, LivesFault};
 use amo_object::End;
 use amo_word::ChaChaWords;
 use std::alloc::Global;
@@ -71,8 +71,9 @@ impl OpenedLives {
     }
 
     /// The lives of a host whose journal has so many lines, behind which its next lives are written into the file of this path. They are refused, and the
-    /// file is left as it is, where they are not those of such a journal. A new file gets its key, which the system draws, and its heading. Where it is
-    /// to be synced, it and the entry of its directory are on the disk then.
+    /// file is left as it is, where they are not those of such a journal. A new file gets its key, which the system draws, its heading, and behind a journal
+    /// that has lines a life of which nothing is known: what a loss of power took of these nobody can tell. Where it is to be synced, it and the entry of
+    /// its directory are on the disk then.
     ///
     /// The blank becomes the ledger in which contracts count failures. It takes no bytes.
     pub fn go_on<'a, R: Files<File = File> + RandomSource, L: Ledger>(
@@ -89,6 +90,7 @@ impl OpenedLives {
         requires parts { blank.parts ≡ L.parts }
         requires some { 0 < L.parts }
         ensures found { IfOk result (λ host. IfSome (found_in self) (λ lives. host.lives ≡ lives)) }
+        ensures begun { IfOk result (λ host. is_none (found_in self) ≡ true → BeginsBehind lines host.lives.lives) }
         ensures within { IfOk result (λ host. reach host.lives.lives ≤ lines) }
         ensures undrawn { IfOk result (λ host. (host.words ≡ None) × (host.sync ≡ sync)) }
     {
@@ -105,7 +107,14 @@ impl OpenedLives {
         let mut disk = Disk::new(file, cause, blank);
         let lives = match lives {
             Some(lives) => lives,
-            None => begin_file(rt, alloc, side, &mut disk, cause)?,
+            None => match begin_file(rt, alloc, side, lines, &mut disk, cause) {
+                Ok(lives) => lives,
+                Err(fault) => {
+                    // A heading without its life would say that nothing is doubtful: the next start begins anew.
+                    let _ = fs::create(rt, path);
+                    return Err(fault);
+                }
+            },
         };
         if sync {
             match disk.sync() {
@@ -119,20 +128,34 @@ impl OpenedLives {
     }
 }
 
-/// No lives yet, with a key that the system draws. The heading is written.
+/// The lives of a new file, with a key that the system draws. Its heading is written, and where the journal has lines also that of a life of which
+/// nothing is known: it wrote them, at whatever start of the machine.
 fn begin_file<R: RandomSource, L: Ledger>(
     rt: &R,
     alloc: Global,
     side: End,
+    lines: u64,
     disk: &mut Disk<'_, File, L>,
     cause: &Cell<Option<Cause>>,
 ) -> Result<Lives, LivesOpenFault>
-    ensures { IfOk result (λ lives. lives.lives ≡ []) }
+    ensures { IfOk result (λ lives. BeginsBehind lines lives.lives) }
 {
-    let lives = Lives::new(alloc, side, drawn(rt)?);
+    let mut lives = Lives::new(alloc, side, drawn(rt)?);
     let mut room = Vec::new(alloc);
-    match lives.write_heading(&mut room, disk) {
-        Ok(()) => Ok(lives),
+    if let Err(fault) = lives.write_heading(&mut room, disk) {
+        return Err(fault_of(fault, cause));
+    }
+    if lines == 0 {
+        return Ok(lives);
+    }
+    let unknown = Life {
+        tag: u32::from_le_bytes(drawn(rt)?),
+        first_line: 0,
+        boot: None,
+        sync: false,
+    };
+    match lives.begin(&mut room, unknown, disk) {
+        Ok(_words) => Ok(lives),
         Err(fault) => Err(fault_of(fault, cause)),
     }
 }

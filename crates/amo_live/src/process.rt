@@ -1,5 +1,5 @@
 //! A whole process, from the start of its host to its end.
-ghost use Rattle.std.specs.Prelude.{◌≡◌, ◌*◌, ◌≤◌, [], IfOk};
+ghost use Rattle.std.specs.Prelude.{◌≡◌, ◌*◌, ◌≤◌, [], true, IfOk};
 ghost use Rattle.amo_book.specs.Pass.{mine};
 ghost use Rattle.amo_disk.specs.Back.{returned};
 ghost use Rattle.amo_live.specs.Host.{IsNoted, first_events, sides_from};
@@ -17,7 +17,7 @@ use amo_journal::Version;
 use amo_net::Link;
 use amo_object::End;
 use amo_text::Sink;
-use std::alloc::Global;
+use std::alloc::{AllocError, Global};
 use std::io::{Read, Write};
 use std::os::fd::AsRawFd;
 use std::rt::Clock;
@@ -52,54 +52,58 @@ pub fn run_process<
     requires { (1 ≤ plan.setup.streams) × (plan.setup.streams ≤ 256) }
 {
     place.admit(plan.setup.batch)?;
-    let alloc = rt.alloc();
-    let desk = Desk {
+    let mut desk = desk_of(rt.alloc(), &plan.setup, reader, output, number, bell)?;
+    let mut service = start(
+        rt.alloc(),
+        plan.setup,
+        link,
+        sink,
+        place,
+        words,
+        plan.limits.sync,
+    )?;
+    work(rt, &mut service, &mut desk, plan.limits, in_doubt, keeper)
+}
+
+/// Where the clients of a host of this set-up are, of which nothing was read and to whom nothing was shown.
+fn desk_of<I: Read + AsRawFd + Drop, O: Write + AsRawFd + Drop>(
+    alloc: Global,
+    setup: &Setup,
+    reader: I,
+    output: O,
+    number: i32,
+    bell: Bell,
+) -> Result<Desk<I, O>, AllocError> {
+    Ok(Desk {
         reader_number: reader.as_raw_fd(),
         reader,
         output_number: output.as_raw_fd(),
-        takes_more: false,
+        room: 0,
         output,
         socket_number: number,
         input: Input::new(alloc)?,
-        spelling: plan.setup.spelling,
-        puts: plan.setup.side == End::Sender,
-        kept: Backlog::new(alloc, plan.setup.streams)?,
+        spelling: setup.spelling,
+        puts: setup.side == End::Sender,
+        kept: Backlog::new(alloc, setup.streams)?,
         bell,
-    };
-    work(
-        rt, alloc, plan, link, sink, place, words, desk, in_doubt, keeper,
-    )
+    })
 }
 
-/// Starts a host over this link, with a journal that goes on in this place, and makes its turns.
-fn work<
-    C: Clock + Eprint,
-    L: Link + Drop,
-    S: Durable + Drop,
-    W: Lineage + Drop,
-    I: Read + Drop,
-    O: Write + Drop,
-    K: Keeper<L, S, W>,
->(
+/// Makes the turns of a host that was started.
+fn work<C: Clock + Eprint, L: Link, S: Durable, W: Lineage, I: Read, O: Write, K: Keeper<L, S, W>>(
     rt: &C,
-    alloc: Global,
-    plan: Plan,
-    link: L,
-    sink: S,
-    place: Start,
-    words: W,
-    desk: Desk<I, O>,
+    service: &mut Service<L, S, W>,
+    desk: &mut Desk<I, O>,
+    limits: Limits,
     in_doubt: &[u32],
     keeper: &mut K,
 ) -> Result<Ended, ProcessFault>
-    requires { (1 ≤ plan.setup.streams) × (plan.setup.streams ≤ 256) }
+    requires { IsNoted S.written service.old.host }
 {
-    let mut desk = desk;
-    let mut service = start(alloc, plan.setup, link, sink, place, words)?;
     for stream in in_doubt {
         service.doubt(*stream);
     }
-    match serve(rt, &mut service, &mut desk, plan.limits, keeper) {
+    match serve(rt, service, desk, limits, keeper) {
         Ok(ended) => {
             desk.bell.answer(ended);
             Ok(ended)
@@ -112,7 +116,7 @@ fn work<
 }
 
 /// A host over this link, with a journal that goes on in this place. Where it has a line of an event, it is noted that each stream's side crashed
-/// and is up again. Where it has no line at all it is begun: its heading is written, before anything else.
+/// and is up again. Where it has no line at all it is begun: its heading is written, before anything else. With `sync` all that is on its disk.
 pub fn start<L: Link + Drop, S: Durable + Drop, W: Lineage + Drop>(
     alloc: Global,
     setup: Setup,
@@ -120,11 +124,13 @@ pub fn start<L: Link + Drop, S: Durable + Drop, W: Lineage + Drop>(
     sink: S,
     place: Start,
     words: W,
+    sync: bool,
 ) -> Result<Service<L, S, W>, LiveFault>
     requires { (1 ≤ setup.streams) × (setup.streams ≤ 256) }
     // The journal has all lines so far. It goes on in its version where it was read to the end, or begins with its heading. What it was handed
     // first tells of a crash of each side and its recovery, where it has a line of an event, and else of nothing.
     ensures noted { IfOk result (λ service. IsNoted S.written service.host) }
+    ensures on_disk { IfOk result (λ service. sync ≡ true → S.on_disk service.host.journal.sink ≡ S.written service.host.journal.sink) }
     ensures journal { IfOk result (λ service. IsSameJournal (opening (new_version setup) place.version place.lines (2 * standing_of place setup.streams) sink) service.host.journal) }
     // The first of these events have lines already, where the last lines are those by which the host before it came back.
     ensures standing { IfOk result (λ service. BeganSo (returned setup.side (standing_of place setup.streams)) (mine service.host.pass)) }
@@ -142,7 +148,7 @@ pub fn start<L: Link + Drop, S: Durable + Drop, W: Lineage + Drop>(
     if lines > 0 {
         host.come_back()?;
     }
-    host.write_down(false)?;
+    host.write_down(sync)?;
     Ok(Service::new(alloc, host, words, setup)?)
 }
 

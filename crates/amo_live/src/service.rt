@@ -1,5 +1,5 @@
 //! What a live host does with datagrams, times and its clients' messages.
-ghost use Rattle.std.specs.Prelude.{◌≡◌, ◌≢◌, ◌↔◌, ℕ, [], Some, true, IfNone, IfOk, IfSome, IsTrue, OnOk, is_some, length};
+ghost use Rattle.std.specs.Prelude.{◌≡◌, ◌≢◌, ◌≤◌, ◌↔◌, ℕ, [], Some, true, IfNone, IfOk, IfSome, IsTrue, OnOk, is_some, length, take};
 ghost use Rattle.amo_core.specs.declared.mode.Mode.TheVariants.{Quiet, Send};
 ghost use Rattle.amo_packet.specs.Packet.{body_of, packet_of};
 ghost use Rattle.amo_packet.specs.Grammar.{Spells, messages_of};
@@ -7,8 +7,8 @@ ghost use Rattle.amo_journal.specs.Version.{newest};
 ghost use Rattle.amo_live.specs.Backlog.{kept_on};
 ghost use Rattle.amo_live.specs.Client.{PutsNamed, has};
 ghost use Rattle.amo_live.specs.Host.{Delivered, Did, IsNoted};
-ghost use Rattle.amo_live.specs.Service.{IsAtRest, PutsNone, got_by, is_in_doubt, new_version, shown_by, spelling_of, start_of, starts_batches, streams_of, unanswered_by, words_of};
-ghost use Rattle.amo_live.specs.Shown.{BeginsWithPut, ShowsMore};
+ghost use Rattle.amo_live.specs.Service.{IsAtRest, PutsNone, got_by, is_in_doubt, lane_of, new_version, nothing_known, settled_by, shown_by, spelling_of, start_of, starts_batches, streams_of, unanswered_by, words_of};
+ghost use Rattle.amo_live.specs.Shown.{BeginsWithPut, ShowsMore, behind};
 ghost use Rattle.amo_live.specs.Words.{BearsNew, IsNew, StaysDrawn};
 
 mod door;
@@ -60,7 +60,9 @@ pub(crate) struct Lane {
 
 impl Lane {
     /// There are none.
-    fn new() -> Lane {
+    fn new() -> Lane
+        ensures { result ≡ nothing_known }
+    {
         Lane {
             waiting: 0,
             began: 0,
@@ -239,12 +241,30 @@ impl<L: Link, S: Sink, W: Lineage> Service<L, S, W> {
         ensures host { self.new.host ≡ self.old.host }
         ensures streams { streams_of self.new ≡ streams_of self.old }
         ensures shown { shown_by self.new ≡ record { text = []; owed = (shown_by self.old).owed } }
+        ensures settled { settled_by self.new ≡ [] }
         ensures words { words_of self.new ≡ words_of self.old }
         ensures spelling { spelling_of self.new ≡ spelling_of self.old }
     {
         self.shown.clear();
         self.settled.clear();
         self.unshown = None;
+    }
+
+    /// So many bytes of it were shown, from its beginning on: the rest is to be shown.
+    pub fn pass_shown(&mut self, count: usize)
+        requires { count ≤ length (shown_by self.old).text }
+        ensures host { self.new.host ≡ self.old.host }
+        ensures streams { streams_of self.new ≡ streams_of self.old }
+        ensures shown { shown_by self.old ≡ behind (take count (shown_by self.old).text) (shown_by self.new) }
+        ensures settled { settled_by self.new ≡ [] }
+        ensures words { words_of self.new ≡ words_of self.old }
+        ensures spelling { spelling_of self.new ≡ spelling_of self.old }
+    {
+        self.shown.drain(..count);
+        self.settled.clear();
+        if self.shown.is_empty() {
+            self.unshown = None;
+        }
     }
 
     /// Tells what was got and not shown.
@@ -318,6 +338,7 @@ impl<L: Link, S: Sink, W: Lineage> Service<L, S, W> {
     fn lane(&self, stream: u32) -> Option<Lane>
         ensures found { is_some result ≡ has (streams_of self.now) stream }
         ensures doubt { IfSome result (λ lane. lane.in_doubt ≡ is_in_doubt self.now stream) }
+        ensures known { result ≡ lane_of self.now stream }
     {
         let place = (stream as usize).checked_sub(1)?;
         self.lanes.get(place).copied()
@@ -483,7 +504,7 @@ impl<L: Link, S: Sink, W: Lineage> Service<L, S, W> {
         ensures words { OnOk result (BearsNew W.is_drawn (words_of self.old) (words_of self.new) self.old.host.pass self.new.host.pass) }
         ensures same { self.new ≡ record self.old { host = self.new.host; words = self.new.words } }
     {
-        let word = draw(&mut self.words, self.host.safe_line())?;
+        let word = draw(&mut self.words, self.host.lines_before())?;
         self.start(stream, word, now)
     }
 
@@ -606,7 +627,7 @@ impl<L: Link, S: Sink, W: Lineage> Service<L, S, W> {
         if self.closes || self.has_enough() {
             return Ok(None);
         }
-        let word = draw(&mut self.words, self.host.safe_line())?;
+        let word = draw(&mut self.words, self.host.lines_before())?;
         self.host.deliver(bytes, word, now)
     }
 
@@ -667,8 +688,8 @@ fn told_by_ack(before: Option<Mode>, after: Mode, end: Settled) -> u64
     }
 }
 
-/// The next word. Where this life has no more, another one begins: no line of the journal before this number bears one of its words. So many lines are there,
-/// or a host that dies now would leave a file of lives that tells of more.
+/// The next word. Where this life has no more, another one begins: no line of the journal before this number bears one of its words. So many were on the disk
+/// when it was opened: a file of lives that told of more could tell of lines that a loss of power takes, and would be refused beside what is left.
 #[tactic(auto, using(crate::proofs::Fresh::new_behind, crate::proofs::Fresh::stays_on))]
 fn draw<W: Lineage>(words: &mut W, line: u64) -> Result<u64, LiveFault>
     ensures new { IfOk result (IsNew (W.is_drawn words.old) (W.is_drawn words.new)) }

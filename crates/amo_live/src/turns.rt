@@ -1,10 +1,10 @@
 //! A live host's turns: it waits for its socket and its clients' lines, and does what has come.
-ghost use Rattle.std.specs.Prelude.{◌≡◌, ◌≢◌, ℕ, List, [], ◌∷◌, None, true, false, IfOk, OnOk};
+ghost use Rattle.std.specs.Prelude.{◌≡◌, ◌≢◌, ◌≤◌, ℕ, List, [], ◌∷◌, None, true, false, IfOk, OnOk, length, take};
 ghost use Rattle.std.specs.Io.KnownBytes.{Appends, Consumes};
 ghost use Rattle.amo_live.specs.Client.{Moves, Serves, Waits, is_torn, message_of, moment};
 ghost use Rattle.amo_live.specs.Host.{IsNoted};
 ghost use Rattle.amo_live.specs.Service.{Listened, shown_by, spelling_of, streams_of, words_of};
-ghost use Rattle.amo_live.specs.Shown.{IsRefusing, IsShown, ShowsMore};
+ghost use Rattle.amo_live.specs.Shown.{IsRefusing, IsShown, ShowsMore, behind};
 ghost use Rattle.amo_live.specs.Words.{BearsNew};
 ghost use Rattle.amo_live.specs.declared.turns.Ended.TheVariants.{AtRest};
 
@@ -62,8 +62,8 @@ pub struct Desk<I, O> {
     pub output: O,
     /// The number by which the system tells that nobody reads them any more.
     pub output_number: i32,
-    /// The system told that the output takes more, and nothing was shown since.
-    pub takes_more: bool,
+    /// How many bytes the output takes without a wait: the system told that it takes more, and so much was not shown since.
+    pub room: usize,
     /// The number by which the system waits for the host's socket.
     pub socket_number: i32,
     /// The lines that have come.
@@ -135,10 +135,13 @@ pub fn serve<
         } else {
             None
         };
-        let is_at_rest = service.is_at_rest() && !service.has_unread() && desk.keeps_none();
-        if let Some(ended) = limits.ending(is_at_rest, since, now) {
+        let is_shown = service.shown().is_empty() && !service.has_unread();
+        let is_at_rest = service.is_at_rest() && is_shown && desk.keeps_none();
+        let holds = desk.bell.was_rung() && service.figures().held > 0;
+        if let Some(ended) = limits.ending(is_at_rest, holds, since, now) {
             desk.tell_of_rest(rt);
             desk.tell_of_open(rt, ended, service.figures());
+            desk.tell_of_unread(rt, service.shown().len());
             stats.tell_last(rt, service, now);
             return Ok(desk.ended(ended));
         }
@@ -194,7 +197,8 @@ fn turn<C: Clock + Eprint, L: Link, S: Durable, W: Lineage, I: Read, O: Write>(
 }
 
 /// Shows what is to be shown, and hands the packets that are to leave to the link. Text goes first where it has messages or what became of them: no ack
-/// leaves before its message was shown. That lines were taken is shown behind their packets, which others wait for.
+/// leaves before its message was shown. That lines were taken is shown behind their packets, which others wait for. Answers that a sender's output does not
+/// take without a wait stay for a later turn.
 fn hand_out<L: Link, S: Durable, W: Lineage, I: Read, O: Write>(
     service: &mut Service<L, S, W>,
     desk: &mut Desk<I, O>,
@@ -207,15 +211,17 @@ fn hand_out<L: Link, S: Durable, W: Lineage, I: Read, O: Write>(
     ensures streams { streams_of service.new ≡ streams_of service.old }
     ensures words { words_of service.new ≡ words_of service.old }
     ensures spells { spelling_of service.new ≡ spelling_of service.old }
-    ensures shown { OnOk result (Appends (O.contents desk.old.output) (O.contents desk.new.output) (shown_by service.old).text) }
-    ensures cleared { OnOk result (shown_by service.new ≡ record { text = []; owed = (shown_by service.old).owed }) }
-    ensures same { desk.new ≡ record desk.old { output = desk.new.output; takes_more = desk.new.takes_more } }
+    // Of what was to be shown the front was, and the rest is to be shown.
+    ensures shown { OnOk result ((written : List ℕ) × Appends (O.contents desk.old.output) (O.contents desk.new.output) written × (shown_by service.old ≡ behind written (shown_by service.new))) }
+    // A receiver shows all.
+    ensures received { OnOk result (desk.old.puts ≡ false → Appends (O.contents desk.old.output) (O.contents desk.new.output) (shown_by service.old).text) }
+    ensures same { desk.new ≡ record desk.old { output = desk.new.output; room = desk.new.room } }
 {
     if !text_first {
         service.host.send();
     }
-    desk.show(service.shown())?;
-    service.clear_shown();
+    let count = desk.show(service.shown())?;
+    service.pass_shown(count);
     if text_first {
         service.host.send();
     }
@@ -435,17 +441,18 @@ impl Limits {
         Some(since?.saturating_add(limit))
     }
 
-    /// How the host ends, if it does now.
-    fn ending(&self, is_at_rest: bool, since: Option<u64>, now: u64) -> Option<Ended> {
+    /// How the host ends, if it does now. One that was asked to come to its end and holds messages which were not got does not end at rest.
+    fn ending(&self, is_at_rest: bool, holds: bool, since: Option<u64>, now: u64) -> Option<Ended> {
         if since.is_some() && is_at_rest {
             return Some(Ended::AtRest);
         }
         if now < self.end(since)? {
             return None;
         }
-        match self.wait {
-            Some(_) => Some(Ended::OnItsWay),
-            None => Some(Ended::AtRest),
+        if holds || self.wait.is_some() {
+            Some(Ended::OnItsWay)
+        } else {
+            Some(Ended::AtRest)
         }
     }
 
@@ -508,8 +515,17 @@ impl<I: Read, O: Write> Desk<I, O> {
         };
     }
 
-    /// Waits, also until messages that wait to be shown can be, and reads lines once where some have come, unless as many messages wait to be put as
-    /// may. A host that puts none reads nothing, and ends where nobody reads its messages any more. Answers how many datagrams are to be taken.
+    /// Tells how much of the answers nobody has read, at the end.
+    fn tell_of_unread<C: Eprint>(&self, rt: &C, bytes: usize) {
+        if bytes > 0 {
+            let _ = eprintln!(rt;
+                "amo: {bytes} bytes of answers could not be shown: `amo outcomes` tells what became of each message"
+            );
+        }
+    }
+
+    /// Waits, also until what waits to be shown can be, and reads lines once where some have come, unless as many messages wait to be put as may, or answers
+    /// to be shown. A host that puts none reads nothing, and ends where nobody reads its messages any more. Answers how many datagrams are to be taken.
     fn wait<C: Clock, L: Link, S: Sink, W: Lineage>(
         &mut self,
         rt: &C,
@@ -521,11 +537,12 @@ impl<I: Read, O: Write> Desk<I, O> {
         ensures waits { OnOk result ((bytes : List ℕ) × Consumes (I.remaining self.old.reader) (I.remaining self.new.reader) bytes × Waits self.old.input self.new.input bytes) }
         ensures same { self.new ≡ record self.old { reader = self.new.reader; input = self.new.input; bell = self.new.bell } }
     {
-        let reads = self.reads();
-        let what = self.waited(reads, service.has_unread());
+        let has_answers = self.puts && !service.shown().is_empty();
+        let reads = self.reads() && !has_answers;
+        let what = self.waited(reads, has_answers, service.has_unread());
         let ready = wait(rt, service, what, limit);
         let datagrams = datagrams_in(&ready);
-        if ready.is_gone {
+        if ready.is_gone && !self.puts {
             return Err(ServeFault::Gone);
         }
         if ready.bell {
@@ -545,27 +562,39 @@ impl<I: Read, O: Write> Desk<I, O> {
         self.puts && self.input.is_open() && !self.kept.is_full() && !self.bell.was_rung()
     }
 
-    /// What is waited for, where lines are read or not, and messages wait to be shown or not.
-    fn waited(&self, reads: bool, takes: bool) -> Waited {
+    /// What is waited for, where lines are read or not, answers wait to be shown or not, and messages do.
+    fn waited(&self, reads: bool, has_answers: bool, has_messages: bool) -> Waited {
         Waited {
             lines: if reads { self.reader_number } else { NOTHING },
             socket: self.socket_number,
-            output: if self.puts {
+            output: if self.puts && !has_answers {
                 NOTHING
             } else {
                 self.output_number
             },
-            takes,
+            takes: has_answers || has_messages,
             bell: self.bell.number(),
         }
     }
 
-    /// How many bytes of messages can be shown now without a wait. The system is asked only where something was shown since it was asked last.
+    /// How many bytes of messages can be shown now without a wait. The system is asked only where something was shown since it was asked last. A sender shows
+    /// none, and asks where it has answers.
     fn room(&mut self) -> usize
-        ensures { self.new ≡ record self.old { takes_more = self.new.takes_more } }
+        ensures { self.new ≡ record self.old { room = self.new.room } }
     {
-        self.takes_more = self.takes_more || self.puts || takes_more(self.output_number);
-        if self.takes_more { ROOM } else { 0 }
+        if !self.puts {
+            self.ask_room(1);
+        }
+        self.room
+    }
+
+    /// Asks the system whether the output takes more, where less room is known than for so many bytes.
+    fn ask_room(&mut self, wanted: usize)
+        ensures { self.new ≡ record self.old { room = self.new.room } }
+    {
+        if self.room < wanted && takes_more(self.output_number) {
+            self.room = ROOM;
+        }
     }
 
     /// How a host ended that ended so, by its last line too.
@@ -591,24 +620,50 @@ impl<I: Read, O: Write> Desk<I, O> {
         is_torn
     }
 
-    /// Shows these lines to the clients.
-    fn show(&mut self, shown: &[u8]) -> Result<(), ServeFault>
-        ensures same { self.new ≡ record self.old { output = self.new.output; takes_more = self.new.takes_more } }
-        ensures shown { OnOk result (Appends (O.contents self.old.output) (O.contents self.new.output) shown.now) }
+    /// Shows these lines to the clients: a receiver's all, for which room was asked before, and a sender's as far as the output takes them without a wait.
+    /// Answers how many bytes were shown.
+    fn show(&mut self, shown: &[u8]) -> Result<usize, ServeFault>
+        ensures same { self.new ≡ record self.old { output = self.new.output; room = self.new.room } }
+        ensures count { IfOk result (λ count. count ≤ length shown.now) }
+        ensures shown { IfOk result (λ count. Appends (O.contents self.old.output) (O.contents self.new.output) (take count shown.now)) }
+        ensures received { OnOk result (self.old.puts ≡ false → Appends (O.contents self.old.output) (O.contents self.new.output) shown.now) }
     {
         if shown.is_empty() {
-            return Ok(());
+            return Ok(0);
         }
-        self.takes_more = false;
-        match self.output.write_all(shown) {
+        let count = self.shown_now(shown);
+        match self.output.write_all(&shown[..count]) {
             Ok(()) => (),
             Err(error) => return Err(ServeFault::output(error)),
         }
         match self.output.flush() {
-            Ok(()) => Ok(()),
+            Ok(()) => Ok(count),
             Err(error) => Err(ServeFault::output(error)),
         }
     }
+
+    /// How many of these bytes are shown now: at a sender whole lines, as far as there is room for them. So much less room is known then, and at a receiver
+    /// none.
+    fn shown_now(&mut self, shown: &[u8]) -> usize
+        ensures same { self.new ≡ record self.old { room = self.new.room } }
+        ensures most { result ≤ length shown.now }
+        ensures received { self.old.puts ≡ false → result ≡ length shown.now }
+    {
+        if !self.puts {
+            self.room = 0;
+            return shown.len();
+        }
+        self.ask_room(shown.len());
+        let most = shown.len().min(self.room);
+        let count = match end_of_lines(&shown[..most]) {
+            // A line that is longer than that is shown in parts.
+            0 if self.room == ROOM => most,
+            end => end,
+        };
+        self.room -= count;
+        count
+    }
+
     /// Tells why the line that was taken last is none, at a host of so many streams.
     fn tell_refused<C: Eprint>(&self, rt: &C, fault: LineFault, streams: usize) {
         let line = self.input.lines();
@@ -618,6 +673,16 @@ impl<I: Read, O: Write> Desk<I, O> {
             }
             _ => eprintln!(rt; "amo: line {line}: {fault}"),
         };
+    }
+}
+
+/// How long the whole lines are that these bytes begin with.
+fn end_of_lines(bytes: &[u8]) -> usize
+    ensures { result ≤ length bytes.now }
+{
+    match bytes.iter().rposition(|byte| *byte == b'\n') {
+        Some(last) => last + 1,
+        None => 0,
     }
 }
 

@@ -1,8 +1,8 @@
 //! What callers are told by other means than what is shown: puts, gets, and how streams are.
-ghost use Rattle.std.specs.Prelude.{◌≡◌, length, IfOk, IfSome, OnOk};
+ghost use Rattle.std.specs.Prelude.{◌≡◌, ◌∷◌, ◌++◌, [], false, length, IfOk, IfSome, IsTrue, OnOk};
 ghost use Rattle.amo_live.specs.Callers.{Gets, PutsAt};
 ghost use Rattle.amo_live.specs.Host.{IsNoted};
-ghost use Rattle.amo_live.specs.Service.{PutsNone, streams_of, words_of};
+ghost use Rattle.amo_live.specs.Service.{Holds, HoldsNone, PutsNone, sender_of, settled_by, streams_of, words_of};
 ghost use Rattle.amo_live.specs.Words.{BearsNew};
 
 use crate::service::getting::is_rcvd;
@@ -54,7 +54,9 @@ pub struct Settled {
 
 impl<L: Link, S: Sink, W: Lineage> Service<L, S, W> {
     /// The handshakes that ended since what is shown was cleared, in their order.
-    pub fn settled(&self) -> &[Settled] {
+    pub fn settled(&self) -> &[Settled]
+        ensures { result.now ≡ settled_by self.now }
+    {
         self.settled.as_slice()
     }
 
@@ -79,7 +81,8 @@ impl<L: Link, S: Sink, W: Lineage> Service<L, S, W> {
 
     /// A handshake ended so.
     pub(crate) fn note_settled(&mut self, settled: Settled) -> Result<(), AllocError>
-        ensures { self.new ≡ record self.old { settled = self.new.settled } }
+        ensures same { self.new ≡ record self.old { settled = self.new.settled } }
+        ensures noted { OnOk result (settled_by self.new ≡ settled_by self.old ++ (settled ∷ [])) }
     {
         match self.settled.push(settled) {
             Ok(()) => Ok(()),
@@ -88,7 +91,9 @@ impl<L: Link, S: Sink, W: Lineage> Service<L, S, W> {
     }
 
     /// How a stream of a sender is. One that the host has not is as it was at first.
-    pub fn sender_lane(&self, stream: u32) -> SenderLane {
+    pub fn sender_lane(&self, stream: u32) -> SenderLane
+        ensures { result ≡ sender_of self.now stream }
+    {
         let lane = match self.lane(stream) {
             Some(lane) => lane,
             None => Lane::new(),
@@ -102,7 +107,10 @@ impl<L: Link, S: Sink, W: Lineage> Service<L, S, W> {
     }
 
     /// Whether a message has come to a stream and was not got.
-    pub fn holds(&self, stream: u32) -> bool {
+    pub fn holds(&self, stream: u32) -> bool
+        ensures yes { IsTrue result → Holds self.now stream }
+        ensures no { result ≡ false → HoldsNone self.now stream }
+    {
         match self.lane(stream) {
             Some(lane) => lane.held > 0 && is_rcvd(self.host.mode_of(stream)),
             None => false,

@@ -2,6 +2,7 @@
 ghost use Rattle.std.specs.Prelude.{◌≡◌, ◌↔◌, Contains, IsTrue, OnOk};
 ghost use Rattle.amo_host.specs.AtStream.{IsNextDue};
 ghost use Rattle.amo_host.specs.Host as host;
+ghost use Rattle.amo_live.specs.Callers.{GetsNone};
 ghost use Rattle.amo_live.specs.Due.{HasDue, NoneDue, SendsAgain, SendsDue};
 ghost use Rattle.amo_live.specs.Host.{IsNoted};
 ghost use Rattle.amo_live.specs.Service.{PutsNone, shown_by, spelling_of, streams_of, words_of};
@@ -41,6 +42,7 @@ impl<L: Link, S: Sink, W: Lineage> Service<L, S, W> {
         ensures shown { OnOk result (ShowsMore (spelling_of self.old) self.old.host.pass self.new.host.pass (shown_by self.old) (shown_by self.new)) }
         ensures spelling { spelling_of self.new ≡ spelling_of self.old }
         ensures words { OnOk result (BearsNew W.is_drawn (words_of self.old) (words_of self.new) self.old.host.pass self.new.host.pass) }
+        ensures none_got { OnOk result (GetsNone self.old.host.pass self.new.host.pass) }
         ensures due { OnOk result (SendsDue now self.old.host self.new.host) }
         ensures none_due { OnOk result (NoneDue now self.old.host self.new.host) }
     {
@@ -67,6 +69,7 @@ impl<L: Link, S: Sink, W: Lineage> Service<L, S, W> {
         ensures shown { OnOk result (ShowsMore (spelling_of self.old) self.old.host.pass self.new.host.pass (shown_by self.old) (shown_by self.new)) }
         ensures spelling { spelling_of self.new ≡ spelling_of self.old }
         ensures words { OnOk result (BearsNew W.is_drawn (words_of self.old) (words_of self.new) self.old.host.pass self.new.host.pass) }
+        ensures none_got { OnOk result (GetsNone self.old.host.pass self.new.host.pass) }
         ensures again { OnOk result (Contains (host.streams_of self.old.host.pump.host.modes) stream → SendsAgain now self.old.host self.new.host stream) }
     {
         if self.host.repeat(stream, now)? {

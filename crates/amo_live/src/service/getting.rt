@@ -1,7 +1,7 @@
 //! What a receiver gets, and when: a message only where there is room to show it.
 ghost use Rattle.std.specs.Prelude.{◌≡◌, OnOk};
 ghost use Rattle.amo_live.specs.Host.{IsNoted};
-ghost use Rattle.amo_live.specs.Service.{PutsNone, shown_by, spelling_of, streams_of, words_of};
+ghost use Rattle.amo_live.specs.Service.{PutsNone, is_rcvd, shown_by, spelling_of, streams_of, words_of};
 ghost use Rattle.amo_live.specs.Shown.{ShowsMore};
 ghost use Rattle.amo_live.specs.Words.{BearsNew};
 
@@ -131,6 +131,8 @@ impl<L: Link, S: Sink, W: Lineage> Service<L, S, W> {
 }
 
 /// Whether this is the mode of a receiver that holds messages.
-pub(crate) fn is_rcvd(mode: Option<Mode>) -> bool {
+pub(crate) fn is_rcvd(mode: Option<Mode>) -> bool
+    ensures { result ≡ is_rcvd mode }
+{
     matches!(mode, Some(Mode::Rcvd))
 }

@@ -1,7 +1,7 @@
 //! How a live host hears: it listens while it waits, and takes the datagrams that have come.
-ghost use Rattle.std.specs.Prelude.{◌≡◌, ◌≤◌, IfSome, OnOk};
+ghost use Rattle.std.specs.Prelude.{◌≡◌, ◌≤◌, IfSome, OnOk, Some, false, min};
 ghost use Rattle.amo_live.specs.Host.{IsNoted};
-ghost use Rattle.amo_live.specs.Service.{Listened, PutsNone, shown_by, spelling_of, streams_of, words_of};
+ghost use Rattle.amo_live.specs.Service.{Listened, PutsNone, has_come, shown_by, spelling_of, streams_of, words_of};
 ghost use Rattle.amo_live.specs.Shown.{ShowsMore};
 ghost use Rattle.amo_live.specs.Words.{BearsNew};
 
@@ -102,6 +102,9 @@ impl<L: Link, S: Sink, W: Lineage> Service<L, S, W> {
     fn next_datagram(&mut self, buffer: &mut [u8; MAX_DATAGRAM]) -> Option<usize>
         ensures within { IfSome result (λ n. n ≤ MAX_DATAGRAM) }
         ensures listened { Listened self.old self.new }
+        ensures waited { IfSome self.old.come (λ n. (result ≡ Some (min n MAX_DATAGRAM)) × (self.new.host ≡ self.old.host)) }
+        ensures none_waits { has_come self.new ≡ false }
+        ensures same { self.new ≡ record self.old { host = self.new.host; come = self.new.come } }
     {
         match self.come.take() {
             Some(length) => Some(length.min(MAX_DATAGRAM)),
@@ -111,7 +114,9 @@ impl<L: Link, S: Sink, W: Lineage> Service<L, S, W> {
 
     /// Looks so many times whether a datagram has come. One that has waits to be taken. Before it took one it has no room for any, and does not look.
     pub fn listen(&mut self, looks: u32) -> bool
-        ensures { Listened self.old self.new }
+        ensures listened { Listened self.old self.new }
+        ensures come { result ≡ has_come self.new }
+        ensures same { self.new ≡ record self.old { host = self.new.host; come = self.new.come; datagram = self.new.datagram } }
     {
         if self.come.is_some() {
             return true;
@@ -125,13 +130,16 @@ impl<L: Link, S: Sink, W: Lineage> Service<L, S, W> {
     }
 
     /// Whether a datagram waits to be taken that it heard while it listened.
-    pub fn has_come(&self) -> bool {
+    pub fn has_come(&self) -> bool
+        ensures { result ≡ has_come self.now }
+    {
         self.come.is_some()
     }
 
     /// The length of the datagram that has come at one of so many looks, if one has.
     fn heard_within(&mut self, buffer: &mut [u8; MAX_DATAGRAM], looks: u32) -> Option<usize>
-        ensures { Listened self.old self.new }
+        ensures listened { Listened self.old self.new }
+        ensures same { self.new ≡ record self.old { host = self.new.host } }
     {
         'looks: for _look in 0..looks {
             if let Some(length) = self.host.hear(buffer) {

@@ -5,4 +5,4 @@ pub rounds-init : goal.rounds-init
 rounds-init g c = listened_none c.args.service.now
 
 pub rounds-preserved : goal.rounds-preserved
-rounds-preserved g c = listened_on c.args.service.now c.rounds.service c.listen.new.self c.rounds.invariant c.listen.ensures
+rounds-preserved g c = listened_on c.args.service.now c.rounds.service c.listen.new.self c.rounds.invariant c.listen.ensures.listened

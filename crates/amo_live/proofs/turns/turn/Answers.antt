@@ -6,7 +6,7 @@ use Rattle.amo_live.specs.Host.{HostState, puts_in}
 use Rattle.amo_live.specs.Service.{shown_by, spelling_of, streams_of, words_of}
 use Rattle.amo_live.specs.declared.service.Setup.{Setup}
 use Rattle.amo_live.proofs.Fresh.{bears_as, bears_on}
-use Rattle.amo_live.proofs.Showing.{shown_whole, shows_after, shows_as}
+use Rattle.amo_live.proofs.Showing.{shown_part, shows_after, shows_as}
 use Rattle.amo_live.proofs.Conserving.{serves_as, turn_over}
 use Rattle.amo_live.proofs.turns.turn.Goals as goal
 
@@ -53,9 +53,10 @@ returns-clause-shown g c =
     let to_lines = shows_after spelling (spelling_of c.resend.new.self) v c.resend.new.self.host.pass c.take_lines.new.service.host.pass old resent taken spells to_resend c.in_ok-take_lines.ensures.shown in
     let synced : c.write_down.new.self.pass ≡ c.take_lines.new.service.host.pass = ap (λ (t : HostState g.row.L.Denot g.row.S.Denot). t.pass) c.in_ok-write_down.ensures.same in
     let sent : c.hand_out.new.service.host.pass ≡ c.write_down.new.self.pass = search rules in
-    let appends : Appends (g.O.Write.contents c.args.desk.now.output) (g.O.Write.contents c.hand_out.new.desk.output) taken.text = search rules in
-    shown_whole spelling v c.take_lines.new.service.host.pass c.hand_out.new.service.host.pass old taken (shown_by c.hand_out.new.service) (g.O.Write.contents c.args.desk.now.output) (g.O.Write.contents c.hand_out.new.desk.output)
-    (sent ∙ synced) to_lines appends c.in_ok-hand_out.ensures.cleared
+    let shown = c.in_ok-hand_out.ensures.shown in
+    let appends : Appends (g.O.Write.contents c.args.desk.now.output) (g.O.Write.contents c.hand_out.new.desk.output) shown.0 = search rules in
+    shown_part spelling v c.take_lines.new.service.host.pass c.hand_out.new.service.host.pass old taken (shown_by c.hand_out.new.service) (g.O.Write.contents c.args.desk.now.output) (g.O.Write.contents c.hand_out.new.desk.output)
+    shown.0 (sent ∙ synced) to_lines appends shown.2
 
 pub returns-clause-words : goal.returns-clause-words
 returns-clause-words g c =

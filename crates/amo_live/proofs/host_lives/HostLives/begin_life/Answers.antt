@@ -30,7 +30,7 @@ returns-clause-life g c =
     })
 
 pub returns-clause-on_disk : goal.returns-clause-on_disk
-returns-clause-on_disk g c = λ is. c.in_ok-put_on_disk.ensures.on_disk (ap (λ (h : HostLivesState g.row.S.Denot). h.sync) c.self.view_is ∙ is)
+returns-clause-on_disk g c = c.in_ok-put_on_disk.ensures.on_disk
 
 pub returns-clause-new : goal.returns-clause-new
 returns-clause-new g c =

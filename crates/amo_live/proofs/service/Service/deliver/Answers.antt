@@ -20,8 +20,8 @@ returns-clause-shown g c =
     let spelt : spelling_of c.deliver_anew.new.self ≡ spelling_of c.args.self.now = search rules in
     delivered_then c.args.self.now.host c.deliver_anew.new.self.host c.go_on.result (spelling_of c.args.self.now) (spelling_of c.arrive.new.self) c.args.bytes.now (packet_of c.in-Ok.packet) did.0 c.in-Some.stream c.in-Some.mode (is_in_doubt c.deliver_anew.new.self c.in-Some.stream && begins_to_send c.mode_of-before.result c.in-Some.mode) c.told_by_ack.result
     c.arrive.new.self.host.pass c.go_on.new.self.host.pass (shown_by c.args.self.now) (shown_by c.arrive.new.self) (shown_by c.go_on.new.self) c.in-Ok.ensures.found (rw c.in-Some.is at did.1)
-    (λ some. let known = said_to_send (is_in_doubt c.deliver_anew.new.self c.in-Some.stream) c.mode_of-before.result c.in-Some.mode some in (rw known.0 at c.mode_of-before.ensures, known.1))
-    (λ some. let known = c.told_by_ack.ensures some in (rw known.0 at c.mode_of-before.ensures, known.1)) pass (same ∙ (rw spoken at c.in_ok-tell_ack.ensures.told ∙ ap (told_ack (spelling_of c.args.self.now) c.in-Ok.packet.stream (packet_of c.in-Ok.packet).body c.told_by_ack.result) (rw (shown, spelt) at c.in_ok-tell_settled.ensures.told))) spelling
+    (λ some. let known = said_to_send (is_in_doubt c.deliver_anew.new.self c.in-Some.stream) c.mode_of-before.result c.in-Some.mode some in (rw known.0 at c.mode_of-before.ensures.found, known.1))
+    (λ some. let known = c.told_by_ack.ensures some in (rw known.0 at c.mode_of-before.ensures.found, known.1)) pass (same ∙ (rw spoken at c.in_ok-tell_ack.ensures.told ∙ ap (told_ack (spelling_of c.args.self.now) c.in-Ok.packet.stream (packet_of c.in-Ok.packet).body c.told_by_ack.result) (rw (shown, spelt) at c.in_ok-tell_settled.ensures.told))) spelling
     c.go_on.ensures.shown
 
 pub returns-clause-words : goal.returns-clause-words

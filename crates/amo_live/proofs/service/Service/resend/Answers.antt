@@ -24,6 +24,7 @@ streams-init g c =
     record {
       noted = c.requires;
       none_put = refl;
+      none_got = refl;
       streams = refl;
       shown = shows_idle (spelling_of old) old.host.pass old.host.pass (shown_by old) (shown_by old) refl refl;
       spelling = refl;
@@ -75,6 +76,7 @@ streams-preserved g c =
     record {
       noted = elim c.if-is_due.branch [ then-is_due+in_ok-send_again w ↦ search rules | else-is_due w ↦ search rules ];
       none_put = elim c.if-is_due.branch [ then-is_due+in_ok-send_again w ↦ search rules | else-is_due w ↦ search rules ];
+      none_got = elim c.if-is_due.branch [ then-is_due+in_ok-send_again w ↦ search rules | else-is_due w ↦ search rules ];
       streams = elim c.if-is_due.branch [ then-is_due+in_ok-send_again w ↦ search rules | else-is_due w ↦ search rules ];
       shown = shown;
       words = words;

@@ -1,7 +1,8 @@
-use Rattle.std.proofs.Common.{refl}
+use Rattle.std.proofs.Common.{◌∙◌, refl}
 use Rattle.amo_core.specs.declared.act.Act.TheVariants as act
 use Rattle.amo_live.specs.Service.{shown_by, spelling_of}
 use Rattle.amo_live.proofs.Dues.{again_known, again_unknown}
+use Rattle.amo_live.proofs.Getting.{look_gets, resend_gets}
 use Rattle.amo_live.proofs.Showing.{look_shows, resend_shows, shows_on}
 use Rattle.amo_live.proofs.service.Service.send_again.Goals as goal
 
@@ -20,3 +21,11 @@ pub returns-in-Some-clause-again : goal.returns-in-Some-clause-again
 returns-in-Some-clause-again g c = λ contains.
     again_unknown c.args.now c.args.self.now.host c.repeat.new.self c.resend.new.self c.args.stream c.in_ok-repeat.field-0 c.in_ok-resend.field-0 _ c.if-branch.false c.in-Some.is c.repeat.ensures.stays.side c.resend.ensures.stays.side
     (c.in_ok-repeat.ensures.timed contains) c.in_ok-repeat.ensures.looks c.in_ok-resend.ensures.did c.in_ok-resend.ensures.resent
+
+pub returns-then-branch-clause-none_got : goal.returns-then-branch-clause-none_got
+returns-then-branch-clause-none_got g c = look_gets c.args.self.now.host c.repeat.new.self c.args.stream act.Resend c.in_ok-repeat.field-0 c.in_ok-repeat.ensures.looks
+
+pub returns-in-Some-clause-none_got : goal.returns-in-Some-clause-none_got
+returns-in-Some-clause-none_got g c =
+    resend_gets c.repeat.new.self c.resend.new.self c.args.stream c.in_ok-resend.field-0 c.in_ok-resend.ensures.did
+    ∙ look_gets c.args.self.now.host c.repeat.new.self c.args.stream act.Resend c.in_ok-repeat.field-0 c.in_ok-repeat.ensures.looks
