@@ -2,3 +2,4 @@ pub mod Served
 mod Reading
 mod Lanes
 mod Pasts
+mod Endings

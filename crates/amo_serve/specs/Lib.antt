@@ -6,3 +6,6 @@ pub mod Reign
 pub mod Past
 pub mod Archive
 pub mod Ending
+pub mod Handshakes
+pub mod Waiting
+pub mod States

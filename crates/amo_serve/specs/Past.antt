@@ -1,5 +1,5 @@
 -- What became of the messages of a sender's earlier lives.
-use Rattle.std.specs.Prelude.{◌≡◌, ℕ, ◌+◌, Bool, true, false, Option, Some, None, List, [], ◌++◌, length, map, slice_get, ◌⊎◌}
+use Rattle.std.specs.Prelude.{◌≡◌, ℕ, ◌+◌, Bool, true, false, Option, Some, None, List, [], ◌++◌, length, map, slice_get}
 use Rattle.amo_door.specs.declared.answer.Fate.{Fate}
 use Rattle.amo_door.specs.declared.answer.Fate.TheVariants as fate
 use Rattle.amo_journal.specs.declared.numbered.Numbered.{Numbered}
@@ -11,7 +11,7 @@ use Rattle.amo_world.specs.declared.event.Event.{Event}
 use Rattle.amo_world.specs.History.{IsRight}
 use Rattle.amo_serve.specs.declared.lane.Lane.{Lane}
 use Rattle.amo_serve.specs.declared.past.Past.{Past}
-use Rattle.amo_serve.specs.Fates.{fate_of}
+use Rattle.amo_serve.specs.Fates.{fate_of, fate_of_none}
 use Rattle.amo_serve.specs.Lane.{message_of, owners_in}
 use Rattle.amo_serve.specs.Records.{AreFromFirst, BeginsWith, newest_number}
 use Rattle.amo_serve.specs.Reign.{owners_of, reign_after}
@@ -44,11 +44,12 @@ pub data TellsPut (stream : ℕ) (lines : List Numbered) (put : ℕ) (doubtful :
   IsUnknown : what ≡ fate.Unknown → TellsPut stream lines put doubtful what
   IsTold : (outcome : SenderOutcome) → (IsRight (events_of lines) → HasSenderOutcome stream (events_of lines) put outcome) → what ≡ fate_of outcome doubtful → TellsPut stream lines put doubtful what
 
--- what is told of a message: it was never put, or this is told of the put that it is. Where a loss of power may have taken its line that is unknown.
-abbrev pub TellsMessage : ℕ → List Numbered → Option (ℕ × Bool) → Fate → Type 0
-TellsMessage stream lines None what = (what ≡ fate.Never) ⊎ (what ≡ fate.Unknown)
-TellsMessage stream lines (Some (put, doubtful)) what = TellsPut stream lines put doubtful what
+-- what is told of a message: this, where no line tells of it; or what is told of the put that it is
+abbrev pub TellsMessage : Fate → ℕ → List Numbered → Option (ℕ × Bool) → Fate → Type 0
+TellsMessage untold stream lines None what = what ≡ untold
+TellsMessage untold stream lines (Some (put, doubtful)) what = TellsPut stream lines put doubtful what
 
 -- what is told of the message of a number that a life put on a stream, by these lines
 abbrev pub TellsFate : Past → ℕ → ℕ → ℕ → List Numbered → Fate → Type 0
-TellsFate past life stream number lines what = TellsMessage stream lines (message_of life number (owners_of past.lives.items past.doubts.items stream lines)) what
+TellsFate past life stream number lines what =
+    TellsMessage (fate_of_none past.doubts.items (slice_get past.lives.items life)) stream lines (message_of life number (owners_of past.lives.items past.doubts.items stream lines)) what

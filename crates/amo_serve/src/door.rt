@@ -1,5 +1,7 @@
 //! The door: a listener, and the clients that came through it.
+ghost use Rattle.std.specs.Prelude.{◌≡◌, ◌++◌, ◌∷◌, [], OnOk, pos};
 ghost use Rattle.amo_live.specs.Service.{Listened};
+ghost use Rattle.amo_serve.specs.Waiting.{milliseconds_until};
 
 use crate::DoorFault;
 use crate::client::Client;
@@ -409,7 +411,9 @@ fn watched(number: i32) -> pollfd {
 }
 
 /// Puts a value at a list's end.
-pub(crate) fn push<T: Drop>(list: &mut Vec<T>, value: T) -> Result<(), AllocError> {
+pub(crate) fn push<T: Drop>(list: &mut Vec<T>, value: T) -> Result<(), AllocError>
+    ensures { OnOk result (list.new.items ≡ list.old.items ++ value ∷ []) }
+{
     match list.push(value) {
         Ok(()) => Ok(()),
         Err(AllocFailed { .. }) => Err(AllocError),
@@ -417,7 +421,9 @@ pub(crate) fn push<T: Drop>(list: &mut Vec<T>, value: T) -> Result<(), AllocErro
 }
 
 /// How many milliseconds there are until a time, rounded up, as the system counts them.
-fn milliseconds(until: u64, now: u64) -> i32 {
+fn milliseconds(until: u64, now: u64) -> i32
+    ensures { result ≡ pos (milliseconds_until until now) }
+{
     let left = until.saturating_sub(now).min(LONGEST);
     left.div_ceil(1000) as i32
 }

@@ -40,7 +40,7 @@ form button { font: inherit; padding: .25rem .8rem; }
 <div id="grid"></div>
 <h2 id="name"></h2>
 <dl id="detail"></dl>
-<form id="put" hidden><input id="text" maxlength="1024" aria-label="Message" placeholder="Message, 1,024 bytes at most"><button>Put</button></form>
+<form id="put" hidden><input id="text" required maxlength="1024" aria-label="Message" placeholder="Message, 1,024 bytes at most"><button>Put</button></form>
 <form id="take" hidden><button>Take the next message</button></form>
 <p id="told" role="status"></p>
 <div id="chart"></div>
@@ -63,13 +63,13 @@ async function ask(path, options) {
   if (answer.status === 204) return null;
   const is_json = (answer.headers.get("content-type") || "").startsWith("application/json");
   const body = is_json ? await answer.json() : await answer.text();
-  if (!answer.ok) throw Object.assign(new Error(body.text || "status " + answer.status), { status: answer.status, word: body.error });
+  if (!answer.ok) throw Object.assign(new Error(body.text || "status " + answer.status), { status: answer.status, word: body.error, put: body.put });
   return { body, answer };
 }
 
-// A call is kept until it is answered, also over a reload, so that what is asked again is the same call: that puts and takes nothing twice.
+// A call is kept until the host itself has answered it, also over a reload, so that what is asked again is the same call: that puts and takes nothing twice.
 async function once(kind, method, learn) {
-  const call = kept(kind) || await learn();
+  const before = kept(kind), call = before || await learn();
   sessionStorage.setItem(kind, JSON.stringify(call));
   for (let tries = 1; ; tries += 1) {
     try {
@@ -77,9 +77,9 @@ async function once(kind, method, learn) {
       sessionStorage.removeItem(kind);
       return { call, told };
     } catch (fault) {
-      // Of a host that is crowded or hears slowly nothing is known.
-      if (fault.status && fault.status !== 408 && (fault.status !== 503 || fault.word === "full")) sessionStorage.removeItem(kind);
-      if (fault.status || tries === 3) throw Object.assign(fault, { call });
+      // Of a host that is crowded or hears slowly nothing is known, nor by what answers in its place.
+      if (fault.word && fault.status !== 408 && (fault.status !== 503 || fault.word === "full")) sessionStorage.removeItem(kind);
+      if (fault.status || tries === 3) throw Object.assign(fault, { call, is_again: !!before || tries > 1 });
       await pause(500);
     }
   }
@@ -152,16 +152,31 @@ function show_kept() {
 async function earlier(call) {
   const { body } = await ask("/v1/streams/" + call.stream + "/messages/" + call.number + "?life=" + call.life).catch(() => ({ body: {} }));
   const fates = { never: "was never put, and may be put again", gone: "is gone, and may be put again", got: "was got", open: "is on its way" };
-  const fate = fates[body.outcome] || (body.outcome ? "was put, and was got or is lost" : "may have been put, which amo outcomes JOURNAL tells");
-  return "The host was started again. Message " + call.number + " of stream " + call.stream + " in its life before " + fate + ".";
+  const fate = fates[body.outcome] || (body.outcome ? "may have been put and got" : "may have been put, which amo outcomes JOURNAL tells");
+  return "The host was started again. Message " + call.number + " of stream " + call.stream + " in its life before, unless another program put it, " + fate + ".";
 }
 
-at("put").addEventListener("submit", async event => {
+// What became of a put that the host refused. One that was asked for before may have been put then.
+async function refused({ call, is_again, word, put, message }) {
+  if (is_again && word === "other_life") return earlier(call);
+  if (is_again && word === "conflict" && put > call.number) return "Message " + call.number + " of stream " + call.stream + " may have been put, and others behind it: amo outcomes JOURNAL tells.";
+  return "Not put: " + message + ".";
+}
+
+// One call at a time: who clicks twice asks once.
+let is_busy = false;
+const alone = work => async event => {
   event.preventDefault();
-  const stream = chosen, text = at("text").value, life = host.life;
+  if (is_busy) return;
+  is_busy = true;
+  try { await work(); } finally { is_busy = false; }
+};
+
+at("put").addEventListener("submit", alone(async () => {
+  const stream = chosen, text = at("text").value;
   try {
     const { told } = await once("put", "PUT", async () => {
-      const number = (await ask("/v1/streams/" + stream)).body.put + 1;
+      const { life, put } = (await ask("/v1/streams/" + stream)).body, number = put + 1;
       return { stream, number, life, text, path: "/v1/streams/" + stream + "/messages/" + number + "?life=" + life + "&by=" + by };
     });
     at("told").textContent = "Message " + told.body.number + " of stream " + told.body.stream + " was put, by line " + told.body.line + " of the journal.";
@@ -169,23 +184,22 @@ at("put").addEventListener("submit", async event => {
   } catch (fault) {
     if (kept("put")) return show_kept();
     at("text").readOnly = false;
-    at("told").textContent = fault.word === "other_life" ? await earlier(fault.call) : "Not put: " + fault.message + ".";
+    at("told").textContent = await refused(fault);
   }
-});
-at("take").addEventListener("submit", async event => {
-  event.preventDefault();
-  const stream = chosen, life = host.life;
+}));
+at("take").addEventListener("submit", alone(async () => {
+  const stream = chosen;
   try {
     const { call, told } = await once("take", "POST", async () => {
-      const number = (await ask("/v1/streams/" + stream)).body.taken + 1;
+      const { life, taken } = (await ask("/v1/streams/" + stream)).body, number = taken + 1;
       return { stream, number, path: "/v1/streams/" + stream + "/take?life=" + life + "&by=" + by + "&number=" + number };
     });
     at("told").textContent = told ? "Message " + call.number + " of stream " + call.stream + ": " + told.body : "No message has come.";
   } catch (fault) {
     at("told").textContent = kept("take") ? "No answer came. The button asks the same again."
-      : fault.word === "other_life" ? "The host was started again. Whether a message was taken before, amo got JOURNAL tells." : "Not taken: " + fault.message + ".";
+      : fault.is_again && ["other_life", "conflict"].includes(fault.word) ? "A message may have been taken before, which amo got JOURNAL tells." : "Not taken: " + fault.message + ".";
   }
-});
+}));
 
 const learn_all = async () => { for (let stream = 1; stream <= host.streams; stream += 1) await learn(stream); };
 

@@ -1,12 +1,12 @@
 //! What became of the messages of a sender's earlier lives, as its journal tells it.
-ghost use Rattle.std.specs.Prelude.{◌≡◌, ◌⊎◌, ◌↔◌, ◌+◌, ◌≤◌, ◌<◌, ◌^◌, ◌++◌, ◌∷◌, ℕ, List, [], None, Some, false, IfOk, IfSome, IsTrue, OnOk, drop, length, slice_get};
+ghost use Rattle.std.specs.Prelude.{◌≡◌, ◌≢◌, ◌==◌, ◌↔◌, ◌+◌, ◌≤◌, ◌<◌, ◌^◌, ◌++◌, ◌∷◌, ℕ, List, [], None, Some, false, IfNone, IfOk, IfSome, IsTrue, OnOk, drop, length, position, slice_get};
 ghost use Rattle.std.specs.List.{list_any};
-ghost use Rattle.amo_door.specs.declared.answer.Fate.TheVariants as AnyFate;
 ghost use Rattle.amo_journal.specs.declared.numbered.Numbered.{Numbered};
 ghost use Rattle.amo_journal.specs.declared.version.Version.{Version};
 ghost use Rattle.amo_journal.specs.Journal.{InRange, line_text};
+ghost use Rattle.amo_lives.specs.Life.{tag_field};
 ghost use Rattle.amo_world.specs.Stream.{IsStream};
-ghost use Rattle.amo_serve.specs.Fates.{fate_of};
+ghost use Rattle.amo_serve.specs.Fates.{IsLifeOf, fate_of, fate_of_none, is_near, may_have_lost};
 ghost use Rattle.amo_serve.specs.Lane.{AreEmpty, owners_in};
 ghost use Rattle.amo_serve.specs.Records.{Follows, IsFirstOrBehind, next_number};
 ghost use Rattle.amo_serve.specs.Reign.{begun, comes_back, holds, is_taken, owner_by, seen, with_next, without_work};
@@ -147,9 +147,13 @@ impl Past {
     }
 
     /// The place of the life of this word among the lives, if it is one: eight digits of HEX.
-    pub fn life_of(&self, word: &Word) -> Option<usize> {
-        let tag = tag_of(word.bytes())?;
-        self.lives.iter().position(|life| life.tag == tag)
+    pub fn life_of(&self, word: &Word) -> Option<usize>
+        ensures { IsLifeOf word.now self.now.lives.items result }
+    {
+        match tag_of(word.bytes()) {
+            Some(tag) => place_of(self.lives.as_slice(), tag),
+            None => None,
+        }
     }
 
     /// Reads the lines that stand in a row in front, where they follow on what was read. Answers what is left behind them.
@@ -239,7 +243,7 @@ impl Past {
 impl Past {
     /// What is told of a message of which no line tells, of the life at this place: it was never put, unless a loss of power may have taken its line.
     fn fate_of_none(&self, life: usize) -> Fate
-        ensures { (result ≡ AnyFate.Never) ⊎ (result ≡ AnyFate.Unknown) }
+        ensures { result ≡ fate_of_none self.now.doubts.items (slice_get self.now.lives.items life) }
     {
         match self.lives.get(life) {
             Some(life) if may_have_lost(self.doubts.as_slice(), life.first_line) => Fate::Unknown,
@@ -274,10 +278,17 @@ fn is_first_or_behind(last: Option<u64>, number: u64) -> bool
 }
 
 /// Whether a life that begins with this line may have lost its last lines, or the one before it or behind it.
-fn may_have_lost(doubts: &[Span], first_line: u64) -> bool {
-    doubts
-        .iter()
-        .any(|span| span.first <= first_line && first_line <= span.end)
+fn may_have_lost(doubts: &[Span], first_line: u64) -> bool
+    ensures { result ≡ may_have_lost doubts.now first_line }
+{
+    doubts.iter().any(|span| is_near(span, first_line))
+}
+
+/// Whether a span has the line of this number, or the one before it.
+fn is_near(span: &Span, number: u64) -> bool
+    ensures { result ≡ is_near number span.now }
+{
+    span.first <= number && number <= span.end
 }
 
 /// No puts on any stream.
@@ -326,12 +337,23 @@ fn fate_of(outcome: SenderOutcome, is_doubtful: bool) -> Fate
     }
 }
 
+/// The place of the first of these lives that has this tag.
+fn place_of(lives: &[Life], tag: u32) -> Option<usize>
+    ensures { result ≡ position (λ life. life.tag == tag) lives.now }
+{
+    lives.iter().position(|life| life.tag == tag)
+}
+
 /// The tag that eight digits of HEX spell.
-fn tag_of(text: &[u8]) -> Option<u32> {
-    if text.len() != 8 {
-        return None;
+fn tag_of(text: &[u8]) -> Option<u32>
+    ensures found { IfSome result (λ tag. (tag < 2 ^ 32) × (text.now ≡ tag_field tag)) }
+    ensures none { IfNone result ((tag : ℕ) → tag < 2 ^ 32 → text.now ≢ tag_field tag) }
+{
+    let mut room = [0; 4];
+    let count = read_hex(text, &mut room)?;
+    if count == 4 {
+        Some(u32::from_be_bytes(room))
+    } else {
+        None
     }
-    let mut bytes = [0; 4];
-    read_hex(text, &mut bytes)?;
-    Some(u32::from_be_bytes(bytes))
 }

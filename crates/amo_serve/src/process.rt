@@ -41,7 +41,15 @@ pub fn run_door<
     let mut archive = archive;
     let mut bell = bell;
     let lines = place.lines;
-    let service = start(alloc, plan.setup, link, sink, place, words)?;
+    let service = start(
+        alloc,
+        plan.setup,
+        link,
+        sink,
+        place,
+        words,
+        plan.limits.sync,
+    )?;
     let mut responder = Responder::new(alloc, service, identity, life, plan.setup.streams, lines)?;
     let ended = serve_door(
         rt,

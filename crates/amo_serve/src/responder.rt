@@ -5,6 +5,9 @@ ghost use Rattle.amo_live.specs.Service.{words_of};
 ghost use Rattle.amo_live.specs.Words.{BearsNew};
 ghost use Rattle.amo_door.specs.Numbers.{HasStream};
 ghost use Rattle.amo_serve.specs.Serving.{IsAtOnce, Serves};
+ghost use Rattle.amo_serve.specs.States.{IsJournalLine, IsRefused};
+ghost use Rattle.amo_door.specs.declared.refusal.Refusal.TheVariants.{UnknownLine};
+ghost use Rattle.amo_serve.specs.declared.responder.Reply.TheVariants.{Got};
 
 mod putting;
 mod states;
@@ -148,7 +151,7 @@ impl<L: Link, S: Sink, W: Lineage> Responder<L, S, W> {
             Call::Metrics => self.respond_of_counts(),
             Call::Health => self.respond_of_health(),
             Call::Page => self.respond_with_page(),
-            Call::Got { stream, after } => Ok(Reply::Got { stream, after }),
+            Call::Got { stream, after } => self.respond_to_got(stream, after),
         }
     }
 
@@ -159,9 +162,25 @@ impl<L: Link, S: Sink, W: Lineage> Responder<L, S, W> {
         self.numbers.has_stream(stream)
     }
 
+    /// What comes of a question which messages of a stream were got, behind this line if one is given. Behind a line that its journal does not have the host
+    /// knows of nothing, now or later: whoever asks means another journal.
+    fn respond_to_got(&self, stream: u32, after: Option<u64>) -> Result<Reply, LiveFault>
+        ensures at_once { IfOk result IsAtOnce }
+        ensures known { IsJournalLine self.now.service.host.journal.next after → IfOk result (λ reply. reply ≡ Got stream after) }
+        ensures unknown { ¬ (IsJournalLine self.now.service.host.journal.next after) → IfOk result (IsRefused UnknownLine) }
+    {
+        match after {
+            Some(line) if line >= self.service.host.next_line() => {
+                self.refuse(Refusal::UnknownLine)
+            }
+            _ => Ok(Reply::Got { stream, after }),
+        }
+    }
+
     /// A refusal, for this reason.
     fn refuse(&self, refusal: Refusal) -> Result<Reply, LiveFault>
-        ensures { IfOk result IsAtOnce }
+        ensures at_once { IfOk result IsAtOnce }
+        ensures refused { IfOk result (IsRefused refusal) }
     {
         Ok(Reply::Answer(Answer::refusal(self.alloc, refusal)?))
     }

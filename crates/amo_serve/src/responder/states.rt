@@ -1,8 +1,12 @@
 //! How streams are, and what became of messages.
-ghost use Rattle.std.specs.Prelude.{◌≡◌, ◌+◌, IfOk, OnOk, true};
-ghost use Rattle.amo_door.specs.Numbers.{HasStream};
+ghost use Rattle.std.specs.Prelude.{◌≡◌, ◌≢◌, ◌+◌, IfOk, OnOk, true};
+ghost use Rattle.amo_door.specs.Numbers.{HasStream, last_of, number_of};
+ghost use Rattle.amo_live.specs.Service.{sender_of};
 ghost use Rattle.amo_serve.specs.Fates.{present_fate};
 ghost use Rattle.amo_serve.specs.Serving.{IsAtOnce};
+ghost use Rattle.amo_serve.specs.States.{IsReached, IsRefused, TellsOrWaits, TellsPresent, TellsReceiver, TellsState, last_told, sender_told};
+ghost use Rattle.amo_door.specs.declared.refusal.Refusal.TheVariants.{NoStream};
+ghost use Rattle.amo_serve.specs.declared.responder.Reply.TheVariants as reply;
 
 use crate::responder::{Reply, Responder};
 use amo_door::{Answer, Fate, Last, ReceiverState, Refusal, SenderState, Word};
@@ -14,6 +18,8 @@ use amo_text::Sink;
 impl<L: Link, S: Sink, W: Lineage> Responder<L, S, W> {
     /// What comes of a question how a stream is, whose client waits for so many seconds at most. At a host that comes to its end nobody waits.
     pub(crate) fn respond_to_state(&self, stream: u32, wait: u64) -> Result<Reply, LiveFault>
+        ensures told { HasStream self.now.numbers stream → IfOk result (TellsOrWaits self.now.identity.side self.now.service self.now.numbers stream wait) }
+        ensures no_stream { ¬ (HasStream self.now.numbers stream) → IfOk result (IsRefused NoStream) }
         ensures ends { self.now.ends ≡ true → IfOk result IsAtOnce }
     {
         if !self.has_stream(stream) {
@@ -26,7 +32,9 @@ impl<L: Link, S: Sink, W: Lineage> Responder<L, S, W> {
     }
 
     /// Whether what is waited for at a stream is so: its last message has settled, or its next one is ready.
-    pub(crate) fn is_reached(&self, stream: u32) -> bool {
+    pub(crate) fn is_reached(&self, stream: u32) -> bool
+        ensures { IsReached self.now.identity.side self.now.service stream result }
+    {
         match self.identity.side {
             End::Sender => !self.service.sender_lane(stream).owed,
             End::Receiver => self.service.holds(stream),
@@ -36,6 +44,7 @@ impl<L: Link, S: Sink, W: Lineage> Responder<L, S, W> {
     /// How a stream is.
     pub(crate) fn state(&self, stream: u32) -> Result<Answer, LiveFault>
         requires { HasStream self.now.numbers stream }
+        ensures { IfOk result (TellsState self.now.identity.side self.now.service self.now.numbers stream) }
     {
         let life = self.numbers.life();
         match self.identity.side {
@@ -53,19 +62,21 @@ impl<L: Link, S: Sink, W: Lineage> Responder<L, S, W> {
     /// How a stream of the sender is.
     pub(crate) fn sender_state(&self, stream: u32) -> SenderState
         requires { HasStream self.now.numbers stream }
+        ensures { result ≡ sender_told (sender_of self.now.service stream) (number_of (last_of self.now.numbers stream)) }
     {
         let lane = self.service.sender_lane(stream);
         let put = self.numbers.last_number(stream);
         SenderState {
             put,
             waiting: lane.waiting,
-            last: last_of(&lane, put),
+            last: last_known(&lane, put),
         }
     }
 
     /// How a stream of the receiver is.
     pub(crate) fn receiver_state(&self, stream: u32) -> ReceiverState
         requires { HasStream self.now.numbers stream }
+        ensures { TellsReceiver self.now.service self.now.numbers stream result }
     {
         ReceiverState {
             taken: self.numbers.last_number(stream),
@@ -79,7 +90,11 @@ impl<L: Link, S: Sink, W: Lineage> Responder<L, S, W> {
         stream: u32,
         number: u64,
         life: Word,
-    ) -> Result<Reply, LiveFault> {
+    ) -> Result<Reply, LiveFault>
+        ensures present { HasStream self.now.numbers stream → life ≡ self.now.numbers.life → IfOk result (TellsPresent self.now.service self.now.numbers self.now.handshakes stream number) }
+        ensures earlier { HasStream self.now.numbers stream → life ≢ self.now.numbers.life → IfOk result (λ r. r ≡ reply.Fate stream number life) }
+        ensures no_stream { ¬ (HasStream self.now.numbers stream) → IfOk result (IsRefused NoStream) }
+    {
         if !self.has_stream(stream) {
             return self.refuse(Refusal::NoStream);
         }
@@ -106,7 +121,9 @@ impl<L: Link, S: Sink, W: Lineage> Responder<L, S, W> {
 }
 
 /// What is known of the last message of a stream on which so many were put.
-fn last_of(lane: &SenderLane, put: u64) -> Last {
+fn last_known(lane: &SenderLane, put: u64) -> Last
+    ensures { result ≡ last_told lane.now put }
+{
     if put == 0 {
         return Last::None;
     }

@@ -5,4 +5,4 @@ pub looks-init : goal.looks-init
 looks-init g c = listened_none c.args.service.now
 
 pub looks-preserved : goal.looks-preserved
-looks-preserved g c = listened_on c.args.service.now c.looks.service c.listen.new.self c.looks.invariant c.listen.ensures
+looks-preserved g c = listened_on c.args.service.now c.looks.service c.listen.new.self c.looks.invariant c.listen.ensures.listened
