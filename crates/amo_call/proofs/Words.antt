@@ -3,7 +3,7 @@ use Rattle.std.proofs.Common.{◌≡◌, ℕ, true, leb, List, length, codes, re
 use Rattle.std.specs.List.{list_all}
 use Rattle.std.proofs.lemmas.Bool.{leb-true}
 use Rattle.amo_door.specs.declared.refusal.Refusal.{Refusal}
-use Rattle.amo_door.specs.declared.refusal.Refusal.TheVariants.{Unreadable, Unknown, Repeated, Missing, Wrong, Stray, Token, Origin, NoPlace, NoStream, NoNumber, OtherSide, Method, Slow, Conflict, OtherLife, UnknownLife, TooLong, LongTarget, Host, LongHead, Journal, Coding, Full, NotNow, Ending, Crowded}
+use Rattle.amo_door.specs.declared.refusal.Refusal.TheVariants.{Unreadable, Unknown, Repeated, Missing, Wrong, Stray, Token, Origin, NoPlace, NoStream, NoNumber, OtherSide, Method, Slow, Conflict, OtherLife, UnknownLife, UnknownLine, TooLong, LongTarget, Host, LongHead, Journal, Coding, Full, NotNow, Ending, Crowded}
 use Rattle.amo_door.specs.Refusal.{word_of}
 use Rattle.amo_door.specs.Word.{IsWord, is_word_character}
 
@@ -29,6 +29,7 @@ IsWord-word_of Slow = word (codes "slow") refl refl refl
 IsWord-word_of Conflict = word (codes "conflict") refl refl refl
 IsWord-word_of OtherLife = word (codes "other_life") refl refl refl
 IsWord-word_of UnknownLife = word (codes "unknown_life") refl refl refl
+IsWord-word_of UnknownLine = word (codes "unknown_line") refl refl refl
 IsWord-word_of TooLong = word (codes "too_long") refl refl refl
 IsWord-word_of LongTarget = word (codes "long_target") refl refl refl
 IsWord-word_of Host = word (codes "host") refl refl refl

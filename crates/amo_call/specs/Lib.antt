@@ -6,3 +6,4 @@ pub mod Puts
 pub mod Turns
 pub mod Pages
 pub mod Takes
+pub mod Naming

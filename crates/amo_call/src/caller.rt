@@ -1,5 +1,6 @@
 //! Who makes calls.
 ghost use Rattle.std.specs.Prelude.{◌≡◌, IfNone, IfOk, IfSome};
+ghost use Rattle.amo_door.specs.declared.place.Method.TheVariants.{Get};
 ghost use Rattle.amo_call.specs.Heard.{ToQuestion};
 
 use crate::{Kept, Request, Response};
@@ -47,10 +48,12 @@ impl From<MessageFault> for CallFault {
 /// Contracts see what the file has, and what was answered to what: what is told of a call rests on that alone.
 pub trait Caller {
     ghost use Rattle.std.specs.Prelude.{◌≡◌, ℕ, List, IfNone, IfOk, IfSome, OnOk};
+    ghost use Rattle.amo_door.specs.declared.place.Method.TheVariants.{Get};
     ghost use Rattle.amo_call.specs.Heard.{Heard, ToCall, ToFirst, ToQuestion};
     ghost use Rattle.amo_call.specs.Kept.{kept_text};
+    ghost use Rattle.amo_call.specs.Naming.{MayName, MayNote};
 
-    /// What the file of the call has.
+    /// What the file of the call has: nothing where there is none.
     ghost saved: { Self → List ℕ };
 
     /// That the call which the file has was not made since it came there.
@@ -62,10 +65,16 @@ pub trait Caller {
     /// That this was answered.
     ghost heard: { Heard → Type 0 };
 
-    /// Puts what is kept of the call into its file, in the place of what that has.
-    fn save(&mut self, kept: &Kept) -> Result<(), CallFault>
+    /// Puts a new call into the file: at first, behind one that is known to have put or taken nothing, or behind one whose message is done.
+    fn name(&mut self, kept: &Kept) -> Result<(), CallFault>
+        requires { MayName heard (saved self.old) kept.now }
         ensures saved { OnOk result (saved self.new ≡ kept_text kept.now) }
         ensures fresh { OnOk result (is_fresh self.new) };
+
+    /// Puts into the file what became of the call that it has: that its message was put, or which one was taken, or that this is done.
+    fn note(&mut self, kept: &Kept) -> Result<(), CallFault>
+        requires { MayNote heard (saved self.old) kept.now }
+        ensures saved { OnOk result (saved self.new ≡ kept_text kept.now) };
 
     /// Makes the call that the file has. None where no answer came: then it may have been made.
     fn make(&mut self, kept: &Kept) -> Result<Option<Response>, CallFault>
@@ -77,6 +86,7 @@ pub trait Caller {
 
     /// Asks what changes nothing. None where no answer came.
     fn ask(&mut self, request: &Request) -> Result<Option<Response>, CallFault>
+        requires { request.now.method ≡ Get }
         ensures saved { saved self.new ≡ saved self.old }
         ensures heard { IfOk result (λ answer. IfSome answer (λ response. heard (ToQuestion request.now response))) }
         ensures silent { IfOk result (λ answer. IfNone answer (is_silent self.new)) };
@@ -92,6 +102,7 @@ pub(crate) fn ask_until<C: Caller>(
     caller: &mut C,
     request: &Request,
 ) -> Result<Option<Response>, CallFault>
+    requires { request.now.method ≡ Get }
     ensures saved { C.saved caller.new ≡ C.saved caller.old }
     ensures heard { IfOk result (λ answer. IfSome answer (λ response. C.heard (ToQuestion request.now response))) }
     ensures silent { IfOk result (λ answer. IfNone answer (C.is_silent caller.new)) }

@@ -24,4 +24,4 @@ pub use kept::{Kept, KeptFault, Progress, push_kept, read_kept};
 pub use pages::{Page, PageLines, read_next_line, read_page};
 pub use putting::{Order, PutTold, put};
 pub use request::Request;
-pub use taking::{TakeTold, done, take};
+pub use taking::{TakeTold, done, note_done, take};

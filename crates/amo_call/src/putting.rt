@@ -1,9 +1,10 @@
 //! Puts, each once.
-ghost use Rattle.std.specs.Prelude.{◌≡◌, ◌↔◌, Some, ◌⊎◌, true, false, IfOk, IfSome, IsTrue, OnOk};
+ghost use Rattle.std.specs.Prelude.{◌≡◌, ◌↔◌, Some, [], ◌⊎◌, true, false, IfNone, IfOk, IfSome, IsTrue, OnOk};
 ghost use Rattle.amo_door.specs.declared.claim.EventPlace.{EventPlace};
 ghost use Rattle.amo_call.specs.Answer.{TellsPut};
 ghost use Rattle.amo_call.specs.Kept.{kept_text};
-ghost use Rattle.amo_call.specs.Puts.{ComesTo, HasPut, IsAnswered, IsNextPut, IsPutting, Resumes, TellsDelay, ToldPut};
+ghost use Rattle.amo_call.specs.Naming.{MayPut};
+ghost use Rattle.amo_call.specs.Puts.{ComesTo, HasPut, IsAnswered, IsNextPut, IsPutting, Resumes, TellsDelay, ToldPut, WasPut};
 
 use crate::answer::{Response, read_conflict, read_fate, read_put, read_state, tells_unput};
 use crate::caller::{ask_until, copied};
@@ -65,7 +66,8 @@ pub fn put<C: Caller>(
     found: Option<Kept>,
     order: &Order,
 ) -> Result<PutTold, CallFault>
-    requires { IfSome found (λ kept. C.saved caller.old ≡ kept_text kept) }
+    requires found { IfSome found (λ kept. C.saved caller.old ≡ kept_text kept) }
+    requires none { IfNone found (C.saved caller.old ≡ []) }
     // What is told of a message is what answers told of it, and of each call behind another that the one before it put nothing. What is told to have been put
     // the file says is put: so the same call again asks nothing, and tells the same.
     ensures { IfOk result (ToldPut C.heard order.now (ComesTo C.heard order.now found) (C.is_silent caller.new) (C.saved caller.new)) }
@@ -87,7 +89,8 @@ fn begin_or_resume<C: Caller>(
     found: Option<Kept>,
     order: &Order,
 ) -> Result<AfterPut, CallFault>
-    requires { IfSome found (λ kept. C.saved caller.old ≡ kept_text kept) }
+    requires found { IfSome found (λ kept. C.saved caller.old ≡ kept_text kept) }
+    requires none { IfNone found (C.saved caller.old ≡ []) }
     ensures { IfOk result (HasPut C.heard order.now (ComesTo C.heard order.now found) (C.is_fresh caller.new) (C.is_silent caller.new) (C.saved caller.new)) }
 {
     match found {
@@ -131,6 +134,7 @@ fn resume(kept: Kept, order: &Order) -> AfterPut
 
 /// Names a call anew: the next number of the stream, in the life that the host lives. The file has it then.
 fn begin<C: Caller>(alloc: Global, caller: &mut C, order: &Order) -> Result<AfterPut, CallFault>
+    requires { MayPut C.heard order.now (C.saved caller.old) }
     ensures { IfOk result (HasPut C.heard order.now (IsNextPut C.heard order.now) (C.is_fresh caller.new) (C.is_silent caller.new) (C.saved caller.new)) }
 {
     let request = Request::state(alloc, order.stream, 0)?;
@@ -154,7 +158,7 @@ fn begin<C: Caller>(alloc: Global, caller: &mut C, order: &Order) -> Result<Afte
             message: order.message.clone()?,
         },
     };
-    caller.save(&kept)?;
+    caller.name(&kept)?;
     Ok(AfterPut::Turn(PutTurn {
         kept,
         is_first: true,
@@ -249,6 +253,9 @@ fn finish<C: Caller>(
     line: u64,
     order: &Order,
 ) -> Result<AfterPut, CallFault>
+    requires saved { C.saved caller.old ≡ kept_text turn.kept }
+    requires putting { IsPutting order.now turn.kept }
+    requires put { WasPut C.heard turn.kept line }
     ensures told { IfOk result (λ after. after ≡ AfterPut.Told (PutTold.Put turn.kept.claim line)) }
     ensures saved { OnOk result (C.saved caller.new ≡ kept_text (record { claim = turn.kept.claim; progress = Progress.Put line order.now.message })) }
 {
@@ -261,7 +268,7 @@ fn finish<C: Caller>(
         claim,
         progress: Progress::Put { line, message },
     };
-    caller.save(&kept)?;
+    caller.note(&kept)?;
     let Kept {
         claim,
         progress: _progress,
@@ -277,6 +284,7 @@ fn look_at_conflict<C: Caller>(
     response: Response,
     order: &Order,
 ) -> Result<AfterPut, CallFault>
+    requires saved { C.saved caller.old ≡ kept_text turn.kept }
     requires putting { IsPutting order.now turn.kept }
     requires answered { IsAnswered C.heard turn response }
     requires no_place { (place : EventPlace) → ¬ (TellsPut turn.kept.claim place response) }
@@ -303,6 +311,7 @@ fn look_back<C: Caller>(
     response: &Response,
     order: &Order,
 ) -> Result<AfterPut, CallFault>
+    requires saved { C.saved caller.old ≡ kept_text turn.kept }
     requires putting { IsPutting order.now turn.kept }
     requires answered { IsAnswered C.heard turn response.now }
     requires status { response.now.status ≡ 410 }
@@ -321,7 +330,8 @@ fn look_at_fate<C: Caller>(
     turn: PutTurn,
     order: &Order,
 ) -> Result<AfterPut, CallFault>
-    requires { IsPutting order.now turn.kept }
+    requires saved { C.saved caller.old ≡ kept_text turn.kept }
+    requires putting { IsPutting order.now turn.kept }
     ensures { IfOk result (HasPut C.heard order.now (ComesTo C.heard order.now (Some turn.kept)) (C.is_fresh caller.new) (C.is_silent caller.new) (C.saved caller.new)) }
 {
     let request = Request::outcome(alloc, &turn.kept.claim)?;

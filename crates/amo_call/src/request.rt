@@ -73,6 +73,7 @@ impl Request {
     pub fn outcome(alloc: Global, claim: &Claim) -> Result<Request, AllocError>
         ensures target { IfOk result (λ request. request.target.items ≡ outcome_target claim.now) }
         ensures method { IfOk result (λ request. request.method ≡ Method.Get) }
+        ensures body { IfOk result (λ request. request.body.items ≡ []) }
     {
         let mut target = Vec::new(alloc);
         push_message(&mut target, claim)?;
@@ -83,6 +84,7 @@ impl Request {
     pub fn state(alloc: Global, stream: u32, wait: u64) -> Result<Request, AllocError>
         ensures target { IfOk result (λ request. request.target.items ≡ state_target stream wait) }
         ensures method { IfOk result (λ request. request.method ≡ Method.Get) }
+        ensures body { IfOk result (λ request. request.body.items ≡ []) }
     {
         let mut target = Vec::new(alloc);
         push_stream(&mut target, stream)?;
@@ -95,6 +97,7 @@ impl Request {
     pub fn got(alloc: Global, stream: u32, from: u64) -> Result<Request, AllocError>
         ensures target { IfOk result (λ request. request.target.items ≡ got_target stream from) }
         ensures method { IfOk result (λ request. request.method ≡ Method.Get) }
+        ensures body { IfOk result (λ request. request.body.items ≡ []) }
     {
         let mut target = Vec::new(alloc);
         push_stream(&mut target, stream)?;
@@ -107,6 +110,7 @@ impl Request {
     pub fn counts(alloc: Global) -> Result<Request, AllocError>
         ensures target { IfOk result (λ request. request.target.items ≡ codes "/metrics") }
         ensures method { IfOk result (λ request. request.method ≡ Method.Get) }
+        ensures body { IfOk result (λ request. request.body.items ≡ []) }
     {
         Ok(asked(alloc, Vec::from_slice(alloc, b"/metrics")?))
     }
@@ -115,6 +119,7 @@ impl Request {
     pub fn events(alloc: Global, after: Option<u64>) -> Result<Request, AllocError>
         ensures target { IfOk result (λ request. request.target.items ≡ events_target after) }
         ensures method { IfOk result (λ request. request.method ≡ Method.Get) }
+        ensures body { IfOk result (λ request. request.body.items ≡ []) }
     {
         let mut target = Vec::from_slice(alloc, b"/v1/events")?;
         if let Some(line) = after {
@@ -125,9 +130,10 @@ impl Request {
     }
 }
 
-/// A request for what is there.
+/// A request for what is there. It brings nothing.
 fn asked(alloc: Global, target: Vec<u8>) -> Request
-    ensures { result ≡ record { method = Method.Get; target = target; body = result.body } }
+    ensures parts { result ≡ record { method = Method.Get; target = target; body = result.body } }
+    ensures body { result.body.items ≡ [] }
 {
     Request {
         method: Method::Get,

@@ -1,8 +1,9 @@
 //! Takes, of which each message comes again until it is done.
-ghost use Rattle.std.specs.Prelude.{◌≡◌, ◌↔◌, ℕ, List, Some, ◌⊎◌, IfOk, IfSome, IsTrue};
+ghost use Rattle.std.specs.Prelude.{◌≡◌, ◌↔◌, ℕ, List, None, Some, [], ◌⊎◌, true, false, IfNone, IfOk, IfSome, IsTrue};
 ghost use Rattle.amo_call.specs.Heard.{ToCall};
 ghost use Rattle.amo_call.specs.Kept.{done_of, kept_text};
-ghost use Rattle.amo_call.specs.Takes.{ComesToTake, IsFirstTake, IsNextTake, IsOver, IsTaking, TakesBy, TellsTakenFor, ToldTake, after_of, take_behind};
+ghost use Rattle.amo_call.specs.Naming.{HasCall, MayTakeFrom};
+ghost use Rattle.amo_call.specs.Takes.{ComesToTake, IsFirstTake, IsNextTake, IsOver, IsTaking, IsToldTake, TakesBy, TellsTakenFor, ToldTake, after_of, take_behind};
 ghost use Rattle.amo_call.specs.Turns.{HasTake, HasToldTake};
 
 use crate::answer::{Response, read_state};
@@ -50,7 +51,8 @@ pub fn take<C: Caller>(
     stream: u32,
     by: &Word,
 ) -> Result<TakeTold, CallFault>
-    requires { IfSome found (λ kept. C.saved caller.old ≡ kept_text kept) }
+    requires found { IfSome found (λ kept. C.saved caller.old ≡ kept_text kept) }
+    requires none { IfNone found (C.saved caller.old ≡ []) }
     // A message that is told is in the file: so the same call again asks nothing, and tells the same.
     ensures saved { IfOk result (HasToldTake (C.saved caller.new)) }
     // What is told of a take is what answers told of it, and of each call in the place of another that the one before it took nothing.
@@ -80,6 +82,19 @@ pub fn done(kept: Kept) -> Option<Kept>
     })
 }
 
+/// Notes in the file of a call that the message which it took is done. Answers whether it took one: else the file keeps what it has.
+pub fn note_done<C: Caller>(caller: &mut C, kept: Kept) -> Result<bool, CallFault>
+    requires { C.saved caller.old ≡ kept_text kept }
+    ensures done { IfOk result (λ is_done. is_done ≡ true → (done : Kept) × (done_of kept ≡ Some done) × (C.saved caller.new ≡ kept_text done)) }
+    ensures none { IfOk result (λ is_done. is_done ≡ false → (done_of kept ≡ None) × (C.saved caller.new ≡ C.saved caller.old)) }
+{
+    let Some(ended) = done(kept) else {
+        return Ok(false);
+    };
+    caller.note(&ended)?;
+    Ok(true)
+}
+
 /// Goes on with the call that was found, or names one.
 fn start_or_resume<C: Caller>(
     alloc: Global,
@@ -88,7 +103,8 @@ fn start_or_resume<C: Caller>(
     stream: u32,
     by: &Word,
 ) -> Result<AfterTake, CallFault>
-    requires { IfSome found (λ kept. C.saved caller.old ≡ kept_text kept) }
+    requires found { IfSome found (λ kept. C.saved caller.old ≡ kept_text kept) }
+    requires none { IfNone found (C.saved caller.old ≡ []) }
     ensures saved { IfOk result (HasTake (C.saved caller.new)) }
     ensures told { IfOk result (ComesToTake C.heard stream (TakesBy C.heard stream by.now found) (C.is_silent caller.new) (C.saved caller.new)) }
 {
@@ -137,6 +153,7 @@ fn go_on(kept: Kept) -> AfterTake
 
 /// Names the call behind that of a message that is done, which was taken by this line.
 fn take_next<C: Caller>(caller: &mut C, claim: Claim, line: u64) -> Result<AfterTake, CallFault>
+    requires { HasCall (C.saved caller.old) (record { claim = claim; progress = Progress.Done line }) }
     ensures saved { IfOk result (HasTake (C.saved caller.new)) }
     ensures told { IfOk result (λ after. after ≡ AfterTake.Turn (take_behind claim line)) }
 {
@@ -151,7 +168,7 @@ fn take_next<C: Caller>(caller: &mut C, claim: Claim, line: u64) -> Result<After
             from: line.saturating_add(1),
         },
     };
-    caller.save(&kept)?;
+    caller.name(&kept)?;
     Ok(AfterTake::Turn(kept))
 }
 
@@ -162,6 +179,7 @@ fn start<C: Caller>(
     stream: u32,
     by: &Word,
 ) -> Result<AfterTake, CallFault>
+    requires { C.saved caller.old ≡ [] }
     ensures saved { IfOk result (HasTake (C.saved caller.new)) }
     ensures told { IfOk result (ComesToTake C.heard stream (IsFirstTake C.heard stream by.now) (C.is_silent caller.new) (C.saved caller.new)) }
 {
@@ -183,6 +201,7 @@ fn begin<C: Caller>(
     from: u64,
     by: &Word,
 ) -> Result<AfterTake, CallFault>
+    requires { MayTakeFrom C.heard stream from (C.saved caller.old) }
     ensures saved { IfOk result (HasTake (C.saved caller.new)) }
     ensures told { IfOk result (ComesToTake C.heard stream (IsNextTake C.heard stream by.now from) (C.is_silent caller.new) (C.saved caller.new)) }
 {
@@ -202,7 +221,7 @@ fn begin<C: Caller>(
         },
         progress: Progress::Taking { from },
     };
-    caller.save(&kept)?;
+    caller.name(&kept)?;
     Ok(AfterTake::Turn(kept))
 }
 
@@ -242,7 +261,7 @@ fn look_at_answer<C: Caller>(
         return Ok(take_again(caller, kept, TakeTold::Nothing));
     }
     match response.status {
-        200 => finish(alloc, caller, kept.claim, response),
+        200 => finish(alloc, caller, kept, response),
         409 => Ok(AfterTake::Told(TakeTold::Doubtful)),
         410 => look_back(alloc, caller, kept, by),
         _ => Ok(AfterTake::Told(TakeTold::Refused(response))),
@@ -271,16 +290,19 @@ fn take_again<C: Caller>(caller: &mut C, kept: Kept, told: TakeTold) -> AfterTak
     }
 }
 
-/// A message was taken for a claim: the file has it.
+/// A message was taken by a call: the file has it.
 fn finish<C: Caller>(
     alloc: Global,
     caller: &mut C,
-    claim: Claim,
+    kept: Kept,
     response: Response,
 ) -> Result<AfterTake, CallFault>
-    requires { response.status ≡ 200 }
+    requires saved { C.saved caller.old ≡ kept_text kept }
+    requires taking { (from : ℕ) × IsTaking kept.claim.stream from kept }
+    requires answered { C.heard (ToCall kept response) }
+    requires status { response.status ≡ 200 }
     ensures saved { IfOk result (HasTake (C.saved caller.new)) }
-    ensures told { IfOk result (TellsTakenFor claim response) }
+    ensures told { IfOk result (TellsTakenFor kept.claim response) }
 {
     let Some(line) = response.line else {
         return Err(CallFault::Strange);
@@ -289,7 +311,7 @@ fn finish<C: Caller>(
         Ok(message) => message,
         Err(fault) => return Err(CallFault::from(fault)),
     };
-    keep(caller, claim, line, message)
+    keep(caller, kept.claim, line, message)
 }
 
 /// This message was taken for a claim, by this line: the file has it.
@@ -299,6 +321,7 @@ fn keep<C: Caller>(
     line: u64,
     message: Message,
 ) -> Result<AfterTake, CallFault>
+    requires { IsToldTake C.heard claim.stream (HasCall (C.saved caller.old)) claim line message }
     ensures saved { IfOk result (HasTake (C.saved caller.new)) }
     ensures told { IfOk result (λ after. after ≡ AfterTake.Told (TakeTold.Taken claim line message)) }
 {
@@ -306,7 +329,7 @@ fn keep<C: Caller>(
         claim,
         progress: Progress::Taken { line, message },
     };
-    caller.save(&kept)?;
+    caller.note(&kept)?;
     Ok(go_on(kept))
 }
 
@@ -317,6 +340,7 @@ fn look_back<C: Caller>(
     kept: Kept,
     by: &Word,
 ) -> Result<AfterTake, CallFault>
+    requires saved { C.saved caller.old ≡ kept_text kept }
     requires taking { (from : ℕ) × IsTaking kept.claim.stream from kept }
     requires over { IsOver C.heard kept }
     ensures saved { IfOk result (HasTake (C.saved caller.new)) }

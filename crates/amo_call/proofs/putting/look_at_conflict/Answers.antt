@@ -1,5 +1,6 @@
 use Rattle.std.proofs.Common.{ℕ, true, refl, subst, arith}
 use Rattle.amo_call.specs.Answer.{TellsConflict}
+use Rattle.amo_call.specs.Naming.{PutsAnew}
 use Rattle.amo_call.specs.Puts.{IsFound, IsTaken, OfCall, WasRefused}
 use Rattle.amo_call.proofs.Puts.{goes_on_ok}
 use Rattle.amo_call.proofs.Steps.{at_none}
@@ -42,3 +43,13 @@ returns g c = record {
   told = c.in-Some.ensures.found;
   other = c.if-last-turn.false;
 }
+
+pub begin-requires : goal.begin-requires
+begin-requires g c =
+    PutsAnew c.args.turn.kept c.requires.saved c.requires.putting
+    (WasRefused c.args.response c.in-Some.last (c.requires.answered.first c.if-turn.true) c.in-Some.ensures.found)
+
+pub begin-requires-then-last-turn : goal.begin-requires-then-last-turn
+begin-requires-then-last-turn g c =
+    PutsAnew c.args.turn.kept c.requires.saved c.requires.putting
+    (IsTaken c.args.response c.requires.answered.call (subst (λ (n : ℕ). TellsConflict c.args.turn.kept.claim true n c.args.response) c.if-last-turn.true c.in-Some.ensures.found))

@@ -1,8 +1,9 @@
-use Rattle.std.proofs.Common.{◌≡◌, true, refl, subst}
+use Rattle.std.proofs.Common.{◌≡◌, true, refl, ◌∙◌, subst}
 use Rattle.amo_door.specs.declared.answer.Fate.{Fate}
 use Rattle.amo_call.specs.declared.answer.Response.{Response}
 use Rattle.amo_call.specs.Answer.{TellsFate}
 use Rattle.amo_call.specs.Heard.{ToQuestion}
+use Rattle.amo_call.specs.Naming.{PutsAnew}
 use Rattle.amo_call.specs.Puts.{IsFound, NeverWas, OfFate}
 use Rattle.amo_call.proofs.Puts.{at_some, goes_on_ok}
 use Rattle.amo_call.proofs.Steps.{at_none}
@@ -11,7 +12,7 @@ use Rattle.amo_call.proofs.putting.look_at_fate.Goals as goal
 pub returns-in_default-read_fate : goal.returns-in_default-read_fate
 returns-in_default-read_fate g c =
     let kept = c.args.turn.kept in
-    OfFate kept (IsFound kept refl) c.requires (record {
+    OfFate kept (IsFound kept refl) c.requires.putting (record {
       request = c.in_ok-request.request;
       asked = record { method_is = c.in_ok-request.ensures.method; target_is = c.in_ok-request.ensures.target };
       answered = at_some c.in_ok-response.field-0 (λ (r : Response). g.C.Caller.heard (ToQuestion c.in_ok-request.request r)) c.in-Some.response c.in-Some.is c.in_ok-response.ensures.heard;
@@ -34,7 +35,7 @@ pub returns : goal.returns
 returns g c = record {
   call = c.args.turn.kept;
   is_reached = IsFound c.args.turn.kept refl;
-  putting = c.requires;
+  putting = c.requires.putting;
   response = c.in-Some.response;
   answered = record {
     request = c.in_ok-request.request;
@@ -44,3 +45,14 @@ returns g c = record {
   told = c.in-Some-read_fate.ensures.found;
   ever = λ e. let yes : c.was_never.result ≡ true = c.was_never.ensures.1 e in let bad : ⊥ = cc (yes, c.if-was_never.false) in bad;
 }
+
+pub begin-requires : goal.begin-requires
+begin-requires g c =
+    let C = g.C.Caller in
+    let claim = c.args.turn.kept.claim in
+    PutsAnew c.args.turn.kept (c.ask_until.ensures.saved ∙ c.requires.saved) c.requires.putting
+    (NeverWas c.in-Some.response (record {
+      request = c.in_ok-request.request;
+      asked = record { method_is = c.in_ok-request.ensures.method; target_is = c.in_ok-request.ensures.target };
+      answered = at_some c.in_ok-response.field-0 (λ (r : Response). C.heard (ToQuestion c.in_ok-request.request r)) c.in-Some.response c.in-Some.is c.in_ok-response.ensures.heard;
+    }) (subst (λ (f : Fate). TellsFate claim f c.in-Some.response) (c.was_never.ensures.0 c.if-was_never.true) c.in-Some-read_fate.ensures.found))

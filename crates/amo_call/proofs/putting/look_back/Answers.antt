@@ -1,3 +1,4 @@
+use Rattle.amo_call.specs.Naming.{PutsAnew}
 use Rattle.amo_call.specs.Puts.{IsLate}
 use Rattle.amo_call.proofs.Puts.{goes_on_ok}
 use Rattle.amo_call.proofs.putting.look_back.Goals as goal
@@ -8,3 +9,7 @@ returns-then-turn g c =
     let caller = c.begin.new.caller in
     goes_on_ok C.heard c.args.order.now (C.is_fresh caller) (C.is_silent caller) (C.saved caller) c.begin.result c.args.turn.kept
     (IsLate c.args.response.now (c.requires.answered.first c.if-turn.true) c.requires.status) c.begin.ensures
+
+pub begin-requires : goal.begin-requires
+begin-requires g c =
+    PutsAnew c.args.turn.kept c.requires.saved c.requires.putting (IsLate c.args.response.now (c.requires.answered.first c.if-turn.true) c.requires.status)

@@ -1,4 +1,4 @@
-use Rattle.std.proofs.Common.{inl, ◌∙◌}
+use Rattle.std.proofs.Common.{inl, refl, ◌∙◌}
 use Rattle.amo_call.specs.declared.answer.Response.{Response}
 use Rattle.amo_call.specs.declared.putting.PutTold.TheVariants as told
 use Rattle.amo_call.specs.Heard.{ToCall}
@@ -22,3 +22,12 @@ returns-in-Some-read_put g c =
     is_finished_ok C.heard c.args.order.now (C.is_fresh caller) (C.is_silent caller) (C.saved caller) c.finish.result kept c.in-Some-read_put.place c.in-Some.response c.requires.putting
     (at_some c.in_ok-response.field-0 (λ (r : Response). C.heard (ToCall kept r)) c.in-Some.response c.in-Some.is c.in_ok-response.ensures.heard)
     c.in-Some-read_put.ensures.found c.finish.ensures.told c.finish.ensures.saved
+
+pub finish-requires-clause-put : goal.finish-requires-clause-put
+finish-requires-clause-put g c = record {
+  response = c.in-Some.response;
+  answered = at_some c.in_ok-response.field-0 (λ (r : Response). g.C.Caller.heard (ToCall c.args.turn.kept r)) c.in-Some.response c.in-Some.is c.in_ok-response.ensures.heard;
+  place = c.in-Some-read_put.place;
+  told = c.in-Some-read_put.ensures.found;
+  line_is = refl;
+}

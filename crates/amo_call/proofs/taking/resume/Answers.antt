@@ -1,7 +1,8 @@
-use Rattle.std.proofs.Common.{◌≡◌, ◌≢◌, ℕ, List, refl, sym, subst}
+use Rattle.std.proofs.Common.{◌≡◌, ◌≢◌, ℕ, List, refl, sym, ◌∙◌, subst}
 use Rattle.amo_call.specs.declared.kept.Progress.TheVariants as progress
 use Rattle.amo_call.specs.Takes.{IsFound}
 use Rattle.amo_call.specs.Turns.{HasTake}
+use Rattle.amo_call.proofs.Puts.{text_of_parts}
 use Rattle.amo_call.proofs.Takes.{follows_ok, is_resumed, of_another_stream}
 use Rattle.amo_call.proofs.taking.resume.Goals as goal
 
@@ -31,3 +32,6 @@ returns-in_default g c =
           let not_done : (line : ℕ) → c.args.kept.progress ≢ progress.Done line = c.in_default.not-Done in
           is_resumed C.heard c.args.stream by (C.is_silent caller) (C.saved caller) c.go_on.result c.args.kept same not_done c.requires c.go_on.ensures.value;
     }
+
+pub take_next-requires : goal.take_next-requires
+take_next-requires g c = c.requires ∙ text_of_parts c.args.kept c.args.kept.claim (progress.Done c.in-Done.line) refl c.in-Done.is

@@ -1,7 +1,8 @@
-use Rattle.std.proofs.Common.{ℕ}
+use Rattle.std.proofs.Common.{ℕ, ◌∙◌}
 use Rattle.amo_call.specs.declared.answer.Response.{Response}
 use Rattle.amo_call.specs.Heard.{ToQuestion}
 use Rattle.amo_call.specs.Pages.{TellsNextLine}
+use Rattle.amo_call.specs.Naming.{TakesFirst}
 use Rattle.amo_call.specs.Takes.{OfCounts}
 use Rattle.amo_call.proofs.Puts.{at_some}
 use Rattle.amo_call.proofs.Steps.{at_none}
@@ -32,3 +33,11 @@ returns-clause-told g c =
       answered = at_some c.in_ok-response.field-0 (λ (r : Response). g.C.Caller.heard (ToQuestion c.in_ok-request.request r)) c.in-Some.response c.in-Some.is c.in_ok-response.ensures.heard;
     })
     (at_none c.read_next_line.result ((line : ℕ) → ¬ (TellsNextLine line c.in-Some.response)) c.in-None.is c.read_next_line.ensures.none)
+
+pub begin-requires : goal.begin-requires
+begin-requires g c =
+    TakesFirst c.in-Some.response (c.ask_until.ensures.saved ∙ c.requires) (record {
+      request = c.in_ok-request.request;
+      asked = record { method_is = c.in_ok-request.ensures.method; target_is = c.in_ok-request.ensures.target };
+      answered = at_some c.in_ok-response.field-0 (λ (r : Response). g.C.Caller.heard (ToQuestion c.in_ok-request.request r)) c.in-Some.response c.in-Some.is c.in_ok-response.ensures.heard;
+    }) c.in-Some-read_next_line.ensures.found
