@@ -1,23 +1,24 @@
 //! Calls of a door from a shell.
-ghost use Rattle.std.specs.Prelude.{◌≡◌, IfOk, IfSome};
+ghost use Rattle.std.specs.Prelude.{◌≡◌, [], None, IfNone, IfOk, IfSome};
 ghost use Rattle.amo_call.specs.Kept.{kept_text};
 
 mod held;
 mod station;
 mod watching;
 
-use crate::calling::held::{Held, read_file};
+use crate::calling::held::{Held, is_special, read_file};
 use crate::calling::station::{Place, Station};
 use crate::calling::watching::watch;
 use crate::failure::Failure;
 use crate::live::check_address;
 use crate::serving::read_token;
 use amo_call::{
-    Asker, Kept, KeptFault, Order, PutTold, Request, Response, TakeTold, done, put, read_kept,
+    Asker, Kept, KeptFault, Order, PutTold, Request, Response, TakeTold, note_done, put, read_kept,
     read_refusal, take,
 };
 use amo_disk::Cause;
 use amo_door::{Fate, Word};
+use amo_offline::OfflineFault;
 use amo_packet::{MAX_MESSAGE, Message, MessageFault};
 use amo_settings::{CallSettings, DoorCall};
 use amo_text::{push_hex, read_message};
@@ -89,7 +90,7 @@ fn place_of<R: AllocGlobal + Clock + Files<File = File> + Net>(
     settings: &CallSettings,
 ) -> Result<Place, Failure> {
     let alloc = rt.alloc();
-    let door = settings.door.as_str();
+    let door = without_scheme(settings.door.as_str());
     check_address(rt, door)?;
     let authorization = match &settings.token_file {
         Some(file) => Some(bearer(alloc, read_token(rt, file.as_str())?)?),
@@ -102,6 +103,11 @@ fn place_of<R: AllocGlobal + Clock + Files<File = File> + Net>(
         },
         wait: settings.wait.unwrap_or(0),
     })
+}
+
+/// An address as a host tells that of its door, without `http://` in front of it.
+fn without_scheme(door: &str) -> &str {
+    door.strip_prefix("http://").unwrap_or(door)
 }
 
 /// The field that brings a token.
@@ -131,7 +137,10 @@ fn read_input<I: Read + Drop>(alloc: Global, input: I) -> Result<Vec<u8>, Failur
     let mut bytes = Vec::new(alloc);
     match input.take(MOST_INPUT).read_to_end(&mut bytes) {
         Ok(_) => Ok(bytes),
-        Err(error) => Err(Failure::of_file(alloc, "standard input", error)),
+        Err(error) => {
+            let fault = OfflineFault::of_file(alloc, "standard input", error);
+            Err(Failure::Offline(fault))
+        }
     }
 }
 
@@ -272,12 +281,10 @@ fn end_held<R: AllocGlobal + Clock + Eprint + Files<File = File> + Net<Stream = 
     if kept.claim.stream != stream {
         return Ok(tell_other_call(rt, path));
     }
-    let Some(kept) = done(kept) else {
-        return Ok(tell_nothing_taken(rt, path));
-    };
     let mut station = Station::new(rt, place, path, bytes)?;
-    match station.keep(&kept) {
-        Ok(()) => Ok(0),
+    match note_done(&mut station, kept) {
+        Ok(true) => Ok(0),
+        Ok(false) => Ok(tell_nothing_taken(rt, path)),
         Err(fault) => Err(Failure::of_call(rt.alloc(), path, fault, station.why)),
     }
 }
@@ -312,9 +319,13 @@ fn find_call<R: AllocGlobal + Eprint + Files<File = File>>(
     rt: &R,
     path: &str,
 ) -> Result<Option<Found>, Failure>
-    ensures { IfOk result (λ found. IfSome found (λ found. IfSome found.kept (λ kept. found.bytes.items ≡ kept_text kept))) }
+    ensures call { IfOk result (λ found. IfSome found (λ found. IfSome found.kept (λ kept. found.bytes.items ≡ kept_text kept))) }
+    ensures none { IfOk result (λ found. IfSome found (λ found. IfNone found.kept (found.bytes.items ≡ []))) }
 {
     let alloc = rt.alloc();
+    if is_special(rt, path) {
+        return Ok(tell_no_call(rt, path));
+    }
     let Some(bytes) = read_file(rt, path)? else {
         return Ok(Some(Found {
             bytes: Vec::new(alloc),
@@ -327,11 +338,16 @@ fn find_call<R: AllocGlobal + Eprint + Files<File = File>>(
             kept: Some(kept),
         })),
         Err(KeptFault::NoMemory) => Err(Failure::NoMemory),
-        Err(KeptFault::Malformed) => {
-            let _ = eprintln!(rt; "amo: {path}: it keeps no call: what it has is left as it is");
-            Ok(None)
-        }
+        Err(KeptFault::Malformed) => Ok(tell_no_call(rt, path)),
     }
+}
+
+/// Tells that a file keeps no call.
+fn tell_no_call<R: Eprint>(rt: &R, path: &str) -> Option<Found>
+    ensures { result ≡ None }
+{
+    let _ = eprintln!(rt; "amo: {path}: it keeps no call: what it has is left as it is");
+    None
 }
 
 /// A word for who calls, which the system draws.
@@ -365,7 +381,9 @@ fn tell_put<R: AllocGlobal + Eprint + Print>(
             say(rt, "unknown", UNKNOWN)
         }
         PutTold::Full => {
-            let _ = eprintln!(rt; "amo: the host has no room: it was not put yet");
+            let _ = eprintln!(rt;
+                "amo: the host has no room, or comes to its end: it was not put yet"
+            );
             Ok(NOT_IN_TIME)
         }
         PutTold::NoAnswer => Ok(tell_no_answer(rt, why)),

@@ -1,14 +1,12 @@
 //! Why the program fails.
 ghost use Rattle.std.specs.Prelude.{◌≡◌, ◌≢◌, IsNone, IsSome};
 ghost use Rattle.std.specs.IoError.{error_kind, raw_os_error};
-ghost use Rattle.amo_tool.specs.Failure.{IsOfFile, IsOfOutput, IsOfUnknown, IsOfUntold, output_failure, replay_failure, report_failure};
+ghost use Rattle.amo_tool.specs.Failure.{IsOfUnknown, IsOfUntold};
 
 use amo_call::CallFault;
 use amo_disk::{Cause, OpenFault};
-use amo_journal::JournalFault;
 use amo_live::{LiveFault, LivesOpenFault, ProcessFault, ServeFault, SocketFault};
-use amo_replay::ToolFault;
-use amo_run::RunFault;
+use amo_offline::OfflineFault;
 use amo_serve::DoorFault;
 use std::alloc::{AllocError, Global};
 use std::io;
@@ -21,21 +19,9 @@ pub(crate) enum Failure {
     /// Memory or a thread was refused.
     #[error("amo: out of memory")]
     NoMemory,
-    /// Another call was at work at a side of the book.
-    #[error("amo: busy")]
-    Busy,
-    /// A file or standard output failed, and there is no more to tell.
-    #[error("amo: device")]
-    Device,
-    /// The file of this name failed, for this cause.
-    #[error("amo: device\namo: {0}: {1}")]
-    File(String, Cause),
-    /// Standard output failed, for this cause.
-    #[error("amo: device\namo: standard output: {0}")]
-    Output(Cause),
-    /// A socket of a run could not be opened or connected.
-    #[error("amo: device\namo: a socket on 127.0.0.1 could not be opened or connected")]
-    Socket,
+    /// A command that needs no other process cannot end, or a file or standard output failed as it does there.
+    #[error("{0}")]
+    Offline(OfflineFault),
     /// A text is the address of no socket, or has a name that is not known.
     #[error("amo: no address: {0}: {1}")]
     NoAddress(String, io::Error),
@@ -60,14 +46,11 @@ pub(crate) enum Failure {
     /// A host cannot go on with the lives in this file.
     #[error("amo: {0}: {1}")]
     Lives(String, LivesOpenFault),
-    /// A file of a host failed, as that of its journal while it was written.
-    #[error("amo: {0}: {1}")]
-    Disk(String, Cause),
     /// A host in this process cannot go on.
     #[error("amo: {0}")]
     Host(ProcessFault),
     /// No host has the journal in this file.
-    #[error("amo: {0}: no host has it in use")]
+    #[error("amo: {0}: no host has it in use by this name")]
     NoHost(String),
     /// A host that was asked to come to its end did so by a failure.
     #[error("amo: the host failed, or was killed, before it came to its end")]
@@ -96,88 +79,6 @@ pub(crate) enum Failure {
 }
 
 impl Failure {
-    /// The file of this name failed so.
-    pub(crate) fn of_file(alloc: Global, file: &str, error: io::Error) -> Failure
-        ensures memory { error_kind error ≡ ErrorKind.OutOfMemory → result ≡ Failure.NoMemory }
-        ensures other { error_kind error ≢ ErrorKind.OutOfMemory → IsOfFile file.now result }
-    {
-        match error.kind() {
-            ErrorKind::OutOfMemory => Failure::NoMemory,
-            _ => Failure::named(alloc, file, Cause::from(error)),
-        }
-    }
-
-    /// The file of this name failed, for this cause. Without memory for the name it is not told.
-    fn named(alloc: Global, file: &str, cause: Cause) -> Failure
-        ensures { IsOfFile file.now result }
-    {
-        match String::from_str(alloc, file) {
-            Ok(file) => Failure::File(file, cause),
-            Err(AllocError) => Failure::Device,
-        }
-    }
-
-    /// A journal was not written into the file of this name. If a call on the file failed, this is why.
-    pub(crate) fn of_kept(
-        alloc: Global,
-        file: &str,
-        fault: JournalFault,
-        cause: Option<Cause>,
-    ) -> Failure
-        ensures memory { fault ≡ JournalFault.NoMemory → result ≡ Failure.NoMemory }
-        ensures other { fault ≢ JournalFault.NoMemory → IsOfFile file.now result }
-    {
-        match fault {
-            JournalFault::NoMemory => Failure::NoMemory,
-            _ => match cause {
-                Some(cause) => Failure::named(alloc, file, cause),
-                None => Failure::Device,
-            },
-        }
-    }
-
-    /// Standard output failed so.
-    pub(crate) fn of_output(error: io::Error) -> Failure
-        ensures memory { error_kind error ≡ ErrorKind.OutOfMemory → result ≡ Failure.NoMemory }
-        ensures other { error_kind error ≢ ErrorKind.OutOfMemory → IsOfOutput result }
-    {
-        match error.kind() {
-            ErrorKind::OutOfMemory => Failure::NoMemory,
-            _ => Failure::Output(Cause::from(error)),
-        }
-    }
-
-    /// A write on standard output failed. If it told why, this is it.
-    fn of_write(cause: Option<Cause>) -> Failure
-        ensures { result ≡ output_failure cause }
-    {
-        match cause {
-            Some(cause) => Failure::Output(cause),
-            None => Failure::Device,
-        }
-    }
-
-    /// A replay stopped before its end. If a write on standard output failed, this is why.
-    pub(crate) fn of_replay(fault: ToolFault, cause: Option<Cause>) -> Failure
-        ensures { result ≡ replay_failure fault cause }
-    {
-        match fault {
-            ToolFault::NoMemory => Failure::NoMemory,
-            ToolFault::Busy => Failure::Busy,
-            ToolFault::Device => Failure::of_write(cause),
-        }
-    }
-
-    /// A journal was not told of. If a write on standard output failed, this is why.
-    pub(crate) fn of_report(fault: JournalFault, cause: Option<Cause>) -> Failure
-        ensures { result ≡ report_failure fault cause }
-    {
-        match fault {
-            JournalFault::NoMemory => Failure::NoMemory,
-            _ => Failure::of_write(cause),
-        }
-    }
-
     /// The addresses that this text stands for were not found, or were not looked up to the end.
     pub(crate) fn of_address(alloc: Global, address: &str, error: io::Error) -> Failure
         ensures memory { error_kind error ≡ ErrorKind.OutOfMemory → result ≡ Failure.NoMemory }
@@ -233,9 +134,21 @@ impl Failure {
 
     /// A file of a host failed, for this cause.
     pub(crate) fn of_disk(alloc: Global, path: &str, cause: Cause) -> Failure {
-        match String::from_str(alloc, path) {
-            Ok(path) => Failure::Disk(path, cause),
-            Err(_) => Failure::NoMemory,
+        Failure::Offline(OfflineFault::of_disk(alloc, path, cause))
+    }
+
+    /// Standard output failed so.
+    pub(crate) fn of_output(error: io::Error) -> Failure {
+        Failure::Offline(OfflineFault::of_output(error))
+    }
+
+    /// It was not told to the end what became of messages of a host's earlier lives.
+    pub(crate) fn of_retelling(fault: OfflineFault) -> Failure {
+        match fault {
+            OfflineFault::Output(cause) => {
+                Failure::Host(ProcessFault::Serve(ServeFault::Output(cause)))
+            }
+            _ => Failure::Offline(fault),
         }
     }
 
@@ -327,23 +240,20 @@ impl Failure {
         match (fault, cause) {
             (CallFault::NoMemory, _) => Failure::NoMemory,
             (CallFault::File, Some(cause)) => Failure::of_disk(alloc, path, cause),
-            (CallFault::File, None) => Failure::Device,
+            (CallFault::File, None) => Failure::Offline(OfflineFault::Device),
             (CallFault::Strange, _) => Failure::Strange,
         }
     }
 }
 
-impl From<RunFault> for Failure {
+impl From<OfflineFault> for Failure {
     ghost use Rattle.std.specs.Prelude.{◌≡◌};
-    ghost use Rattle.amo_tool.specs.Failure.{run_failure};
+    ghost use Rattle.amo_tool.specs.declared.failure.Failure.TheVariants.{Offline};
 
-    ghost from_gives = { λ fault failure. failure ≡ run_failure fault };
+    ghost from_gives = { λ fault failure. failure ≡ Offline fault };
 
-    fn from(fault: RunFault) -> Failure {
-        match fault {
-            RunFault::NoMemory => Failure::NoMemory,
-            RunFault::Device => Failure::Socket,
-        }
+    fn from(fault: OfflineFault) -> Failure {
+        Failure::Offline(fault)
     }
 }
 

@@ -4,13 +4,14 @@ ghost use Rattle.amo_settings.specs.Limits.{IsHostWithin};
 
 use crate::failure::Failure;
 use crate::marking::Marker;
-use crate::retelling::{Manner, tell_untold};
-use crate::stopping::{hang_bell, take_down_bell};
+use crate::stopping::hang_bell;
 use amo_disk::{Cause, Disk, Opened, Start, open};
 use amo_live::{
-    Durable, Ended, HostLives, LiveFault, OpenedLives, Plan, ProcessFault, Socket, run_process,
+    Bell, Durable, Ended, HostLives, Lineage, LiveFault, OpenedLives, Plan, ProcessFault, Socket,
+    run_process,
 };
 use amo_object::End;
+use amo_offline::{Manner, Retold, tell_untold};
 use amo_settings::{HostSettings, ReceiveSettings, SendSettings};
 use std::alloc::Global;
 use std::cell::Cell;
@@ -208,13 +209,48 @@ fn run_noted<
     let file = path_of_lives(alloc, path)?;
     let why = Cell::new(None);
     let words = open_lives::<R, N>(rt, file.as_str(), &plan, start.lines, &why, lives)?;
+    // Before it tells anything: whoever reads that it is there may ask it to end.
+    let (bell, nail) = hang_bell(rt, path)?;
     tell_of_start(rt, host.listen.as_str(), port, path, start.lines);
+    let ran = tell_and_run(
+        rt, path, plan, input, output, socket, disk, start, words, bell,
+    );
+    nail.take_down(rt);
+    match ran? {
+        Err(fault) if fault == ProcessFault::from(LiveFault::Lives) => {
+            Err(Failure::of_host(alloc, file.as_str(), fault, why.get()))
+        }
+        ran => Ok(ran),
+    }
+}
+
+/// Tells what became of messages of earlier lives, and runs the host.
+fn tell_and_run<
+    R: AllocGlobal + Clock + Eprint + Files<File = File>,
+    I: Read + AsRawFd + Drop,
+    O: Write + AsRawFd + Drop,
+    L: Ledger,
+    S: Durable + Drop,
+    W: Lineage + Drop,
+>(
+    rt: &R,
+    path: &str,
+    plan: Plan,
+    input: I,
+    output: O,
+    socket: Socket<L>,
+    disk: S,
+    start: Start,
+    words: W,
+    bell: Bell,
+) -> Result<Result<Ended, ProcessFault>, Failure>
+    requires { (1 ≤ plan.setup.streams) × (plan.setup.streams ≤ 256) }
+{
     let mut output = output;
-    let in_doubt = tell_earlier(rt, path, start.lines, &plan, &mut output)?;
-    let bell = hang_bell(rt, path)?;
-    let mut marker = Marker::new(rt, path, &plan, in_doubt.as_slice())?;
+    let retold = tell_earlier(rt, path, start.lines, &plan, &mut output)?;
+    let mut marker = Marker::new(rt, path, &plan, &retold)?;
     let number = socket.number();
-    let ran = run_process(
+    Ok(run_process(
         rt,
         plan,
         input,
@@ -225,35 +261,33 @@ fn run_noted<
         start,
         words,
         bell,
-        in_doubt.as_slice(),
+        retold.in_doubt.as_slice(),
         &mut marker,
-    );
-    take_down_bell(rt, path)?;
-    match ran {
-        Err(fault) if fault == ProcessFault::from(LiveFault::Lives) => {
-            Err(Failure::of_host(alloc, file.as_str(), fault, why.get()))
-        }
-        ran => Ok(ran),
-    }
+    ))
 }
 
-/// Tells, where the host is a sender, what became of the messages of its earlier lives, which are on so many lines of its journal. Answers the streams on
-/// which that is not settled of one.
+/// Tells, where the host is a sender, what became of the messages of its earlier lives, which are on so many lines of its journal.
 fn tell_earlier<R: AllocGlobal + Eprint + Files<File = File>, O: Write>(
     rt: &R,
     path: &str,
     lines: u64,
     plan: &Plan,
     output: &mut O,
-) -> Result<Vec<u32>, Failure> {
+) -> Result<Retold, Failure> {
     if plan.setup.side == End::Receiver {
-        return Ok(Vec::new(rt.alloc()));
+        return Ok(Retold {
+            in_doubt: Vec::new(rt.alloc()),
+            is_whole: true,
+        });
     }
     let manner = Manner {
         json: plan.setup.spelling.json,
         sync: plan.limits.sync,
     };
-    tell_untold(rt, path, lines, manner, output)
+    match tell_untold(rt, path, lines, manner, output) {
+        Ok(retold) => Ok(retold),
+        Err(fault) => Err(Failure::of_retelling(fault)),
+    }
 }
 
 /// The path of the file of lives beside the journal at this path.

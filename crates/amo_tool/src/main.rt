@@ -2,47 +2,32 @@
 //! service between two hosts, and keeps a journal; is one host of a pair, for clients at its standard input and output or at a door; makes calls of a door;
 //! and audits and explains journals, and tells by them what became of messages.
 //!
-//! `amo_arguments` reads the program's arguments, and answers as `amo_settings` what they choose. `replaying`, `running`, `live`,
-//! `serving`, `calling`, `judging`, `telling`, `got` and `following` do it, `pieces` reads the journals that are judged, and `followed` one that grows;
-//! `retelling` is what a sender that starts again tells of its earlier lives, and `told_file` how far that was told;
-//! `progress` shows how far a run is, `failure` is why they cannot, and `watched` keeps why a write failed.
+//! `amo_arguments` reads the program's arguments, and answers as `amo_settings` what they choose. `amo_offline` does what needs no other process;
+//! `live` has a host for lines, `serving` one for programs, `stopping` asks a host to come to its end, and `calling` asks a door. `marking` keeps, while a
+//! sender is at work, from where its next start is to tell, and `failure` is why the program cannot do what it was asked for.
 #![tactic(auto)]
 
 ghost use Rattle.std.specs.Prelude.{IfOk};
 ghost use Rattle.amo_settings.specs.Limits.{IsWithin};
 
 mod calling;
-mod doubts;
 mod failure;
-mod followed;
-mod following;
-mod got;
-mod judging;
 mod live;
 mod marking;
-mod pieces;
-mod progress;
-mod replaying;
-mod retelling;
-mod running;
 mod serving;
 mod stopping;
-mod telling;
-mod told_file;
-mod watched;
 
 use crate::calling::call_door;
 use crate::failure::Failure;
-use crate::following::tell_or_follow_got;
-use crate::judging::{audit_files, explain_files};
 use crate::live::{receive_lines, send_lines};
-use crate::replaying::replay_file;
-use crate::running::run_to_file;
 use crate::serving::serve_programs;
 use crate::stopping::stop_host;
-use crate::telling::tell_outcomes_of;
 use amo_arguments::{ArgumentsFault, not_text, settings};
 use amo_manual::{page, script};
+use amo_offline::{
+    OfflineFault, audit_files, explain_files, replay_file, run_to_file, tell_or_follow_got,
+    tell_outcomes_of,
+};
 use amo_settings::Settings;
 use std::alloc::AllocError;
 use std::env;
@@ -84,25 +69,7 @@ fn obey<
     E: Write + IsTerminal + Send + Drop,
 >(rt: &R, input: I, output: O, errors: E) -> u8 {
     let done = match choose(rt) {
-        Ok(Settings::Replay(file)) => replay_file(rt, file.as_str(), errors),
-        Ok(Settings::Audit(file, second)) => {
-            let second = second.as_ref().map(|file| file.as_str());
-            audit_files(rt, file.as_str(), second)
-        }
-        Ok(Settings::Explain(file, second)) => {
-            let second = second.as_ref().map(|file| file.as_str());
-            explain_files(rt, file.as_str(), second, errors)
-        }
-        Ok(Settings::Outcomes(settings)) => tell_outcomes_of(rt, &settings, errors),
-        Ok(Settings::Got(settings)) => tell_or_follow_got(rt, &settings, output),
-        Ok(Settings::Run(settings, file)) => run_to_file(rt, &settings, file.as_str(), errors),
-        Ok(Settings::Send(settings)) => send_lines(rt, &settings, input, output),
-        Ok(Settings::Receive(settings)) => receive_lines(rt, &settings, input, output),
-        Ok(Settings::Stop(file)) => stop_host(rt, file.as_str()),
-        Ok(Settings::Serve(settings)) => serve_programs(rt, &settings),
-        Ok(Settings::Call(settings)) => call_door(rt, &settings, input, output),
-        Ok(Settings::Manual) => show_page(rt, page(rt.alloc())),
-        Ok(Settings::Completions(shell)) => show_page(rt, script(rt.alloc(), shell)),
+        Ok(settings) => carry_out(rt, &settings, input, output, errors),
         Err(ArgumentsFault::Text(text, status)) => show(rt, text.as_str(), status),
         Err(ArgumentsFault::Seed) => {
             let _ = rt.eprintln(ArgumentsFault::Seed);
@@ -117,6 +84,56 @@ fn obey<
             FAILED
         }
     }
+}
+
+/// Carries out the command of these settings, and answers the status to end with.
+fn carry_out<
+    R: AllocGlobal
+        + Clock
+        + Files<File = File>
+        + Print
+        + Eprint
+        + RandomSource
+        + Threads
+        + Wait
+        + Net<Listener = TcpListener, Stream = TcpStream>
+        + Sync,
+    I: Read + AsRawFd + Drop,
+    O: Write + AsRawFd + Drop,
+    E: Write + IsTerminal + Send + Drop,
+>(rt: &R, settings: &Settings, input: I, output: O, errors: E) -> Result<u8, Failure>
+    requires { IsWithin settings.now }
+{
+    match settings {
+        Settings::Replay(file) => alone(replay_file(rt, file.as_str(), errors)),
+        Settings::Run(settings, file) => alone(run_to_file(rt, settings, file.as_str(), errors)),
+        Settings::Audit(file, second) => alone(audit_files(rt, file.as_str(), text_of(second))),
+        Settings::Explain(file, second) => alone(explain_files(
+            rt,
+            file.as_str(),
+            text_of(second),
+            errors,
+        )),
+        Settings::Outcomes(settings) => alone(tell_outcomes_of(rt, settings, errors)),
+        Settings::Got(settings) => alone(tell_or_follow_got(rt, settings, output)),
+        Settings::Send(settings) => send_lines(rt, settings, input, output),
+        Settings::Receive(settings) => receive_lines(rt, settings, input, output),
+        Settings::Stop(file) => stop_host(rt, file.as_str()),
+        Settings::Serve(settings) => serve_programs(rt, settings),
+        Settings::Call(settings) => call_door(rt, settings, input, output),
+        Settings::Manual => show_page(rt, page(rt.alloc())),
+        Settings::Completions(shell) => show_page(rt, script(rt.alloc(), *shell)),
+    }
+}
+
+/// What a command came to that needs no other process.
+fn alone(done: Result<u8, OfflineFault>) -> Result<u8, Failure> {
+    done.map_err(Failure::from)
+}
+
+/// The name of a second file, if there is one.
+fn text_of(file: &Option<String>) -> Option<&str> {
+    file.as_ref().map(|file| file.as_str())
 }
 
 /// The settings that the program's arguments choose.

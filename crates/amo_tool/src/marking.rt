@@ -1,10 +1,8 @@
 //! Keeps, while a sender is at work, from which line of its journal on its next start is to tell.
-use crate::failure::Failure;
-use crate::retelling::line_of;
-use crate::told_file::{path_of, push_told, write_told};
 use amo_live::{Keeper, Lineage, Plan, ServeFault, Service};
 use amo_net::Link;
 use amo_object::End;
+use amo_offline::{OfflineFault, Retold, numbered_line, push_told, write_told};
 use amo_text::Sink;
 use std::alloc::{AllocError, Global};
 use std::fs::{self, File};
@@ -16,7 +14,6 @@ use std::rt::Files;
 pub(crate) struct Marker<'r, R> {
     rt: &'r R,
     journal: &'r str,
-    path: String,
     piece: u64,
     sync: bool,
     /// The streams in doubt that the host has not.
@@ -28,15 +25,16 @@ pub(crate) struct Marker<'r, R> {
 }
 
 impl<'r, R: AllocGlobal + Files<File = File>> Marker<'r, R> {
-    /// That of the host with this journal, which is open, and to which nothing was written. These streams are in doubt.
+    /// That of the host with this journal, which is open, and to which nothing was written. Its start told this; where it did not tell all, nothing is
+    /// written, so that the next one does.
     pub(crate) fn new(
         rt: &'r R,
         journal: &'r str,
         plan: &Plan,
-        in_doubt: &[u32],
+        retold: &Retold,
     ) -> Result<Marker<'r, R>, AllocError> {
         let mut beyond = Vec::new(rt.alloc());
-        for stream in in_doubt {
+        for stream in retold.in_doubt.as_slice() {
             if *stream > plan.setup.streams {
                 beyond.push(*stream)?;
             }
@@ -44,13 +42,14 @@ impl<'r, R: AllocGlobal + Files<File = File>> Marker<'r, R> {
         Ok(Marker {
             rt,
             journal,
-            path: path_of(rt.alloc(), journal)?,
             piece: plan.piece,
             sync: plan.limits.sync,
             beyond,
             next: match plan.setup.side {
-                End::Sender => Some(plan.piece.saturating_sub(length_of(rt, journal))),
-                End::Receiver => None,
+                End::Sender if retold.is_whole => {
+                    Some(plan.piece.saturating_sub(length_of(rt, journal)))
+                }
+                End::Sender | End::Receiver => None,
             },
             is_full: false,
         })
@@ -101,19 +100,13 @@ impl<R: AllocGlobal + Files<File = File>> Marker<'_, R> {
     fn mark<L: Link, S: Sink, W: Lineage>(
         &self,
         service: &Service<L, S, W>,
-    ) -> Result<(), Failure> {
+    ) -> Result<(), OfflineFault> {
         let lines = service.host.next_line();
-        let Some(last) = line_of(self.rt, self.journal, lines.saturating_sub(1))? else {
+        let Some(last) = numbered_line(self.rt, self.journal, lines.saturating_sub(1))? else {
             return Ok(());
         };
         let text = told_by(self.rt.alloc(), service, self.beyond.as_slice())?;
-        write_told(
-            self.rt,
-            self.path.as_str(),
-            text,
-            last.as_slice(),
-            self.sync,
-        )
+        write_told(self.rt, self.journal, text, last.as_slice(), self.sync)
     }
 }
 

@@ -2,19 +2,19 @@
 ghost use Rattle.std.specs.Prelude.{◌≡◌, ◌<◌, ◌≤◌};
 ghost use Rattle.amo_settings.specs.Limits.{IsSideWithin};
 
-use crate::doubts::boot_id;
 use crate::failure::Failure;
 use crate::live::{
     ON_ITS_WAY, check_address, hold_numbers, host_of, open_lives, open_socket, path_of_lives,
     tell_of_start, tell_of_zeros,
 };
-use crate::stopping::{hang_bell, take_down_bell};
+use crate::stopping::hang_bell;
 use amo_arguments::VERSION;
 use amo_disk::{Cause, Disk, Opened, Start, open};
 use amo_door::{Guard, Served, Word};
 use amo_live::{Durable, Ended, HostLives, LiveFault, LivesOpenFault, Plan, Socket};
 use amo_lives::Lives;
 use amo_object::End;
+use amo_offline::boot_id;
 use amo_serve::{Archive, Door, DoorFault, Identity, run_door};
 use amo_settings::{HostSettings, ServeSettings, ServedSide};
 use amo_text::push_hex;
@@ -237,9 +237,10 @@ fn serve_noted<
     let file = path_of_lives(alloc, path)?;
     let why = Cell::new(None);
     let begun = begin::<R, N>(rt, host, &plan, file.as_str(), start.lines, &why, lives)?;
+    // Before it tells anything: whoever reads that it is there may ask it to end.
+    let (bell, nail) = hang_bell(rt, path)?;
     tell_of_start(rt, host.listen.as_str(), port, path, start.lines);
     let _ = eprintln!(rt; "amo: its door is http://{address}");
-    let bell = hang_bell(rt, path)?;
     let number = socket.number();
     let Begun {
         words,
@@ -250,7 +251,7 @@ fn serve_noted<
     let ran = run_door(
         rt, alloc, plan, door, archive, bell, identity, life, socket, number, disk, start, words,
     );
-    take_down_bell(rt, path)?;
+    nail.take_down(rt);
     match ran {
         Err(fault) if fault == DoorFault::Host(LiveFault::Lives) => {
             Err(Failure::of_door(alloc, file.as_str(), fault, why.get()))

@@ -6,39 +6,66 @@ use std::alloc::{AllocError, Global};
 use std::fs;
 use std::io::{self, ErrorKind, Read};
 use std::net::Net;
+use std::os::unix::fs::{FileTypeExt, MetadataExt};
 use std::os::unix::net::UnixStream;
 use std::rt::Files;
+use std::time::SystemTime;
 
 /// What the name of a bell has behind that of its journal.
 const BELL: &str = ".stop";
 
-/// The bell of a host with this journal. Where it cannot be hung that is told, and the host cannot be asked.
+/// Which socket it is, whatever its name: its device, its number there, and when it was made, since numbers are given again.
+type Identity = (u64, u64, Option<SystemTime>);
+
+/// Where the bell of a host hangs.
+#[derive(Drop)]
+pub(crate) struct Nail {
+    path: String,
+    /// Which socket it is; none where no bell hangs.
+    identity: Option<Identity>,
+}
+
+impl Nail {
+    /// Takes down the bell of a host that has come to its end, unless something else is there.
+    pub(crate) fn take_down<R: Files>(&self, rt: &R) {
+        let path = self.path.as_str();
+        if self.identity.is_some() && identity_of(rt, path) == self.identity {
+            let _ = fs::remove_file(rt, path);
+        }
+    }
+}
+
+/// Which socket is at this path, if one is. Nothing else is a bell, also where it came while the bell was being hung.
+fn identity_of<R: Files>(rt: &R, path: &str) -> Option<Identity> {
+    match fs::symlink_metadata(rt, path) {
+        Ok(found) if found.file_type().is_socket() => {
+            Some((found.dev(), found.ino(), found.created().ok()))
+        }
+        _ => None,
+    }
+}
+
+/// The bell of a host with this journal, and where it hangs. Where it cannot be hung that is told, and the host cannot be asked.
 pub(crate) fn hang_bell<R: AllocGlobal + Eprint + Files + Net>(
     rt: &R,
     journal: &str,
-) -> Result<Bell, AllocError> {
+) -> Result<(Bell, Nail), AllocError> {
     let alloc = rt.alloc();
     let path = path_of_bell(alloc, journal)?;
     match Bell::hang(rt, alloc, path.as_str()) {
-        Ok(bell) => Ok(bell),
+        Ok(bell) => {
+            let identity = identity_of(rt, path.as_str());
+            Ok((bell, Nail { path, identity }))
+        }
         Err(cause) => {
             let _ = eprintln!(rt;
                 "amo: {}: {cause}: `amo stop` cannot reach this host",
                 path.as_str()
             );
-            Ok(Bell::none(alloc))
+            let identity = None;
+            Ok((Bell::none(alloc), Nail { path, identity }))
         }
     }
-}
-
-/// Takes down the bell of a host that has come to its end.
-pub(crate) fn take_down_bell<R: AllocGlobal + Files>(
-    rt: &R,
-    journal: &str,
-) -> Result<(), AllocError> {
-    let path = path_of_bell(rt.alloc(), journal)?;
-    let _ = fs::remove_file(rt, path.as_str());
-    Ok(())
 }
 
 /// Has the host of this journal come to its end, and waits until it has. Answers its status.

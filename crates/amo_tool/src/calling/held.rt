@@ -88,6 +88,14 @@ fn is_named<R: Files<File = File>>(rt: &R, file: &File, path: &str) -> io::Resul
     }
 }
 
+/// Whether this is the name of a pipe or a device, which may have no end, or nothing until somebody writes.
+pub(crate) fn is_special<R: Files<File = File>>(rt: &R, path: &str) -> bool {
+    match fs::metadata(rt, path) {
+        Ok(found) => !found.is_file() && !found.is_dir(),
+        Err(_) => false,
+    }
+}
+
 /// What the file of this path has; none where there is no such file.
 pub(crate) fn read_file<R: AllocGlobal + Files<File = File>>(
     rt: &R,

@@ -72,7 +72,7 @@ impl<'a, R: AllocGlobal + Clock + Files<File = File> + Net<Stream = TcpStream>> 
     }
 
     /// Keeps a call in the file.
-    pub(crate) fn keep(&mut self, kept: &Kept) -> Result<(), CallFault>
+    fn keep(&mut self, kept: &Kept) -> Result<(), CallFault>
         ensures { OnOk result (self.new.text.items ≡ kept_text kept.now) }
     {
         let mut text = Vec::new(self.alloc);
@@ -141,7 +141,11 @@ impl<R: AllocGlobal + Clock + Files<File = File> + Net<Stream = TcpStream>> Call
 
     ghost heard = { λ _. Unit {0} };
 
-    fn save(&mut self, kept: &Kept) -> Result<(), CallFault> {
+    fn name(&mut self, kept: &Kept) -> Result<(), CallFault> {
+        self.keep(kept)
+    }
+
+    fn note(&mut self, kept: &Kept) -> Result<(), CallFault> {
         self.keep(kept)
     }
 

@@ -1,0 +1,28 @@
+//! Which file it is that has a name.
+use crate::fault::OfflineFault;
+use std::fs::{self, File};
+use std::io::{self, ErrorKind};
+use std::os::unix::fs::MetadataExt;
+use std::rt::Files;
+
+/// Which file it is, whatever its name: its device, and its number there.
+pub(crate) type Identity = (u64, u64);
+
+/// Opens the file of this name, and tells which it is.
+pub(crate) fn open_file<R: Files<File = File>>(rt: &R, name: &str) -> io::Result<(File, Identity)> {
+    let file = fs::open(rt, name)?;
+    let found = file.metadata()?;
+    Ok((file, (found.dev(), found.ino())))
+}
+
+/// Which file has this name, if one has it.
+pub(crate) fn identity_of<R: AllocGlobal + Files<File = File>>(
+    rt: &R,
+    name: &str,
+) -> Result<Option<Identity>, OfflineFault> {
+    match fs::metadata(rt, name) {
+        Ok(found) => Ok(Some((found.dev(), found.ino()))),
+        Err(error) if error.kind() == ErrorKind::NotFound => Ok(None),
+        Err(error) => Err(OfflineFault::of_file(rt.alloc(), name, error)),
+    }
+}

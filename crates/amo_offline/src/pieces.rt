@@ -1,0 +1,163 @@
+//! Reads the journal that a name stands for into memory.
+use crate::fault::OfflineFault;
+use crate::names::{Names, open_piece};
+use amo_journal::open;
+use amo_pieces::Pieces;
+use amo_telling::whole_lines;
+use std::fs::File;
+use std::io::{self, Read};
+use std::rt::Files;
+use thiserror::Error;
+
+/// How many bytes of a piece tell its version: more than a heading has.
+const FRONT: usize = 16;
+
+/// A journal that was read.
+#[derive(Drop)]
+pub(crate) struct Journal {
+    names: Names,
+    pieces: Pieces,
+    /// What stands behind its whole lines is none that a host is writing: a piece in front of another ends within a line, or the last one is of another
+    /// version.
+    is_cut: bool,
+}
+
+impl Journal {
+    /// Reads the journal of this name.
+    pub(crate) fn read<R: AllocGlobal + Files<File = File>>(
+        rt: &R,
+        name: &str,
+    ) -> Result<Journal, OfflineFault> {
+        Journal::read_of(rt, Names::find(rt, name)?)
+    }
+
+    /// Reads the journal in these files.
+    pub(crate) fn read_of<R: AllocGlobal + Files<File = File>>(
+        rt: &R,
+        names: Names,
+    ) -> Result<Journal, OfflineFault> {
+        let mut names = names;
+        let mut newest = names.take_newest();
+        let mut pieces = Pieces::new(rt.alloc());
+        let mut is_cut = false;
+        let count = names.pieces().len();
+        for (place, name) in names.pieces().iter().enumerate() {
+            let mut file = open_piece(
+                rt,
+                name.as_str(),
+                place.saturating_add(1) >= count,
+                &mut newest,
+            )?;
+            is_cut = is_cut || whole_lines(pieces.text()).len() < pieces.text().len();
+            match add_file(&mut pieces, &mut file) {
+                Ok(is_other) => is_cut = is_cut || is_other,
+                Err(error) => return Err(OfflineFault::of_file(rt.alloc(), name.as_str(), error)),
+            }
+        }
+        Ok(Journal {
+            names,
+            pieces,
+            is_cut,
+        })
+    }
+
+    /// Its text, as of one file.
+    pub(crate) fn text(&self) -> &[u8] {
+        self.pieces.text()
+    }
+
+    /// Its whole lines, as of a host that writes the next one. Where what stands behind them is none that a host is writing, it is the text with that.
+    pub(crate) fn lines(&self) -> &[u8] {
+        if self.is_cut {
+            self.text()
+        } else {
+            whole_lines(self.text())
+        }
+    }
+
+    /// The name beside which its file of lives stands: of a list that of the last piece, else its own.
+    pub(crate) fn name_of_lives(&self) -> &str {
+        self.names.name_of_lives()
+    }
+
+    /// Whether it is in more files than one.
+    pub(crate) fn is_in_pieces(&self) -> bool {
+        self.names.are_several()
+    }
+
+    /// Tells on standard error in which piece this line of its text stands, if it is a line, and which line of the piece that is.
+    pub(crate) fn tell_place<R: Eprint>(&self, rt: &R, line: usize) {
+        let Some(place) = self.pieces.place(line) else {
+            return;
+        };
+        if let Some(name) = self.names.pieces().get(place.piece) {
+            tell_line(rt, name.as_str(), place.line);
+        }
+    }
+
+    /// Tells on standard error which piece is missing between the others, if one is.
+    pub(crate) fn tell_missing<R: Eprint>(&self, rt: &R) {
+        self.names.tell_missing(rt);
+    }
+}
+
+/// Adds the piece in this file. Answers whether it has a whole line, and is of another version than the pieces before it.
+fn add_file(pieces: &mut Pieces, file: &mut File) -> io::Result<bool> {
+    let is_first = pieces.text().is_empty();
+    let mut seen = Seen {
+        file,
+        front: [0; FRONT],
+        filled: 0,
+        has_line: false,
+    };
+    pieces.add(&mut seen)?;
+    let is_other = open(seen.front()).version != open(pieces.text()).version;
+    Ok(seen.has_line && is_other && !is_first)
+}
+
+/// A file, of which it keeps what was read first, and whether the end of a line was.
+#[derive(Drop)]
+struct Seen<'a> {
+    file: &'a mut File,
+    front: [u8; FRONT],
+    /// How many bytes were read first.
+    filled: usize,
+    has_line: bool,
+}
+
+impl Seen<'_> {
+    /// What was read first.
+    fn front(&self) -> &[u8] {
+        &self.front[..self.filled.min(FRONT)]
+    }
+
+    /// These bytes were read.
+    fn see(&mut self, bytes: &[u8]) {
+        let filled = self.filled.min(FRONT);
+        let count = bytes.len().min(FRONT - filled);
+        self.front[filled..filled + count].copy_from_slice(&bytes[..count]);
+        self.filled = filled + count;
+        self.has_line = self.has_line || bytes.contains(&b'\n');
+    }
+}
+
+impl Read for Seen<'_> {
+    fn read(&mut self, to: &mut [u8]) -> io::Result<usize> {
+        let count = self.file.read(to)?;
+        self.see(&to[..count.min(to.len())]);
+        Ok(count)
+    }
+}
+
+/// Tells on standard error of this line of the file of this name.
+pub(crate) fn tell_line<R: Eprint>(rt: &R, name: &str, line: usize) {
+    let _ = rt.eprintln(Told::Line(name, line));
+}
+
+/// What is told of a journal in pieces, on a line of its own.
+#[derive(Debug, Drop, Error)]
+enum Told<'a> {
+    /// In the file of this name, this line.
+    #[error("amo: {0}: line {1}")]
+    Line(&'a str, usize),
+}

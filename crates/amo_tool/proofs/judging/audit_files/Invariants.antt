@@ -1,5 +1,0 @@
-use Rattle.amo_tool.proofs.judging.audit_files.Given as goal
-
--- the count of failures is the blank's ledger
-abbrev pub ghosts-audit_bytes : goal.ghosts-audit_bytes
-ghosts-audit_bytes g a = record { name = a.blank.name; parts = a.blank.parts }

@@ -1,8 +1,0 @@
-use Rattle.amo_tool.proofs.judging.explain_file.Given as goal
-
--- the count of failures is the blank's ledger
-abbrev pub ghosts-explain_bytes : goal.ghosts-explain_bytes
-ghosts-explain_bytes g a = record { name = a.blank.name; parts = a.blank.parts }
-
-abbrev pub ghosts-tell_found : goal.ghosts-tell_found
-ghosts-tell_found g a = record { name = a.blank.name; parts = a.blank.parts }

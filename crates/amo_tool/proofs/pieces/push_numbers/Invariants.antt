@@ -1,5 +1,0 @@
-use Rattle.std.proofs.Common.{length}
-use Rattle.amo_tool.proofs.pieces.push_numbers.Given as goal
-
-abbrev pub decreases-loop-name : goal.decreases-loop-name
-decreases-loop-name l = length l.rest
