@@ -94,12 +94,15 @@ run links = with_rule (with_rule (with_rule (with_rule (with_rule run_before_lin
 abbrev pub placed : Text → App
 placed name = with_rule (with_rule (with_rule (with_rule (new_app name) (text (codes "listen"))) (text (codes "peer"))) (number (codes "streams") 1 256)) (text (codes "journal"))
 
+-- how long a host waits at its end, and how long a piece of its journal is
+abbrev pub limited : App → App
+limited app = with_rule (with_rule app (optional_number (codes "wait") 0 1000000)) (optional_number (codes "piece") 1024 1000000000000)
+
 -- and what else both may be told
 abbrev pub host : Text → App
 host name =
-    with_rule (with_rule (with_rule (with_rule (with_rule (with_rule (with_rule (placed name) tick) (optional_number (codes "tick-most") 1 3600000000))
-    (flag (codes "json"))) (flag (codes "sync"))) (optional_number (codes "wait") 0 1000000)) (optional_number (codes "piece") 1024 1000000000000))
-    (optional_number (codes "stats") 1 1000000)
+    with_rule (limited (with_rule (with_rule (with_rule (with_rule (placed name) tick) (optional_number (codes "tick-most") 1 3600000000))
+    (flag (codes "json"))) (flag (codes "sync")))) (optional_number (codes "stats") 1 1000000)
 
 abbrev pub send : App
 send = with_rule (with_rule (with_rule (with_rule (host (codes "send")) (flag (codes "each"))) (flag (codes "many"))) (flag (codes "batch"))) (flag (codes "hex"))
@@ -115,7 +118,7 @@ abbrev pub served : App
 served = with_rule (with_rule (with_rule (placed (codes "serve")) (text (codes "side"))) (text (codes "door"))) (optional_text (codes "token-file"))
 
 abbrev pub serve : App
-serve = with_rule (with_rule (with_rule (with_rule (with_rule served tick) (flag (codes "batch"))) (flag (codes "sync"))) (optional_number (codes "wait") 0 1000000)) (optional_number (codes "piece") 1024 1000000000000)
+serve = limited (with_rule (with_rule (with_rule served tick) (flag (codes "batch"))) (flag (codes "sync")))
 
 -- which call of a door is made, with the message of a put
 abbrev pub called : App
@@ -149,14 +152,17 @@ completions shells = with_rule (new_app (codes "completions")) (shell shells)
 abbrev pub bare : App
 bare = let app = new_app (codes "amo") in record app { top = record app.top { has_version = true; subcommand_required = true; arg_required_else_help = true } }
 
-abbrev pub acting : Names → App
-acting links = with_subcommand (with_subcommand (with_subcommand (with_subcommand (with_subcommand (with_subcommand (with_subcommand bare replay.top) (run links).top) send.top) receive.top) stop.top) serve.top) call.top
+abbrev pub running : Names → App
+running links = with_subcommand (with_subcommand (with_subcommand (with_subcommand bare replay.top) (run links).top) send.top) receive.top
 
-abbrev pub before_manual : Names → App
-before_manual links = with_subcommand (with_subcommand (with_subcommand (with_subcommand (acting links) audit.top) explain.top) outcomes.top) got.top
+abbrev pub acting : Names → App
+acting links = with_subcommand (with_subcommand (with_subcommand (running links) stop.top) serve.top) call.top
+
+abbrev pub telling : Names → App
+telling links = with_subcommand (with_subcommand (with_subcommand (with_subcommand (acting links) audit.top) explain.top) outcomes.top) got.top
 
 abbrev pub amo : Names → Names → App
-amo links shells = with_subcommand (with_subcommand (before_manual links) manual.top) (completions shells).top
+amo links shells = with_subcommand (with_subcommand (telling links) manual.top) (completions shells).top
 
 -- the command is this one, and shares no argument with commands below it
 abbrev pub IsCommand : App → Command → Type 0
@@ -165,8 +171,14 @@ IsCommand app command = (app_of command ≡ app) × ((out-Command command).has_g
 abbrev pub IsRun : Command → Type 0
 IsRun command = (links : Names) × AreLinks links × IsCommand (run links) command
 
+abbrev pub IsRunning : Command → Type 0
+IsRunning command = (links : Names) × AreLinks links × (app_of command ≡ running links)
+
 abbrev pub IsActing : Command → Type 0
 IsActing command = (links : Names) × AreLinks links × (app_of command ≡ acting links)
+
+abbrev pub IsTelling : Command → Type 0
+IsTelling command = (links : Names) × AreLinks links × (app_of command ≡ telling links)
 
 abbrev pub IsCompletions : Command → Type 0
 IsCompletions command = (shells : Names) × AreShells shells × IsCommand (completions shells) command

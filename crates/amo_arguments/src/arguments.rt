@@ -58,12 +58,22 @@ fn parse(alloc: Global, matches: &ArgMatches<'_>) -> Result<Option<Settings>, Un
     ensures chosen { IfOk result (λ chosen. IfSome chosen (ChoosesBy (subcommand_rows_of matches.now))) }
     ensures seed { IfOk result (λ chosen. IfNone chosen (MeetsSeedless (subcommand_rows_of matches.now))) }
 {
-    if let Some(replay) = matches.subcommand_matches("replay") {
-        return Ok(Some(Settings::Replay(text_of(alloc, replay, "FILE")?)));
-    }
     if let Some(run) = matches.subcommand_matches("run") {
         return parse_run(alloc, run);
     }
+    if let Some(settings) = parse_of_hosts(alloc, matches)? {
+        return Ok(Some(settings));
+    }
+    match parse_of_files(alloc, matches)? {
+        Some(settings) => Ok(Some(settings)),
+        None => Ok(Some(parse_of_texts(alloc, matches)?)),
+    }
+}
+
+/// The settings that a match chooses of a command that is or asks a host, if it is of one.
+fn parse_of_hosts(alloc: Global, matches: &ArgMatches<'_>) -> Result<Option<Settings>, Unfit>
+    ensures { IfOk result (λ chosen. IfSome chosen (ChoosesBy (subcommand_rows_of matches.now))) }
+{
     if let Some(send) = matches.subcommand_matches("send") {
         return Ok(Some(Settings::Send(parse_send(alloc, send)?)));
     }
@@ -76,8 +86,18 @@ fn parse(alloc: Global, matches: &ArgMatches<'_>) -> Result<Option<Settings>, Un
     if let Some(serve) = matches.subcommand_matches("serve") {
         return Ok(Some(Settings::Serve(parse_serve(alloc, serve)?)));
     }
-    if let Some(call) = matches.subcommand_matches("call") {
-        return Ok(Some(Settings::Call(parse_call(alloc, call)?)));
+    match matches.subcommand_matches("call") {
+        Some(call) => Ok(Some(Settings::Call(parse_call(alloc, call)?))),
+        None => Ok(None),
+    }
+}
+
+/// The settings that a match chooses of a command that reads a schedule or journals, if it is of one.
+fn parse_of_files(alloc: Global, matches: &ArgMatches<'_>) -> Result<Option<Settings>, Unfit>
+    ensures { IfOk result (λ chosen. IfSome chosen (ChoosesBy (subcommand_rows_of matches.now))) }
+{
+    if let Some(replay) = matches.subcommand_matches("replay") {
+        return Ok(Some(Settings::Replay(text_of(alloc, replay, "FILE")?)));
     }
     if let Some(audit) = matches.subcommand_matches("audit") {
         let file = text_of(alloc, audit, "FILE")?;
@@ -90,14 +110,21 @@ fn parse(alloc: Global, matches: &ArgMatches<'_>) -> Result<Option<Settings>, Un
     if let Some(outcomes) = matches.subcommand_matches("outcomes") {
         return Ok(Some(Settings::Outcomes(parse_outcomes(alloc, outcomes)?)));
     }
-    if let Some(got) = matches.subcommand_matches("got") {
-        return Ok(Some(Settings::Got(parse_got(alloc, got)?)));
+    match matches.subcommand_matches("got") {
+        Some(got) => Ok(Some(Settings::Got(parse_got(alloc, got)?))),
+        None => Ok(None),
     }
+}
+
+/// The settings that a match chooses of a command that prints what the program has to say of itself.
+fn parse_of_texts(alloc: Global, matches: &ArgMatches<'_>) -> Result<Settings, Unfit>
+    ensures { IfOk result (ChoosesBy (subcommand_rows_of matches.now)) }
+{
     if let Some(_manual) = matches.subcommand_matches("man") {
-        return Ok(Some(Settings::Manual));
+        return Ok(Settings::Manual);
     }
     match matches.subcommand_matches("completions") {
-        Some(completions) => Ok(Some(Settings::Completions(shell_of(alloc, completions)?))),
+        Some(completions) => Ok(Settings::Completions(shell_of(alloc, completions)?)),
         None => Err(Unfit::Absent),
     }
 }

@@ -1,6 +1,6 @@
 //! The program's commands, as they are described to `clap`.
 ghost use Rattle.std.specs.Prelude.{◌≡◌, IfOk, false};
-ghost use Rattle.clap.specs.Words.{app_of, new_app, rule_of};
+ghost use Rattle.clap.specs.Words.{App, app_of, new_app, rule_of};
 ghost use Rattle.amo_arguments.specs.Commands as described;
 
 use crate::texts;
@@ -45,40 +45,41 @@ static SHELLS: [&str; 3] = ["bash", "zsh", "fish"];
 pub fn command<'a>(alloc: Global) -> Result<Command<'a>, AllocError>
     ensures { IfOk result described.IsAmo }
 {
-    let acting = acting(alloc)?;
-    let audit = audit(alloc)?;
-    let explain = explain(alloc)?;
-    let outcomes = outcomes(alloc)?;
-    let got = got(alloc)?;
-    let completions = completions(alloc)?;
-    acting
-        .subcommand(audit)?
-        .subcommand(explain)?
-        .subcommand(outcomes)?
-        .subcommand(got)?
+    telling(alloc)?
         .subcommand(manual(alloc))?
-        .subcommand(completions)
+        .subcommand(completions(alloc)?)
+}
+
+/// The program with those of its commands that have something happen, or tell what has happened, and no others.
+fn telling<'a>(alloc: Global) -> Result<Command<'a>, AllocError>
+    ensures { IfOk result described.IsTelling }
+{
+    acting(alloc)?
+        .subcommand(audit(alloc)?)?
+        .subcommand(explain(alloc)?)?
+        .subcommand(outcomes(alloc)?)?
+        .subcommand(got(alloc)?)
 }
 
 /// The program with those of its commands that have something happen, and no others.
 fn acting<'a>(alloc: Global) -> Result<Command<'a>, AllocError>
     ensures { IfOk result described.IsActing }
 {
-    let bare = bare(alloc)?;
-    let replay = replay(alloc)?;
-    let run = run(alloc)?;
-    let send = send(alloc)?;
-    let receive = receive(alloc)?;
-    let stop = stop(alloc)?;
-    let serve = serve(alloc)?;
-    let call = call(alloc)?;
-    bare.subcommand(replay)?
-        .subcommand(run)?
-        .subcommand(send)?
-        .subcommand(receive)?
-        .subcommand(stop)?
-        .subcommand(serve)?
-        .subcommand(call)
+    running(alloc)?
+        .subcommand(stop(alloc)?)?
+        .subcommand(serve(alloc)?)?
+        .subcommand(call(alloc)?)
+}
+
+/// The program with those of its commands that replay a schedule, run the service, or run a host that has no door, and no others.
+fn running<'a>(alloc: Global) -> Result<Command<'a>, AllocError>
+    ensures { IfOk result described.IsRunning }
+{
+    bare(alloc)?
+        .subcommand(replay(alloc)?)?
+        .subcommand(run(alloc)?)?
+        .subcommand(send(alloc)?)?
+        .subcommand(receive(alloc)?)
 }
 
 /// The program without its commands.
@@ -111,6 +112,26 @@ fn replay<'a>(alloc: Global) -> Result<Command<'a>, AllocError>
 fn run<'a>(alloc: Global) -> Result<Command<'a>, AllocError>
     ensures { IfOk result described.IsRun }
 {
+    run_before_link(alloc)?
+        .arg(link(alloc))?
+        .arg(text(alloc, "journal", "FILE", "Where the journal goes"))?
+        .arg(pumps(alloc))?
+        .arg(flag(
+            alloc,
+            "split",
+            "Gives each host a book and a journal of its own, FILE.s and FILE.r",
+        ))?
+        .arg(flag(
+            alloc,
+            "batch",
+            "Sends the messages that wait on a stream together, up to four",
+        ))
+}
+
+/// `run` with its numbers and its seed.
+fn run_before_link<'a>(alloc: Global) -> Result<Command<'a>, AllocError>
+    ensures { IfOk result (described.IsCommand described.run_before_link) }
+{
     with_texts(alloc, "run", texts::RUN_ABOUT, texts::RUN_AFTER_HELP)
         .arg(number(
             alloc,
@@ -138,19 +159,6 @@ fn run<'a>(alloc: Global) -> Result<Command<'a>, AllocError>
             "seed",
             "HEX",
             "What identifiers and losses are drawn from, 64 digits",
-        ))?
-        .arg(link(alloc))?
-        .arg(text(alloc, "journal", "FILE", "Where the journal goes"))?
-        .arg(pumps(alloc))?
-        .arg(flag(
-            alloc,
-            "split",
-            "Gives each host a book and a journal of its own, FILE.s and FILE.r",
-        ))?
-        .arg(flag(
-            alloc,
-            "batch",
-            "Sends the messages that wait on a stream together, up to four",
         ))
 }
 
@@ -203,45 +211,7 @@ fn receive<'a>(alloc: Global) -> Result<Command<'a>, AllocError>
 fn serve<'a>(alloc: Global) -> Result<Command<'a>, AllocError>
     ensures { IfOk result (described.IsCommand described.serve) }
 {
-    with_texts(alloc, "serve", texts::SERVE_ABOUT, texts::SERVE_AFTER_HELP)
-        .arg(text(
-            alloc,
-            "listen",
-            "ADDR",
-            "Where it listens for the other host, as 127.0.0.1:7001",
-        ))?
-        .arg(text(alloc, "peer", "ADDR", "Where the other host listens"))?
-        .arg(number(
-            alloc,
-            "streams",
-            1,
-            STREAMS,
-            "The number of streams, 1 to 256",
-        ))?
-        .arg(text(
-            alloc,
-            "journal",
-            "FILE",
-            "Its journal, which is begun, or gone on with",
-        ))?
-        .arg(text(
-            alloc,
-            "side",
-            "SIDE",
-            "Whether it sends or receives: `send` or `receive`",
-        ))?
-        .arg(text(
-            alloc,
-            "door",
-            "ADDR",
-            "Where programs ask it over HTTP, as 127.0.0.1:7003",
-        ))?
-        .arg(optional_text(
-            alloc,
-            "token-file",
-            "FILE",
-            "The token that each request has to bring stands there",
-        ))?
+    let served = served(alloc)?
         .arg(tick(alloc))?
         .arg(flag(
             alloc,
@@ -252,27 +222,44 @@ fn serve<'a>(alloc: Global) -> Result<Command<'a>, AllocError>
             alloc,
             "sync",
             "Puts the journal on its disk before answers and packets leave",
-        ))?
-        .arg(optional_number(
-            alloc,
-            "wait",
-            "SECONDS",
-            0,
-            WAIT,
-            "How long it waits at its end for what is on its way, 0 to 1000000",
-        ))?
-        .arg(optional_number(
-            alloc,
-            "piece",
-            "BYTES",
-            LEAST_PIECE,
-            PIECE,
-            "How long its journal is when it begins a new piece, 1024 to 1000000000000",
-        ))
+        ))?;
+    limited(alloc, served)
 }
 
-fn call<'a>(alloc: Global) -> Result<Command<'a>, AllocError>
-    ensures { IfOk result (described.IsCommand described.call) }
+/// `serve` with what it is told of the host that has a door, and of that door.
+fn served<'a>(alloc: Global) -> Result<Command<'a>, AllocError>
+    ensures { IfOk result (described.IsCommand described.served) }
+{
+    placed(
+        alloc,
+        "serve",
+        texts::SERVE_ABOUT,
+        texts::SERVE_AFTER_HELP,
+        "Where it listens for the other host, as 127.0.0.1:7001",
+    )?
+    .arg(text(
+        alloc,
+        "side",
+        "SIDE",
+        "Whether it sends or receives: `send` or `receive`",
+    ))?
+    .arg(text(
+        alloc,
+        "door",
+        "ADDR",
+        "Where programs ask it over HTTP, as 127.0.0.1:7003",
+    ))?
+    .arg(optional_text(
+        alloc,
+        "token-file",
+        "FILE",
+        "The token that each request has to bring stands there",
+    ))
+}
+
+/// `call` with what is asked, and where.
+fn called<'a>(alloc: Global) -> Result<Command<'a>, AllocError>
+    ensures { IfOk result (described.IsCommand described.called) }
 {
     with_texts(alloc, "call", texts::CALL_ABOUT, texts::CALL_AFTER_HELP)
         .arg(needed(
@@ -290,7 +277,13 @@ fn call<'a>(alloc: Global) -> Result<Command<'a>, AllocError>
             "door",
             "ADDR",
             "Where the host is asked, as 127.0.0.1:7003",
-        ))?
+        ))
+}
+
+fn call<'a>(alloc: Global) -> Result<Command<'a>, AllocError>
+    ensures { IfOk result (described.IsCommand described.call) }
+{
+    called(alloc)?
         .arg(stream(alloc))?
         .arg(optional_text(
             alloc,
@@ -336,13 +329,51 @@ fn host<'a>(
 ) -> Result<Command<'a>, AllocError>
     ensures { IfOk result (described.IsCommand (described.host name.entry.now)) }
 {
+    let timed = placed(
+        alloc,
+        name,
+        about,
+        after_help,
+        "Where it listens, as 127.0.0.1:7001",
+    )?
+    .arg(tick(alloc))?
+    .arg(optional_number(
+        alloc,
+        "tick-most",
+        "MICROSECONDS",
+        1,
+        TICK_MOST,
+        "How long it waits at most before it is sent once more, 1 to 3600000000; 64 ticks if absent",
+    ))?
+    .arg(flag(alloc, "json", "Prints each line as a JSON object"))?
+    .arg(flag(
+        alloc,
+        "sync",
+        "Puts the journal on its disk before packets leave",
+    ))?;
+    limited(alloc, timed)?.arg(optional_number(
+        alloc,
+        "stats",
+        "SECONDS",
+        1,
+        STATS,
+        "Tells its figures on standard error as often, and at its end, 1 to 1000000",
+    ))
+}
+
+/// The command of this name with what each host of a pair is told: where it listens, of which help says this, where the other one does, how many streams there
+/// are, and its journal.
+fn placed<'a>(
+    alloc: Global,
+    name: &'static str,
+    about: &'static str,
+    after_help: &'static str,
+    listen: &'static str,
+) -> Result<Command<'a>, AllocError>
+    ensures { IfOk result (described.IsCommand (described.placed name.entry.now)) }
+{
     with_texts(alloc, name, about, after_help)
-        .arg(text(
-            alloc,
-            "listen",
-            "ADDR",
-            "Where it listens, as 127.0.0.1:7001",
-        ))?
+        .arg(text(alloc, "listen", "ADDR", listen))?
         .arg(text(alloc, "peer", "ADDR", "Where the other host listens"))?
         .arg(number(
             alloc,
@@ -356,22 +387,14 @@ fn host<'a>(
             "journal",
             "FILE",
             "Its journal, which is begun, or gone on with",
-        ))?
-        .arg(tick(alloc))?
-        .arg(optional_number(
-            alloc,
-            "tick-most",
-            "MICROSECONDS",
-            1,
-            TICK_MOST,
-            "How long it waits at most before it is sent once more, 1 to 3600000000; 64 ticks if absent",
-        ))?
-        .arg(flag(alloc, "json", "Prints each line as a JSON object"))?
-        .arg(flag(
-            alloc,
-            "sync",
-            "Puts the journal on its disk before packets leave",
-        ))?
+        ))
+}
+
+/// This command with how long a host waits at its end, and how long a piece of its journal is.
+fn limited<'a>(alloc: Global, command: Command<'a>) -> Result<Command<'a>, AllocError>
+    ensures { IfOk result (λ limited. (app : App) → described.IsCommand app command.entry → described.IsCommand (described.limited app) limited) }
+{
+    command
         .arg(optional_number(
             alloc,
             "wait",
@@ -387,14 +410,6 @@ fn host<'a>(
             LEAST_PIECE,
             PIECE,
             "How long its journal is when it begins a new piece, 1024 to 1000000000000",
-        ))?
-        .arg(optional_number(
-            alloc,
-            "stats",
-            "SECONDS",
-            1,
-            STATS,
-            "Tells its figures on standard error as often, and at its end, 1 to 1000000",
         ))
 }
 

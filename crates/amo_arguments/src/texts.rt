@@ -244,7 +244,7 @@ Status, which is the host's own:
   0  it ended, and all is answered
   2  it ended, and its last line had no end
   4  it failed
-     `amo: FILE: no host has it in use`, or what the system says of FILE.stop, on standard error
+     `amo: FILE: no host has it in use by this name`, or what the system says of FILE.stop, on standard error
   5  its --wait is over, and something is still on its way
 
 Example:

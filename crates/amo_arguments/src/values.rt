@@ -112,7 +112,7 @@ fn behind_last(text: &[u8], byte: u8) -> Option<&[u8]>
 /// Refuses a longest interval that is shorter than the first one.
 pub(crate) fn check_ceiling(alloc: Global, tick: u32, most: Option<u64>) -> Result<(), Unfit>
     ensures fits { OnOk result (IfSome most (λ most. tick ≤ most)) }
-    ensures refused { IfErr result (BlamesIf (IfSome most (λ most. most < tick))) }
+    ensures refused { IfErr result (BlamesIf ((ceiling : ℕ) × (most ≡ Some ceiling) × (ceiling < tick))) }
 {
     let Some(most) = most else {
         return Ok(());

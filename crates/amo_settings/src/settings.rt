@@ -79,7 +79,7 @@ pub struct ReceiveSettings {
     pub count: Option<u64>,
 }
 
-/// The side of a host with a door, with what it is told. Nothing is shown, and it has no end to wait at.
+/// The side of a host with a door, with what it is told. Nothing is shown.
 #[derive(Debug, Drop)]
 pub enum ServedSide {
     /// It sends.

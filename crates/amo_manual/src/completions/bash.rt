@@ -86,15 +86,7 @@ fn push_value(
     if option.is_positional() || !has_value(option) {
         return Ok(());
     }
-    let mut names = String::new(alloc);
-    if let Some(short) = option.get_short() {
-        write!(names, "'{command} -{short}'")?;
-    }
-    if let Some(long) = option.get_long() {
-        push_next(&mut names, " | ", "")?;
-        write!(names, "'{command} --{long}'")?;
-    }
-    write!(script, "    {names})\n")?;
+    push_pattern(alloc, script, command, option)?;
     match value_of(alloc, option)? {
         Value::Name(values) => {
             let values = words_of(alloc, values)?;
@@ -104,6 +96,24 @@ fn push_value(
         Value::Command | Value::Other => {}
     }
     script.push_str("        return\n        ;;\n")
+}
+
+/// The pattern of an option of a command, by its names.
+fn push_pattern(
+    alloc: Global,
+    script: &mut String,
+    command: &str,
+    option: &Arg<'_>,
+) -> Result<(), AllocError> {
+    let mut names = String::new(alloc);
+    if let Some(short) = option.get_short() {
+        write!(names, "'{command} -{short}'")?;
+    }
+    if let Some(long) = option.get_long() {
+        push_next(&mut names, " | ", "")?;
+        write!(names, "'{command} --{long}'")?;
+    }
+    write!(script, "    {names})\n")
 }
 
 /// What is offered behind a command: its options, and what its own values are.

@@ -43,33 +43,50 @@ fi
 /// The script.
 pub(super) fn script(alloc: Global, whole: &Command<'_>) -> Result<String, AllocError> {
     let commands = command_names(alloc, whole, " ")?;
+    let commands = commands.as_str();
     let mut script = String::from_str(alloc, HEAD)?;
-    for command in whole.get_subcommands() {
-        write!(script, "        '{}:", command.get_name())?;
-        push_text(&mut script, command.get_about().unwrap_or(""))?;
-        script.push_str("'\n")?;
-    }
+    push_commands(&mut script, whole)?;
     script.push_str(PROGRAM)?;
     for argument in whole.get_arguments() {
         script.push_str("        ")?;
-        push_argument(alloc, &mut script, argument, commands.as_str())?;
+        push_argument(alloc, &mut script, argument, commands)?;
         script.push_str(" \\\n")?;
     }
     script.push_str(BEHIND)?;
     for command in whole.get_subcommands() {
-        write!(
-            script,
-            "        {})\n            _arguments",
-            command.get_name()
-        )?;
-        for argument in command.get_arguments() {
-            script.push_str(" \\\n                ")?;
-            push_argument(alloc, &mut script, argument, commands.as_str())?;
-        }
-        script.push_str("\n            ;;\n")?;
+        push_command(alloc, &mut script, command, commands)?;
     }
     script.push_str(TAIL)?;
     Ok(script)
+}
+
+/// What `_describe` is told of each command.
+fn push_commands(script: &mut String, whole: &Command<'_>) -> Result<(), AllocError> {
+    for command in whole.get_subcommands() {
+        write!(script, "        '{}:", command.get_name())?;
+        push_text(script, command.get_about().unwrap_or(""))?;
+        script.push_str("'\n")?;
+    }
+    Ok(())
+}
+
+/// What `_arguments` is told of a command.
+fn push_command(
+    alloc: Global,
+    script: &mut String,
+    command: &Command<'_>,
+    commands: &str,
+) -> Result<(), AllocError> {
+    write!(
+        script,
+        "        {})\n            _arguments",
+        command.get_name()
+    )?;
+    for argument in command.get_arguments() {
+        script.push_str(" \\\n                ")?;
+        push_argument(alloc, script, argument, commands)?;
+    }
+    script.push_str("\n            ;;\n")
 }
 
 /// What `_arguments` is told of an argument, as `'--link=[What carries the packets]:link:(memory udp)'`.

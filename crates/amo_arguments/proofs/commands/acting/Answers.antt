@@ -4,12 +4,7 @@ use Rattle.amo_arguments.proofs.commands.acting.Goals as goal
 
 pub returns : goal.returns
 returns c =
-    let links = c.in_ok-run.ensures in
-    let replay = with_command c.in_ok-subcommand.ensures c.in_ok-replay.ensures c.in_ok-bare.ensures in
-    let run = with_command c.in_ok-subcommand-2.ensures links.2 replay in
-    let send = with_command c.in_ok-subcommand-3.ensures c.in_ok-send.ensures run in
-    let receive = with_command c.in_ok-subcommand-4.ensures c.in_ok-receive.ensures send in
-    let receive = with_command c.in_ok-subcommand-4.ensures c.in_ok-receive.ensures send in
-    let stop = with_command c.in_ok-subcommand-5.ensures c.in_ok-stop.ensures receive in
-    let serve = with_command c.in_ok-subcommand-6.ensures c.in_ok-serve.ensures stop in
-    IfOk-weaker c.subcommand-7.result _ _ (λ m h. (links.0, links.1, with_command h c.in_ok-call.ensures serve)) c.subcommand-7.ensures
+    let links = c.in_ok-running.ensures in
+    let stop = with_command c.in_ok-subcommand.ensures c.in_ok-stop.ensures links.2 in
+    let serve = with_command c.in_ok-subcommand-2.ensures c.in_ok-serve.ensures stop in
+    IfOk-weaker c.subcommand-3.result _ _ (λ m h. (links.0, links.1, with_command h c.in_ok-call.ensures serve)) c.subcommand-3.ensures

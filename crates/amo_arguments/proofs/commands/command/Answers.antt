@@ -4,11 +4,7 @@ use Rattle.amo_arguments.proofs.commands.command.Goals as goal
 
 pub returns : goal.returns
 returns c =
-    let links = c.in_ok-acting.ensures in
-    let audit = with_command c.in_ok-subcommand.ensures c.in_ok-audit.ensures links.2 in
-    let explain = with_command c.in_ok-subcommand-2.ensures c.in_ok-explain.ensures audit in
-    let outcomes = with_command c.in_ok-subcommand-3.ensures c.in_ok-outcomes.ensures explain in
-    let got = with_command c.in_ok-subcommand-4.ensures c.in_ok-got.ensures outcomes in
-    let manual = with_command c.in_ok-subcommand-5.ensures c.manual.ensures got in
+    let links = c.in_ok-telling.ensures in
+    let manual = with_command c.in_ok-subcommand.ensures c.manual.ensures links.2 in
     let shells = c.in_ok-completions.ensures in
-    IfOk-weaker c.subcommand-6.result _ _ (λ m h. (links.0, links.1, (shells.0, shells.1, with_command h shells.2 manual))) c.subcommand-6.ensures
+    IfOk-weaker c.subcommand-2.result _ _ (λ m h. (links.0, links.1, (shells.0, shells.1, with_command h shells.2 manual))) c.subcommand-2.ensures
