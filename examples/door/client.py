@@ -3,10 +3,12 @@
     Sender("127.0.0.1:7003", 3, "put.calls").put("order 17", b"pay Ann 100")
     Receiver("127.0.0.1:7004", 3, "taken.calls").take(wait=30)
 
-A stream has one program at a time at each end, and that one file, which has each call before it is made. The next start makes again what has no answer.
+A stream must have one program at each end, and that one file, which has each call before it is made. The next start makes again what has no answer. Who else
+puts on the stream would have what became of its message told as if it were yours: behind a start of its host a call is known by its number alone.
 """
 
 import contextlib
+import fcntl
 import http.client
 import json
 import secrets
@@ -14,19 +16,27 @@ import sqlite3
 import time
 
 TABLES = """
+PRAGMA synchronous = EXTRA;
+CREATE TABLE IF NOT EXISTS streams (stream TEXT);
 CREATE TABLE IF NOT EXISTS puts (name TEXT PRIMARY KEY, message BLOB, state TEXT DEFAULT 'new', life TEXT, number INTEGER, by TEXT);
 CREATE TABLE IF NOT EXISTS takes (life TEXT, number INTEGER, by TEXT, behind INTEGER);
 """
 
 
 class Door:
-    """A stream of the host with a door at HOST:PORT, and the file. What is not answered in so many seconds ends with TimeoutError: call again."""
+    """A stream of the host with a door at HOST:PORT, and its file. What is not answered in so many seconds ends with TimeoutError: call again."""
 
     def __init__(self, door, stream, file, token=None, seconds=60):
         self.door, self.stream, self.seconds = door, f"/v1/streams/{stream}", seconds
         self.fields = {"Authorization": f"Bearer {token}"} if token else {}
+        # One at a time has the file: else two would ask for the same number. Who comes second ends with BlockingIOError.
+        self.lock = open(f"{file}.lock", "ab")
+        fcntl.flock(self.lock, fcntl.LOCK_EX | fcntl.LOCK_NB)
         self.base = sqlite3.connect(file, isolation_level=None)
         self.base.executescript(TABLES)
+        self.base.execute("INSERT INTO streams SELECT ? WHERE NOT EXISTS (SELECT * FROM streams)", (self.stream,))
+        if self.base.execute("SELECT * FROM streams").fetchone() != (self.stream,):
+            raise ValueError(f"{file} is of another stream")
 
     def ask(self, method, target, wanted=(200,), body=None):
         """The status, the fields and the body of the answer, whatever happens on the way to it. One of another status than is wanted is a fault."""
@@ -59,6 +69,8 @@ class Sender(Door):
         if len(message) > 1024:
             raise ValueError("a message has 1,024 bytes at most")
         self.base.execute("INSERT OR IGNORE INTO puts (name, message) VALUES (?, ?)", (name, message))
+        if self.base.execute("SELECT message FROM puts WHERE name = ?", (name,)).fetchone() != (message,):
+            raise ValueError(f"another message was put as {name}")
         self.finish()
         state, again = self.outcome(name), ("new", "gone")
         while state in again:

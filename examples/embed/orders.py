@@ -19,36 +19,43 @@ import time
 class Orders:
     def __init__(self, path):
         self.base = sqlite3.connect(path, timeout=30, isolation_level=None)
-        self.base.execute("PRAGMA synchronous = FULL")
-        for table in "orders (id INTEGER PRIMARY KEY, text TEXT, state TEXT DEFAULT 'new')", "work (line INTEGER PRIMARY KEY, text TEXT)":
+        self.base.execute("PRAGMA synchronous = EXTRA")
+        for table in "orders (id INTEGER PRIMARY KEY AUTOINCREMENT, text TEXT, state TEXT DEFAULT 'new', line INTEGER)", "work (line INTEGER, text TEXT UNIQUE)":
             self.base.execute(f"CREATE TABLE IF NOT EXISTS {table}")
 
     def of(self, *states):
         return [row for row in self.base.execute("SELECT id, text, state FROM orders ORDER BY id").fetchall() if row[2] in states]
 
-    def mark(self, number, state):
-        self.base.execute("UPDATE orders SET state = ? WHERE id = ?", (state, number))
+    def mark(self, number, state, line=None):
+        self.base.execute("UPDATE orders SET state = ?, line = ifnull(?, line) WHERE id = ?", (state, line, number))
+
+
+def message(told):
+    """A text with a control character is told in HEX."""
+    return told["text"] if "text" in told else bytes.fromhex(told["hex"]).decode(errors="backslashreplace")
 
 
 def outcomes(amo, *journals):
-    """What is told of each order that was put, by the number that its message begins with: of its last put. None where the journals tell nothing now."""
-    ran = subprocess.run([amo, "outcomes", *journals, "--json"], stdout=subprocess.PIPE, stderr=subprocess.DEVNULL, check=False)
-    if ran.returncode:
-        return None
-    return {int(it["text"].split(" ")[0]): it["outcome"] for it in map(json.loads, ran.stdout.splitlines())}
+    """Of each line of the sender's journal that put an order, the order's number and what became of that put. Two journals may tell nothing now."""
+    ran = subprocess.run([amo, "outcomes", *journals, "--json"], stdout=subprocess.PIPE, check=len(journals) == 1)
+    return {it["number"]: (message(it).split(" ")[0], it["outcome"]) for it in map(json.loads, ran.stdout.splitlines())}
 
 
 def settle(orders, amo, journal, peer):
-    """Learns what became of what was handed to a host: of what the journal does not have, nothing was put."""
-    # A host at work may be in the middle of a line.
-    while (known := outcomes(amo, journal)) is None:
-        time.sleep(0.05)
-    by_both = (outcomes(amo, journal, peer) if peer != "-" else None) or {}
-    for number, _, _ in orders.of("sent", "doubt"):
-        outcome = known.get(number, "gone")
-        if outcome == "unknown" and by_both.get(number) != "open":
-            outcome = by_both.get(number, "unknown")
-        orders.mark(number, {"got": "done", "gone": "new", "open": "sent"}.get(outcome, "doubt"))
+    """Learns what became of what was handed to a host: of what the journal does not have, nothing was put, if it is the journal that was there before."""
+    alone, both = outcomes(amo, journal), outcomes(amo, journal, peer) if peer != "-" else {}
+    last_puts = {number: line for line, (number, _) in alone.items()}
+    known = orders.base.execute("SELECT line, id FROM orders WHERE line IS NOT NULL ORDER BY line DESC LIMIT 1").fetchone() or (None, None)
+    if alone.get(known[0], [None])[0] != str(known[1]):
+        # It is a new one, with line numbers of its own: of what stood in another one nothing is known any more.
+        orders.base.execute("UPDATE orders SET line = NULL, state = replace(state, 'sent', 'doubt')")
+    for number, _, state in orders.of("sent", "doubt"):
+        line = last_puts.get(str(number))
+        outcome = alone[line][1] if line is not None else "gone" if state == "sent" else "unknown"
+        # Where the other journal is behind, an earlier put of this order may be the last one that both tell of.
+        if outcome.startswith("unknown") and line in both and both[line][1] != "open":
+            outcome = both[line][1]
+        orders.mark(number, {"got": "done", "gone": "new", "open": "sent"}.get(outcome, "doubt"), line)
 
 
 def start(command):
@@ -56,28 +63,28 @@ def start(command):
     while True:
         host = subprocess.Popen([*command, "--json"], stdin=subprocess.PIPE, stdout=subprocess.PIPE, stderr=subprocess.PIPE, text=True)
         for line in host.stderr:
+            sys.stderr.write(line)
             if line.startswith("amo: listens on"):
-                threading.Thread(target=host.stderr.read, daemon=True).start()
+                threading.Thread(target=sys.stderr.writelines, args=[host.stderr], daemon=True).start()
                 return host
-        host.wait()
-        time.sleep(0.1)
+        if host.wait() == 2:
+            sys.exit("the host refuses its arguments")
+        time.sleep(0.2)
 
 
 def send(orders, journal, peer, command):
     """One life of a host. What an earlier one left is settled before anything is sent."""
-    host = start(command)
-    sent = set()
+    host, sent = start(command), {}
 
     def hand_on(stream):
         if new := next(queue, None):
             # First the table: were the line first, and this program killed behind it, the order would be sent again.
             orders.mark(new[0], "sent")
-            sent.add(new[0])
+            sent[new[0]] = None
             print(json.dumps({"stream": stream, "id": str(new[0]), "text": f"{new[0]} {new[1]}"}), file=host.stdin, flush=True)
 
     try:
-        # It notes the crash before it: what waited then is gone.
-        time.sleep(0.2)
+        time.sleep(0.2)  # It notes the crash before it: what waited then is gone.
         settle(orders, command[0], journal, peer)
         queue = iter(orders.of("new"))
         for stream in range(1, int(command[command.index("--streams") + 1]) + 1):
@@ -86,9 +93,10 @@ def send(orders, journal, peer, command):
             told = json.loads(line)
             if told["event"] == "refused":
                 sys.exit(f"order {told.get('id')}: {told['reason']}")
+            if told["event"] == "ok":
+                sent[int(told["id"])] = told["line"]
             if state := {"yes": "done", "no": "doubt"}.get(told["event"]):
-                orders.mark(int(told["id"]), state)
-                sent.remove(int(told["id"]))
+                orders.mark(int(told["id"]), state, sent.pop(int(told["id"])))
                 hand_on(told["stream"])
     except BrokenPipeError:
         pass
@@ -98,19 +106,28 @@ def send(orders, journal, peer, command):
 
 
 def work(orders, journal, amo):
-    """Carries out each message once: its line in the journal is kept in the same transaction as the work."""
-    (last,) = orders.base.execute("SELECT MAX(line) FROM work").fetchone()
-    after = [] if last is None else ["--after", str(last)]
-    with subprocess.Popen([amo, "got", journal, *after, "--follow", "--json"], stdout=subprocess.PIPE) as got:
+    """Carries out each order once: that it was is kept in the same transaction as the work."""
+    ask = [amo, "got", journal, "--json", "--after"]
+    line, text = orders.base.execute("SELECT line, text FROM work ORDER BY rowid DESC LIMIT 1").fetchone() or (1, None)
+    with subprocess.Popen([*ask, str(line - 1)], stdout=subprocess.PIPE) as got:
+        first = json.loads(got.stdout.readline() or "{}")
+    # Another journal may be there by now, with line numbers of its own: that is read from its first line on.
+    after = line if first and (first["number"], message(first)) == (line, text) else 0
+    with subprocess.Popen([*ask, str(after), "--follow"], stdout=subprocess.PIPE) as got:
         for it in map(json.loads, got.stdout):
-            orders.base.execute("INSERT INTO work VALUES (?, ?)", (it["number"], it["text"]))
+            orders.base.execute("INSERT INTO work VALUES (?, ?) ON CONFLICT (text) DO NOTHING", (it["number"], message(it)))
+    sys.exit(f"amo got ended with status {got.returncode}")
 
 
 def main(table, act, *words):
     orders = Orders(table)
     if act == "add":
+        if len(words[0].encode()) > 1000 or len(json.dumps(words[0])) > 4000:
+            sys.exit("the order is too long: with its number a message has 1,024 bytes at most, and a host's line of JSON 4,096")
         orders.base.execute("INSERT INTO orders (text) VALUES (?)", words)
     elif act == "send":
+        if "--sync" not in words:
+            sys.exit("give the host --sync: else a loss of power takes lines whose packets left, and what the journal does not have may have been carried out")
         while orders.of("new", "sent"):
             send(orders, *words[:2], words[2:])
     else:
