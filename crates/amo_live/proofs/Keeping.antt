@@ -3,7 +3,7 @@ use Rattle.std.proofs.Common.{◌≡◌, ℕ, zero, suc, ◌+◌, ◌-◌, ◌<�
 use Rattle.std.specs.List.{filter}
 use Rattle.std.proofs.lemmas.Grind.{flat_map-append}
 use Rattle.std.proofs.lemmas.List.{set_past}
-use Rattle.amo_live.specs.Backlog.{kept_on}
+use Rattle.amo_lines.specs.Backlog.{kept_on}
 use Rattle.amo_live.specs.Service.{doubtful_to}
 use Rattle.amo_live.specs.Unanswered.{Kept, KeptLines, ended, is_put, keeping, kept_of, left_by, others, text_on}
 

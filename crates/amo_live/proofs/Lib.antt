@@ -1,6 +1,3 @@
-pub mod Clients
-pub mod Backlogs
-pub mod Conserving
 pub mod Driving
 pub mod Dues
 pub mod Emissions
@@ -10,9 +7,7 @@ pub mod Onwards
 pub mod Performing
 pub mod OwnWords
 pub mod Opens
-pub mod Owing
 pub mod Suiting
-pub mod Readers
 pub mod Repeating
 pub mod Returning
 pub mod Putting

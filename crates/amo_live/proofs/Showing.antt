@@ -33,15 +33,17 @@ use Rattle.amo_journal.specs.declared.version.Version.{Version}
 use Rattle.amo_journal.specs.declared.version.Version.TheVariants.{One, Two}
 use Rattle.amo_journal.specs.Version.{newest}
 use Rattle.amo_live.specs.declared.fault.LiveFault.{LiveFault}
-use Rattle.amo_live.specs.declared.lines.Spelling.{Spelling}
-use Rattle.amo_live.specs.declared.lines.Word.{Word}
+use Rattle.amo_lines.specs.declared.lines.Spelling.{Spelling}
+use Rattle.amo_lines.specs.declared.lines.Word.{Word}
 use Rattle.amo_live.specs.Host.{HostState, Did, Delivered, Looks, message_in, word_for}
 use Rattle.amo_live.specs.Service.{start_of}
 use Rattle.amo_live.proofs.Emissions.{grown_extends}
 use Rattle.amo_live.proofs.Ending.{ends_handshake, sending_begins}
 use Rattle.amo_live.proofs.Repeating.{looks_extend, looks_still, none_extends, none_still}
-use Rattle.amo_live.specs.Object.{Name}
-use Rattle.amo_live.specs.Shown.{BeginsWithPut, IsRefusing, IsShown, says_nothing, says_message, says_answer, says_put, Refused, Said, Says, Shows, ShowsMore, Tells, Told, answered, behind, first_id, message_line, ok_line, refused_line, said_of, told_ack, told_answer, told_answers, settled_line, told_line, told_put, told_settled, word_line, word_of}
+use Rattle.amo_lines.specs.Object.{Name}
+use Rattle.amo_lines.specs.Owed.{answered, first_id}
+use Rattle.amo_lines.specs.Spelt.{Refused, message_line, ok_line, refused_line, settled_line, word_line, word_of}
+use Rattle.amo_live.specs.Shown.{BeginsWithPut, IsRefusing, IsShown, says_nothing, says_message, says_answer, says_put, Said, Says, Shows, ShowsMore, Tells, Told, behind, said_of, told_ack, told_answer, told_answers, told_line, told_put, told_settled}
 
 -- what a pass has seen is what it had seen, and more
 itself : (events : List Event) → Extends events events

@@ -1,5 +1,4 @@
 pub use Rattle.amo_settings.specs.Limits
-pub mod Backlog
 pub mod Callers
 pub mod Client
 pub mod Due
@@ -9,7 +8,6 @@ pub mod Host
 pub mod HostLives
 pub mod Noted
 pub mod Notices
-pub mod Object
 pub mod Plans
 pub mod Service
 pub mod Shown

@@ -13,7 +13,7 @@ use Rattle.amo_host.specs.AtStream.{AreCalm, HasMode}
 use Rattle.amo_host.specs.Host as host
 use Rattle.amo_live.specs.Host.{puts_in}
 use Rattle.amo_live.specs.Shown.{Told}
-use Rattle.amo_live.specs.declared.lines.Spelling.{Spelling}
+use Rattle.amo_lines.specs.declared.lines.Spelling.{Spelling}
 use Rattle.amo_live.specs.declared.service.Lane.{Lane}
 use Rattle.amo_live.specs.declared.service.door.SenderLane.{SenderLane}
 use Rattle.amo_live.specs.declared.service.door.Settled.{Settled}

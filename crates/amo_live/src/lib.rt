@@ -23,7 +23,8 @@
 //! life are at their end another one begins.
 //!
 //! **A sender keeps the lines that still matter**: of its journal those that tell of messages without an answer, [`Service::unanswered_lines`]. They bring
-//! the sender of each stream to where the whole journal does. A [`Keeper`] looks at a host behind each of its turns, when all lines are with the system.
+//! the sender of each stream to where the whole journal does. Who keeps account of them looks at a host when all its lines are with
+//! the system.
 //!
 //! The contracts say it so. Each call that makes an event asks that the journal has all lines so far, and gives that back with
 //! Ok. It never touches the link: what its row emits is added to the packets that are to leave. [`Host::send`], which hands them to the
@@ -33,12 +34,14 @@
 //! **A pump drives the streams**: it knows which are at rest, which wait for the peer and since when, and what is to be sent again next. A host asks
 //! it, and begins a handshake only where a message waits: an empty start would be a line.
 //!
+//! **What clients' lines say is a matter of [`amo_lines`]**, whose types it hands on. A host puts their messages, and shows what its events tell, in its lines.
+//!
 //! The definitions stand in `specs/`: a journal that goes on in `Noted.antt`, a host and what its calls do in `Host.antt`, packets that leave again in
-//! `Emitted.antt`, words that events bear in `Words.antt`, and those of a host's lives in `HostLives.antt`.
+//! `Emitted.antt`, words that events bear in `Words.antt`, and those of a host's lives in `HostLives.antt`; what becomes of clients' messages in
+//! `Client.antt`, and what clients are shown in `Shown.antt`.
 #![tactic(auto)]
 
 mod acts;
-mod backlog;
 mod bell;
 mod calls;
 mod fault;
@@ -46,52 +49,38 @@ mod figures;
 mod given_word;
 mod host;
 mod host_lives;
-mod id;
-mod ids;
-mod input;
 mod journal;
-mod keeper;
-mod lines;
+mod limits;
 mod lives_file;
-mod named;
 mod notices;
 mod noting;
-mod object;
 mod outbox;
 mod own_file;
 mod parcel;
 mod plan;
-mod process;
-mod ready;
 mod recent;
 mod service;
 mod socket;
-mod stats;
+mod starting;
 mod stream_lines;
-mod turns;
 mod unanswered;
 mod words;
 
 pub use amo_disk::{Cause, Durable, OpenFault};
 pub use amo_journal::Version;
-pub use backlog::Backlog;
+pub use amo_lines::{Backlog, Id, Input, Line, LineFault, NamedMessage, Spelling};
 pub use bell::Bell;
-pub use fault::{LiveFault, LivesOpenFault, ProcessFault, ServeFault, SocketFault};
+pub use fault::{LiveFault, LivesOpenFault, SocketFault};
 pub use figures::{Dropped, Figures, Times, Traffic};
 pub use given_word::GivenWord;
 pub use host::Host;
 pub use host_lives::HostLives;
-pub use id::Id;
-pub use input::{Input, Line};
 pub use journal::Journal;
-pub use keeper::Keeper;
-pub use lines::{LineFault, Spelling};
+pub use limits::{Ended, Limits};
 pub use lives_file::OpenedLives;
-pub use named::NamedMessage;
 pub use notices::{Notices, Silence};
 pub use plan::Plan;
-pub use process::{run_process, start};
 pub use service::{EventAt, MOST_DATAGRAMS, SenderLane, Service, Settled, Setup};
 pub use socket::Socket;
-pub use turns::{Desk, Ended, Limits, serve};
+pub use starting::start;
 pub use words::Lineage;

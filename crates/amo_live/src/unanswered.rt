@@ -1,6 +1,6 @@
 //! The lines of a sender's journal that matter for messages without an answer.
 ghost use Rattle.std.specs.Prelude.{◌≡◌, ◌+◌, ◌<◌, ◌≤◌, ◌++◌, ℕ, [], IfOk, IfSome, IfNone, OnOk, length};
-ghost use Rattle.amo_live.specs.Backlog.{kept_on};
+ghost use Rattle.amo_lines.specs.Backlog.{kept_on};
 ghost use Rattle.amo_live.specs.Unanswered.{ended, keeping, text_of};
 
 use crate::stream_lines::{Kind, StreamLines};

@@ -5,10 +5,10 @@ ghost use Rattle.amo_live.specs.Service.{PutsNone, is_rcvd, shown_by, spelling_o
 ghost use Rattle.amo_live.specs.Shown.{ShowsMore};
 ghost use Rattle.amo_live.specs.Words.{BearsNew};
 
-use crate::lines::push_message;
 use crate::service::{Lane, Service};
 use crate::{Lineage, LiveFault};
 use amo_core::Mode;
+use amo_lines::push_message;
 use amo_net::Link;
 use amo_text::Sink;
 

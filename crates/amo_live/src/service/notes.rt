@@ -5,11 +5,10 @@ ghost use Rattle.amo_live.specs.Client.{has};
 ghost use Rattle.amo_live.specs.Service.{begins_to_send, is_in_doubt, shown_by, spelling_of, streams_of, words_of};
 ghost use Rattle.amo_live.specs.Shown.{told_ack, told_answer, told_answers, told_put, told_refused, told_settled};
 
-use crate::id::Id;
-use crate::lines::{Word, push_ok, push_refused, push_settled, push_word};
 use crate::service::{Lane, Service};
 use crate::{Figures, Lineage, Times};
 use amo_core::Mode;
+use amo_lines::{Id, Word, push_ok, push_refused, push_settled, push_word};
 use amo_net::Link;
 use amo_object::End;
 use amo_packet::{Body, Packet, read};
@@ -164,14 +163,12 @@ impl<L: Link, S: Sink, W: Lineage> Service<L, S, W> {
     }
 
     /// The client's line of this number is none that is put, for this reason.
-    pub(crate) fn tell_refused(
-        &mut self,
-        id: &Id,
-        line: u64,
-        reason: &str,
-    ) -> Result<(), AllocError>
+    pub fn tell_refused(&mut self, id: &Id, line: u64, reason: &str) -> Result<(), AllocError>
         ensures told { OnOk result (shown_by self.new ≡ told_refused (record { id = id.now; input = line; reason = reason.now }) (shown_by self.old)) }
-        ensures same { self.new ≡ record self.old { shown = self.new.shown } }
+        ensures host { self.new.host ≡ self.old.host }
+        ensures streams { streams_of self.new ≡ streams_of self.old }
+        ensures words { words_of self.new ≡ words_of self.old }
+        ensures spelling { spelling_of self.new ≡ spelling_of self.old }
     {
         push_refused(&mut self.shown, id, line, reason.as_bytes())
     }

@@ -2,7 +2,7 @@ use Rattle.std.proofs.Common.{◌≡◌, ℕ, refl, ap, ◌∙◌, rules, subst}
 use Rattle.amo_object.specs.declared.step.End.TheVariants.{Sender}
 use Rattle.amo_core.specs.declared.act.Act.TheVariants as act
 use Rattle.amo_book.specs.Calls.{put_answer}
-use Rattle.amo_live.specs.declared.lines.Spelling.{Spelling}
+use Rattle.amo_lines.specs.declared.lines.Spelling.{Spelling}
 use Rattle.amo_live.specs.Service.{shown_by, spelling_of, words_of}
 use Rattle.amo_live.proofs.Fresh.{bears_as, bears_none, bears_on, call_bears}
 use Rattle.amo_live.specs.Shown.{BeginsWithPut, told_put}

@@ -4,7 +4,8 @@ use Rattle.amo_core.specs.declared.act.Act.TheVariants as act
 use Rattle.amo_book.specs.Calls.{ack_answer}
 use Rattle.amo_live.specs.Service.{shown_by, spelling_of, words_of}
 use Rattle.amo_live.proofs.Fresh.{bears_as, bears_none, call_bears}
-use Rattle.amo_live.specs.Shown.{told_answer, word_of}
+use Rattle.amo_lines.specs.Spelt.{word_of}
+use Rattle.amo_live.specs.Shown.{told_answer}
 use Rattle.amo_live.proofs.Showing.{ack_shows, shows_as, unknown_shows}
 use Rattle.amo_live.proofs.service.Service.settle.Goals as goal
 

@@ -1,0 +1,2 @@
+pub mod Conserving
+pub mod Readers

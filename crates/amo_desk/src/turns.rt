@@ -1,0 +1,699 @@
+//! A live host's turns: it waits for its socket and its clients' lines, and does what has come.
+ghost use Rattle.std.specs.Prelude.{◌≡◌, ◌≢◌, ◌≤◌, ℕ, List, [], ◌∷◌, None, true, false, IfOk, OnOk, length, take};
+ghost use Rattle.std.specs.Io.KnownBytes.{Appends, Consumes};
+ghost use Rattle.amo_lines.specs.Input.{Waits, is_torn};
+ghost use Rattle.amo_desk.specs.Serving.{Moves, Serves, message_of, moment};
+ghost use Rattle.amo_live.specs.Host.{IsNoted};
+ghost use Rattle.amo_live.specs.Service.{Listened, shown_by, spelling_of, streams_of, words_of};
+ghost use Rattle.amo_live.specs.Shown.{IsRefusing, IsShown, ShowsMore, behind};
+ghost use Rattle.amo_live.specs.Words.{BearsNew};
+ghost use Rattle.amo_live.specs.declared.limits.Ended.TheVariants.{AtRest};
+
+use crate::ready::{Ready, Waited, takes_more, wait};
+use crate::stats::Stats;
+use crate::{Keeper, ServeFault};
+use amo_lines::{Backlog, Id, Input, Line, LineFault, NamedMessage, Spelling};
+use amo_live::{Bell, Durable, Ended, Figures, Limits, Lineage, MOST_DATAGRAMS, Notices, Service};
+use amo_net::Link;
+use amo_text::Sink;
+use std::alloc::{AllocError, Global};
+use std::io::{Read, Write};
+use std::rt::Clock;
+use std::time::Instant;
+
+/// How long a receiver waits at its end for what is still on its way, in microseconds, where it was not told.
+const LINGER: u64 = 1_000_000;
+
+/// The longest that it waits without looking up, in microseconds.
+const LONGEST: u64 = 60_000_000;
+
+/// How many bytes of messages are shown in a turn at most: what a pipe that says that it takes more takes without a wait.
+const ROOM: usize = 4096;
+
+/// The number of what is not waited for.
+const NOTHING: i32 = -1;
+
+/// Where a host's clients are.
+#[derive(Drop)]
+pub struct Desk<I, O> {
+    /// Where lines come from.
+    pub reader: I,
+    /// The number by which the system waits for them.
+    pub reader_number: i32,
+    /// Where answers go.
+    pub output: O,
+    /// The number by which the system tells that nobody reads them any more.
+    pub output_number: i32,
+    /// How many bytes the output takes without a wait: the system told that it takes more, and so much was not shown since.
+    pub room: usize,
+    /// The number by which the system waits for the host's socket.
+    pub socket_number: i32,
+    /// The lines that have come.
+    pub input: Input,
+    /// How lines are spelt.
+    pub spelling: Spelling,
+    /// Lines are messages to be put. Otherwise none is read.
+    pub puts: bool,
+    /// The messages that were not taken, which are put again.
+    pub kept: Backlog,
+    /// Where the host is asked to come to its end.
+    pub bell: Bell,
+}
+
+/// Makes one turn after another until the clients are done. The keeper looks at the host behind each.
+pub fn serve<
+    C: Clock + Eprint,
+    L: Link,
+    S: Durable,
+    W: Lineage,
+    I: Read,
+    O: Write,
+    K: Keeper<L, S, W>,
+>(
+    rt: &C,
+    service: &mut Service<L, S, W>,
+    desk: &mut Desk<I, O>,
+    limits: Limits,
+    keeper: &mut K,
+) -> Result<Ended, ServeFault>
+    requires { IsNoted S.written service.old.host }
+    ensures noted { OnOk result (IsNoted S.written service.new.host) }
+    // Each line was taken once, and its message put once or kept; a message that was refused was the next to be put on its stream.
+    ensures serves { OnOk result ((bytes : List ℕ) × Consumes (I.remaining desk.old.reader) (I.remaining desk.new.reader) bytes
+        × Serves desk.old.spelling desk.old.puts (streams_of service.old) bytes
+        (moment desk.old.input desk.old.kept service.old.host.pass) (moment desk.new.input desk.new.kept service.new.host.pass)) }
+    // What clients are shown are the replies of the host's events, in the order in which they happened.
+    ensures shown { OnOk result (IsShown (spelling_of service.old) service.old.host.pass service.new.host.pass (shown_by service.old) (shown_by service.new)
+        (O.contents desk.old.output) (O.contents desk.new.output)) }
+    // Each word that an event bears was drawn meanwhile, and none is borne twice.
+    ensures words { OnOk result (BearsNew W.is_drawn (words_of service.old) (words_of service.new) service.old.host.pass service.new.host.pass) }
+    // It does not end at rest where the last line was not taken, as it had no end.
+    ensures whole { IfOk result (λ ended. is_torn desk.new.input ≡ true → ended ≢ AtRest) }
+    ensures unread { OnOk result (desk.old.puts ≡ false → desk.new.reader ≡ desk.old.reader) }
+{
+    let start = started(rt)?;
+    let mut since: Option<u64> = None;
+    let mut notices = Notices::new();
+    let mut stats = Stats::each(limits.stats);
+    let mut told_torn = false;
+    'turns: for _turn in 0..u64::MAX {
+        let now = microseconds(rt, &start)?;
+        notices.tell(rt, service, now);
+        stats.tell(rt, service, now);
+        let is_over = limits.count.is_some_and(|count| count <= service.got());
+        since = if is_over || desk.takes_none() {
+            Some(since.unwrap_or(now))
+        } else {
+            None
+        };
+        let is_shown = service.shown().is_empty() && !service.has_unread();
+        let is_at_rest = service.is_at_rest() && is_shown && desk.keeps_none();
+        let holds = desk.bell.was_rung() && service.figures().held > 0;
+        if let Some(ended) = ending(limits, is_at_rest, holds, since, now) {
+            desk.tell_of_rest(rt);
+            desk.tell_of_open(rt, ended, service.figures());
+            desk.tell_of_unread(rt, service.shown().len());
+            stats.tell_last(rt, service, now);
+            return Ok(desk.ended(ended));
+        }
+        let until = stats.until(until(limits, service.next_due(), since));
+        turn(
+            rt,
+            service,
+            desk,
+            &start,
+            limits.sync,
+            milliseconds(until, now),
+        )?;
+        keeper.look(service)?;
+        told_torn = told_torn || desk.tell_of_torn(rt);
+    }
+    Ok(Ended::OnItsWay)
+}
+
+/// One turn, which waits at most so many milliseconds.
+fn turn<C: Clock + Eprint, L: Link, S: Durable, W: Lineage, I: Read, O: Write>(
+    rt: &C,
+    service: &mut Service<L, S, W>,
+    desk: &mut Desk<I, O>,
+    start: &Instant,
+    sync: bool,
+    limit: i32,
+) -> Result<(), ServeFault>
+    requires { IsNoted S.written service.old.host }
+    ensures noted { OnOk result (IsNoted S.written service.new.host) }
+    ensures serves { OnOk result ((bytes : List ℕ) × Consumes (I.remaining desk.old.reader) (I.remaining desk.new.reader) bytes
+        × Serves desk.old.spelling desk.old.puts (streams_of service.old) bytes
+        (moment desk.old.input desk.old.kept service.old.host.pass) (moment desk.new.input desk.new.kept service.new.host.pass)) }
+    ensures streams { streams_of service.new ≡ streams_of service.old }
+    ensures shown { OnOk result (IsShown (spelling_of service.old) service.old.host.pass service.new.host.pass (shown_by service.old) (shown_by service.new)
+        (O.contents desk.old.output) (O.contents desk.new.output)) }
+    ensures words { OnOk result (BearsNew W.is_drawn (words_of service.old) (words_of service.new) service.old.host.pass service.new.host.pass) }
+    ensures spells { spelling_of service.new ≡ spelling_of service.old }
+    ensures spelling { desk.new.spelling ≡ desk.old.spelling }
+    ensures puts { desk.new.puts ≡ desk.old.puts }
+    ensures unread { OnOk result (desk.old.puts ≡ false → desk.new.reader ≡ desk.old.reader) }
+{
+    let datagrams = desk.wait(rt, service, limit)?;
+    let now = microseconds(rt, start)?;
+    let room = desk.room();
+    service.hear(now, room, datagrams, desk.bell.was_rung())?;
+    service.resend(now)?;
+    let text_first = !desk.puts || !service.shown().is_empty();
+    // After the datagrams: what they made room for is put before the host waits again.
+    take_lines(rt, service, desk, now)?;
+    service.host.write_down(sync)?;
+    hand_out(service, desk, text_first)?;
+    Ok(())
+}
+
+/// Shows what is to be shown, and hands the packets that are to leave to the link. Text goes first where it has messages or what became of them: no ack
+/// leaves before its message was shown. That lines were taken is shown behind their packets, which others wait for. Answers that a sender's output does not
+/// take without a wait stay for a later turn.
+fn hand_out<L: Link, S: Durable, W: Lineage, I: Read, O: Write>(
+    service: &mut Service<L, S, W>,
+    desk: &mut Desk<I, O>,
+    text_first: bool,
+) -> Result<(), ServeFault>
+    requires noted { IsNoted S.written service.old.host }
+    requires flushed { S.flushed service.old.host.journal.sink ≡ S.written service.old.host.journal.sink }
+    ensures noted { IsNoted S.written service.new.host }
+    ensures pass { service.new.host.pass ≡ service.old.host.pass }
+    ensures streams { streams_of service.new ≡ streams_of service.old }
+    ensures words { words_of service.new ≡ words_of service.old }
+    ensures spells { spelling_of service.new ≡ spelling_of service.old }
+    // Of what was to be shown the front was, and the rest is to be shown.
+    ensures shown { OnOk result ((written : List ℕ) × Appends (O.contents desk.old.output) (O.contents desk.new.output) written × (shown_by service.old ≡ behind written (shown_by service.new))) }
+    // A receiver shows all.
+    ensures received { OnOk result (desk.old.puts ≡ false → Appends (O.contents desk.old.output) (O.contents desk.new.output) (shown_by service.old).text) }
+    ensures same { desk.new ≡ record desk.old { output = desk.new.output; room = desk.new.room } }
+{
+    if !text_first {
+        service.host.send();
+    }
+    let count = desk.show(service.shown())?;
+    service.pass_shown(count);
+    if text_first {
+        service.host.send();
+    }
+    // Whether the output takes more is asked while the peer is at work, and not while it waits.
+    desk.room();
+    Ok(())
+}
+
+/// Puts what came: first what waits, stream after stream, and then each line, until as many messages wait as may.
+fn take_lines<C: Eprint, L: Link, S: Durable, W: Lineage, I: Read, O: Write>(
+    rt: &C,
+    service: &mut Service<L, S, W>,
+    desk: &mut Desk<I, O>,
+    now: u64,
+) -> Result<(), ServeFault>
+    requires { IsNoted S.written service.old.host }
+    ensures noted { OnOk result (IsNoted S.written service.new.host) }
+    ensures serves { OnOk result (Serves desk.old.spelling desk.old.puts (streams_of service.old) []
+        (moment desk.old.input desk.old.kept service.old.host.pass) (moment desk.new.input desk.new.kept service.new.host.pass)) }
+    ensures streams { streams_of service.new ≡ streams_of service.old }
+    ensures shown { OnOk result (ShowsMore (spelling_of service.old) service.old.host.pass service.new.host.pass (shown_by service.old) (shown_by service.new)) }
+    ensures words { OnOk result (BearsNew W.is_drawn (words_of service.old) (words_of service.new) service.old.host.pass service.new.host.pass) }
+    ensures spells { spelling_of service.new ≡ spelling_of service.old }
+    ensures same { desk.new ≡ record desk.old { input = desk.new.input; kept = desk.new.kept } }
+{
+    if desk.bell.was_rung() {
+        return Ok(());
+    }
+    put_kept(service, &mut desk.kept, now)?;
+    'lines: for _line in 0..u64::MAX {
+        if desk.kept.is_full() {
+            break;
+        }
+        let Some(line) = desk.input.next(desk.spelling)? else {
+            break;
+        };
+        put_line(rt, service, desk, line, now)?;
+    }
+    Ok(())
+}
+
+/// Puts the messages that wait, stream after stream, each as far as it takes them.
+fn put_kept<L: Link, S: Durable, W: Lineage>(
+    service: &mut Service<L, S, W>,
+    kept: &mut Backlog,
+    now: u64,
+) -> Result<(), ServeFault>
+    requires { IsNoted S.written service.old.host }
+    ensures noted { OnOk result (IsNoted S.written service.new.host) }
+    ensures moves { OnOk result (Moves [] kept.old kept.new service.old.host.pass service.new.host.pass) }
+    ensures streams { streams_of service.new ≡ streams_of service.old }
+    ensures shown { OnOk result (ShowsMore (spelling_of service.old) service.old.host.pass service.new.host.pass (shown_by service.old) (shown_by service.new)) }
+    ensures words { OnOk result (BearsNew W.is_drawn (words_of service.old) (words_of service.new) service.old.host.pass service.new.host.pass) }
+    ensures spells { spelling_of service.new ≡ spelling_of service.old }
+{
+    if kept.is_empty() {
+        return Ok(());
+    }
+    let streams = kept.streams();
+    'streams: for place in 0..streams {
+        put_kept_on(service, kept, place.saturating_add(1), now)?;
+    }
+    Ok(())
+}
+
+/// Puts the messages that wait on a stream, until it takes no more.
+fn put_kept_on<L: Link, S: Durable, W: Lineage>(
+    service: &mut Service<L, S, W>,
+    kept: &mut Backlog,
+    stream: u32,
+    now: u64,
+) -> Result<(), ServeFault>
+    requires { IsNoted S.written service.old.host }
+    ensures noted { OnOk result (IsNoted S.written service.new.host) }
+    ensures moves { OnOk result (Moves [] kept.old kept.new service.old.host.pass service.new.host.pass) }
+    ensures streams { streams_of service.new ≡ streams_of service.old }
+    ensures shown { OnOk result (ShowsMore (spelling_of service.old) service.old.host.pass service.new.host.pass (shown_by service.old) (shown_by service.new)) }
+    ensures words { OnOk result (BearsNew W.is_drawn (words_of service.old) (words_of service.new) service.old.host.pass service.new.host.pass) }
+    ensures spells { spelling_of service.new ≡ spelling_of service.old }
+{
+    'messages: for _message in 0..u64::MAX {
+        if !put_first(service, kept, stream, now)? {
+            break;
+        }
+    }
+    Ok(())
+}
+
+/// Puts the first message that waits on a stream. Answers whether it was taken.
+#[tactic(auto, using(amo_live::proofs::Fresh::bears_none))]
+fn put_first<L: Link, S: Durable, W: Lineage>(
+    service: &mut Service<L, S, W>,
+    kept: &mut Backlog,
+    stream: u32,
+    now: u64,
+) -> Result<bool, ServeFault>
+    requires { IsNoted S.written service.old.host }
+    ensures noted { OnOk result (IsNoted S.written service.new.host) }
+    ensures moves { OnOk result (Moves [] kept.old kept.new service.old.host.pass service.new.host.pass) }
+    ensures streams { streams_of service.new ≡ streams_of service.old }
+    ensures shown { OnOk result (ShowsMore (spelling_of service.old) service.old.host.pass service.new.host.pass (shown_by service.old) (shown_by service.new)) }
+    ensures words { OnOk result (BearsNew W.is_drawn (words_of service.old) (words_of service.new) service.old.host.pass service.new.host.pass) }
+    ensures spells { spelling_of service.new ≡ spelling_of service.old }
+{
+    let Some(named) = kept.take(stream) else {
+        return Ok(false);
+    };
+    match service.put(stream, named, now)? {
+        Some(named) => {
+            kept.put_back(stream, named)?;
+            Ok(false)
+        }
+        None => Ok(true),
+    }
+}
+
+/// Puts the message of a line, if it is one for a stream of this host.
+#[tactic(auto, using(amo_live::proofs::Fresh::bears_none))]
+fn put_line<C: Eprint, L: Link, S: Durable, W: Lineage, I: Read, O: Write>(
+    rt: &C,
+    service: &mut Service<L, S, W>,
+    desk: &mut Desk<I, O>,
+    line: Line,
+    now: u64,
+) -> Result<(), ServeFault>
+    requires { IsNoted S.written service.old.host }
+    ensures noted { OnOk result (IsNoted S.written service.new.host) }
+    ensures moves { OnOk result (Moves (message_of desk.old.puts (streams_of service.old) line) desk.old.kept desk.new.kept service.old.host.pass service.new.host.pass) }
+    ensures streams { streams_of service.new ≡ streams_of service.old }
+    ensures shown { OnOk result (ShowsMore (spelling_of service.old) service.old.host.pass service.new.host.pass (shown_by service.old) (shown_by service.new)) }
+    ensures words { OnOk result (BearsNew W.is_drawn (words_of service.old) (words_of service.new) service.old.host.pass service.new.host.pass) }
+    ensures spells { spelling_of service.new ≡ spelling_of service.old }
+    ensures same { desk.new ≡ record desk.old { kept = desk.new.kept } }
+{
+    match line {
+        Line::Put(stream, named) if desk.puts && service.has(stream) => {
+            put_or_keep(service, &mut desk.kept, stream, named, now)?;
+        }
+        Line::Put(stream, named) => {
+            let fault = LineFault::Stream(u64::from(stream));
+            refuse(rt, service, desk, fault, &named.id)?;
+        }
+        Line::Unread(fault, id) => refuse(rt, service, desk, fault, &id)?,
+    }
+    Ok(())
+}
+
+/// Puts a message, unless others wait on its stream. One that is not taken waits behind them.
+#[tactic(auto, using(amo_live::proofs::Fresh::bears_none))]
+fn put_or_keep<L: Link, S: Durable, W: Lineage>(
+    service: &mut Service<L, S, W>,
+    kept: &mut Backlog,
+    stream: u32,
+    named: NamedMessage,
+    now: u64,
+) -> Result<(), ServeFault>
+    requires { IsNoted S.written service.old.host }
+    ensures noted { OnOk result (IsNoted S.written service.new.host) }
+    ensures moves { OnOk result (Moves ((stream, named) ∷ []) kept.old kept.new service.old.host.pass service.new.host.pass) }
+    ensures streams { streams_of service.new ≡ streams_of service.old }
+    ensures shown { OnOk result (ShowsMore (spelling_of service.old) service.old.host.pass service.new.host.pass (shown_by service.old) (shown_by service.new)) }
+    ensures words { OnOk result (BearsNew W.is_drawn (words_of service.old) (words_of service.new) service.old.host.pass service.new.host.pass) }
+    ensures spells { spelling_of service.new ≡ spelling_of service.old }
+{
+    if kept.has(stream) {
+        kept.keep(stream, named)?;
+        return Ok(());
+    }
+    if let Some(named) = service.put(stream, named, now)? {
+        kept.keep(stream, named)?;
+    }
+    Ok(())
+}
+
+/// Tells why the line that was taken last is none: where lines are objects its client, and else the operator.
+fn refuse<C: Eprint, L: Link, S: Durable, W: Lineage, I: Read, O: Write>(
+    rt: &C,
+    service: &mut Service<L, S, W>,
+    desk: &Desk<I, O>,
+    fault: LineFault,
+    id: &Id,
+) -> Result<(), ServeFault>
+    ensures host { service.new.host ≡ service.old.host }
+    ensures streams { streams_of service.new ≡ streams_of service.old }
+    ensures words { words_of service.new ≡ words_of service.old }
+    ensures spells { spelling_of service.new ≡ spelling_of service.old }
+    ensures told { OnOk result (IsRefusing (shown_by service.old) (shown_by service.new)) }
+{
+    if !desk.puts {
+        return Ok(());
+    }
+    if desk.spelling.json {
+        let reason = reason_of(desk.input.alloc(), fault, service.streams())?;
+        service.tell_refused(id, desk.input.lines(), reason.as_str())?;
+    } else {
+        desk.tell_refused(rt, fault, service.streams());
+    }
+    Ok(())
+}
+
+/// Why a line is none, in words, at a host of so many streams.
+fn reason_of(alloc: Global, fault: LineFault, streams: usize) -> Result<String, AllocError> {
+    match fault {
+        LineFault::Stream(stream) => format!(in alloc; "stream {stream} of {streams}"),
+        _ => format!(in alloc; "{fault}"),
+    }
+}
+
+/// When the host ends at the latest, if it does. Since a time it takes no line, if so.
+fn end_of(limits: Limits, since: Option<u64>) -> Option<u64> {
+    let limit = match limits.wait {
+        Some(wait) => wait,
+        None if limits.lingers => LINGER,
+        None => return None,
+    };
+    Some(since?.saturating_add(limit))
+}
+
+/// How the host ends, if it does now. One that was asked to come to its end and holds messages which were not got does not end at rest.
+fn ending(
+    limits: Limits,
+    is_at_rest: bool,
+    holds: bool,
+    since: Option<u64>,
+    now: u64,
+) -> Option<Ended> {
+    if since.is_some() && is_at_rest {
+        return Some(Ended::AtRest);
+    }
+    if now < end_of(limits, since)? {
+        return None;
+    }
+    if holds || limits.wait.is_some() {
+        Some(Ended::OnItsWay)
+    } else {
+        Some(Ended::AtRest)
+    }
+}
+
+/// When it looks up at the latest.
+fn until(limits: Limits, due: Option<u64>, since: Option<u64>) -> Option<u64> {
+    match (due, end_of(limits, since)) {
+        (Some(due), Some(end)) => Some(due.min(end)),
+        (due, None) => due,
+        (None, end) => end,
+    }
+}
+
+impl<I: Read, O: Write> Desk<I, O> {
+    /// Whether no line is taken any more.
+    fn takes_none(&self) -> bool {
+        self.bell.was_rung() || !self.input.is_open()
+    }
+
+    /// Whether no message waits to be put: none was refused, or the host comes to its end before.
+    fn keeps_none(&self) -> bool {
+        self.bell.was_rung() || self.kept.is_empty()
+    }
+
+    /// Tells which lines were not put, where the host was asked to come to its end.
+    fn tell_of_rest<C: Eprint>(&self, rt: &C) {
+        if !self.bell.was_rung() {
+            return;
+        }
+        let (kept, lines) = (self.kept.len(), self.input.lines());
+        let _ = if !self.puts {
+            eprintln!(rt; "amo: was asked to come to its end")
+        } else if kept == 0 {
+            eprintln!(rt; "amo: was asked to come to its end: no line behind line {lines} was put")
+        } else {
+            eprintln!(rt;
+                "amo: was asked to come to its end: {kept} of the lines up to line {lines} were not put, and none behind it"
+            )
+        };
+    }
+
+    /// Tells how much is open at the end, where something is.
+    fn tell_of_open<C: Eprint>(&self, rt: &C, ended: Ended, figures: Figures) {
+        let Ended::OnItsWay = ended else {
+            return;
+        };
+        let Figures {
+            waiting,
+            held,
+            open,
+            ..
+        } = figures;
+        let kept = self.kept.len();
+        let _ = if self.puts {
+            eprintln!(rt;
+                "amo: not finished: handshakes {open}, messages behind them {waiting}, lines not put {kept}"
+            )
+        } else {
+            eprintln!(rt; "amo: not finished: handshakes {open}, messages not got {held}")
+        };
+    }
+
+    /// Tells how much of the answers nobody has read, at the end.
+    fn tell_of_unread<C: Eprint>(&self, rt: &C, bytes: usize) {
+        if bytes > 0 {
+            let _ = eprintln!(rt;
+                "amo: {bytes} bytes of answers could not be shown: `amo outcomes` tells what became of each message"
+            );
+        }
+    }
+
+    /// Waits, also until what waits to be shown can be, and reads lines once where some have come, unless as many messages wait to be put as may, or answers
+    /// to be shown. A host that puts none reads nothing, and ends where nobody reads its messages any more. Answers how many datagrams are to be taken.
+    fn wait<C: Clock, L: Link, S: Sink, W: Lineage>(
+        &mut self,
+        rt: &C,
+        service: &mut Service<L, S, W>,
+        limit: i32,
+    ) -> Result<u32, ServeFault>
+        ensures listened { Listened service.old service.new }
+        ensures unread { OnOk result (self.old.puts ≡ false → self.new.reader ≡ self.old.reader) }
+        ensures waits { OnOk result ((bytes : List ℕ) × Consumes (I.remaining self.old.reader) (I.remaining self.new.reader) bytes × Waits self.old.input self.new.input bytes) }
+        ensures same { self.new ≡ record self.old { reader = self.new.reader; input = self.new.input; bell = self.new.bell } }
+    {
+        let has_answers = self.puts && !service.shown().is_empty();
+        let reads = self.reads() && !has_answers;
+        let what = self.waited(reads, has_answers, service.has_unread());
+        let ready = wait(rt, service, what, limit);
+        let datagrams = datagrams_in(&ready);
+        if ready.is_gone && !self.puts {
+            return Err(ServeFault::Gone);
+        }
+        if ready.bell {
+            self.bell.hear()?;
+        }
+        if ready.lines && reads {
+            self.input.fill(&mut self.reader)?;
+        }
+        Ok(datagrams)
+    }
+
+    /// Whether lines are read now.
+    fn reads(&self) -> bool
+        ensures puts { result ≡ true → self.now.puts ≡ true }
+        ensures opened { result ≡ true → self.now.input.is_open ≡ true }
+    {
+        self.puts && self.input.is_open() && !self.kept.is_full() && !self.bell.was_rung()
+    }
+
+    /// What is waited for, where lines are read or not, answers wait to be shown or not, and messages do.
+    fn waited(&self, reads: bool, has_answers: bool, has_messages: bool) -> Waited {
+        Waited {
+            lines: if reads { self.reader_number } else { NOTHING },
+            socket: self.socket_number,
+            output: if self.puts && !has_answers {
+                NOTHING
+            } else {
+                self.output_number
+            },
+            takes: has_answers || has_messages,
+            bell: self.bell.number(),
+        }
+    }
+
+    /// How many bytes of messages can be shown now without a wait. The system is asked only where something was shown since it was asked last. A sender shows
+    /// none, and asks where it has answers.
+    fn room(&mut self) -> usize
+        ensures { self.new ≡ record self.old { room = self.new.room } }
+    {
+        if !self.puts {
+            self.ask_room(1);
+        }
+        self.room
+    }
+
+    /// Asks the system whether the output takes more, where less room is known than for so many bytes.
+    fn ask_room(&mut self, wanted: usize)
+        ensures { self.new ≡ record self.old { room = self.new.room } }
+    {
+        if self.room < wanted && takes_more(self.output_number) {
+            self.room = ROOM;
+        }
+    }
+
+    /// How a host ended that ended so, by its last line too.
+    fn ended(&self, ended: Ended) -> Ended
+        ensures { is_torn self.now.input ≡ true → result ≢ AtRest }
+    {
+        if !self.input.is_torn() {
+            return ended;
+        }
+        match ended {
+            Ended::OnItsWay => Ended::OnItsWay,
+            Ended::AtRest | Ended::Torn => Ended::Torn,
+        }
+    }
+
+    /// Tells that the last line has no end, if it has none and each line before it was taken. Answers whether it did.
+    fn tell_of_torn<C: Eprint>(&self, rt: &C) -> bool {
+        let is_torn = self.kept.is_empty() && self.input.is_torn();
+        if is_torn {
+            let line = self.input.lines().saturating_add(1);
+            let _ = eprintln!(rt; "amo: line {line} has no end");
+        }
+        is_torn
+    }
+
+    /// Shows these lines to the clients: a receiver's all, for which room was asked before, and a sender's as far as the output takes them without a wait.
+    /// Answers how many bytes were shown.
+    fn show(&mut self, shown: &[u8]) -> Result<usize, ServeFault>
+        ensures same { self.new ≡ record self.old { output = self.new.output; room = self.new.room } }
+        ensures count { IfOk result (λ count. count ≤ length shown.now) }
+        ensures shown { IfOk result (λ count. Appends (O.contents self.old.output) (O.contents self.new.output) (take count shown.now)) }
+        ensures received { OnOk result (self.old.puts ≡ false → Appends (O.contents self.old.output) (O.contents self.new.output) shown.now) }
+    {
+        if shown.is_empty() {
+            return Ok(0);
+        }
+        let count = self.shown_now(shown);
+        match self.output.write_all(&shown[..count]) {
+            Ok(()) => (),
+            Err(error) => return Err(ServeFault::output(error)),
+        }
+        match self.output.flush() {
+            Ok(()) => Ok(count),
+            Err(error) => Err(ServeFault::output(error)),
+        }
+    }
+
+    /// How many of these bytes are shown now: at a sender whole lines, as far as there is room for them. So much less room is known then, and at a receiver
+    /// none.
+    fn shown_now(&mut self, shown: &[u8]) -> usize
+        ensures same { self.new ≡ record self.old { room = self.new.room } }
+        ensures most { result ≤ length shown.now }
+        ensures received { self.old.puts ≡ false → result ≡ length shown.now }
+    {
+        if !self.puts {
+            self.room = 0;
+            return shown.len();
+        }
+        self.ask_room(shown.len());
+        let most = shown.len().min(self.room);
+        let count = match end_of_lines(&shown[..most]) {
+            // A line that is longer than that is shown in parts.
+            0 if self.room == ROOM => most,
+            end => end,
+        };
+        self.room -= count;
+        count
+    }
+
+    /// Tells why the line that was taken last is none, at a host of so many streams.
+    fn tell_refused<C: Eprint>(&self, rt: &C, fault: LineFault, streams: usize) {
+        let line = self.input.lines();
+        let _ = match fault {
+            LineFault::Stream(stream) => {
+                eprintln!(rt; "amo: line {line}: stream {stream} of {streams}")
+            }
+            _ => eprintln!(rt; "amo: line {line}: {fault}"),
+        };
+    }
+}
+
+/// How long the whole lines are that these bytes begin with.
+fn end_of_lines(bytes: &[u8]) -> usize
+    ensures { result ≤ length bytes.now }
+{
+    match bytes.iter().rposition(|byte| *byte == b'\n') {
+        Some(last) => last + 1,
+        None => 0,
+    }
+}
+
+/// How many datagrams a turn takes that began so. The first one that a host waited for is mostly alone, and to ask for another costs a call of the system:
+/// one that came all the same begins the next turn.
+fn datagrams_in(ready: &Ready) -> u32 {
+    match (ready.socket, ready.at_once) {
+        (false, _) => 0,
+        (true, false) => 1,
+        (true, true) => MOST_DATAGRAMS,
+    }
+}
+
+/// When the turns began.
+fn started<C: Clock>(rt: &C) -> Result<Instant, ServeFault> {
+    match Instant::now(rt) {
+        Ok(start) => Ok(start),
+        Err(_) => Err(ServeFault::Clock),
+    }
+}
+
+/// How many microseconds have passed.
+fn microseconds<C: Clock>(rt: &C, start: &Instant) -> Result<u64, ServeFault> {
+    match start.elapsed(rt) {
+        Ok(passed) => Ok(u64::try_from(passed.as_micros()).unwrap_or(u64::MAX)),
+        Err(_) => Err(ServeFault::Clock),
+    }
+}
+
+/// How many milliseconds there are until a time, rounded up, as the system counts them. Without a time there is no limit.
+fn milliseconds(until: Option<u64>, now: u64) -> i32 {
+    match until {
+        None => -1,
+        Some(until) => {
+            let left = until.saturating_sub(now).min(LONGEST);
+            left.div_ceil(1000) as i32
+        }
+    }
+}
