@@ -1,5 +1,1 @@
 pub mod Served
-mod Reading
-mod Lanes
-mod Pasts
-mod Endings

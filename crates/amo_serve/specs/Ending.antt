@@ -1,8 +1,8 @@
 -- How a host with a door comes to its end.
 use Rattle.std.specs.Prelude.{ℕ, ◌+◌, ◌-◌, ◌^◌, ◌&&◌, ◌||◌, min, nat_lt, not, Bool, if◌then◌else◌, Option, None, Some, is_some, unwrap_or}
-use Rattle.amo_live.specs.declared.turns.Ended.{Ended}
-use Rattle.amo_live.specs.declared.turns.Ended.TheVariants.{AtRest, OnItsWay}
-use Rattle.amo_live.specs.declared.turns.Limits.{Limits}
+use Rattle.amo_live.specs.declared.limits.Ended.{Ended}
+use Rattle.amo_live.specs.declared.limits.Ended.TheVariants.{AtRest, OnItsWay}
+use Rattle.amo_live.specs.declared.limits.Limits.{Limits}
 use Rattle.amo_serve.specs.declared.ending.Farewell.{Farewell}
 
 -- how many microseconds it waits for what is on its way, behind the first time that it was asked to end: as it was told; else a receiver waits for a second

@@ -1,23 +1,7 @@
--- What is told of puts.
-use Rattle.std.specs.Prelude.{◌≡◌, ◌≢◌, ℕ, ◌-◌, ◌<◌, ◌^◌, ◌==◌, ◌&&◌, ◌||◌, nat_le, nat_lt, Bool, true, false, if◌then◌else◌, Option, Some, None, List, position}
-use Rattle.std.specs.List.{list_any}
+-- What is told of puts of the present life.
+use Rattle.std.specs.Prelude.{ℕ, ◌-◌, ◌==◌, ◌||◌, nat_lt, Bool, if◌then◌else◌, Option, Some, None}
 use Rattle.amo_door.specs.declared.answer.Fate.{Fate}
 use Rattle.amo_door.specs.declared.answer.Fate.TheVariants as fate
-use Rattle.amo_lives.specs.declared.doubt.Span.{Span}
-use Rattle.amo_lives.specs.declared.life.Life.{Life}
-use Rattle.amo_lives.specs.Life.{tag_field}
-use Rattle.amo_outcomes.specs.declared.sender_outcome.SenderOutcome.{SenderOutcome}
-use Rattle.amo_outcomes.specs.declared.sender_outcome.SenderOutcome.TheVariants as told
-
--- what is told of a put of which the sender's own events tell this. What a loss of power may have changed is not known.
-abbrev pub fate_of : SenderOutcome → Bool → Fate
-fate_of told.Got doubtful = fate.Got
-fate_of (told.Unknown true) doubtful = fate.Settled
-fate_of (told.Unknown false) doubtful = fate.Unknown
-fate_of told.Gone true = fate.Unknown
-fate_of told.Gone false = fate.Gone
-fate_of told.Open true = fate.Unknown
-fate_of told.Open false = fate.Open
 
 -- what is told of the message of a number of this life, where so many were put, of which so many at the end wait or travel, and it is known to have been
 -- got or not: nothing where it was not put yet
@@ -25,21 +9,3 @@ abbrev pub present_fate : ℕ → ℕ → ℕ → Bool → Option Fate
 present_fate unsettled put number was_got =
     if (number == 0) || nat_lt put number then None
     else (if nat_lt (put - number) unsettled then Some fate.Open else (if was_got then Some fate.Got else Some fate.Settled))
-
--- whether a span has the line of a number, or the one before it
-abbrev pub is_near : ℕ → Span → Bool
-is_near number span = nat_le span.first number && nat_le number span.end
-
--- whether a loss of power may have taken lines where a life begins with this one
-abbrev pub may_have_lost : List Span → ℕ → Bool
-may_have_lost doubts first_line = list_any (is_near first_line) doubts
-
--- what is told of a message of a life, if there is the life, of which no line tells: it was never put; or that is unknown, where its line may have been lost
-abbrev pub fate_of_none : List Span → Option Life → Fate
-fate_of_none doubts None = fate.Never
-fate_of_none doubts (Some life) = if may_have_lost doubts life.first_line then fate.Unknown else fate.Never
-
--- the place among lives of the first one that has the word's tag; none where the word is no tag, or no life has it
-pub data IsLifeOf (word : List ℕ) (lives : List Life) (place : Option ℕ) : Type 0 where
-  IsNoTag : ((tag : ℕ) → tag < 2 ^ 32 → word ≢ tag_field tag) → place ≡ None → IsLifeOf word lives place
-  IsTag : (tag : ℕ) → tag < 2 ^ 32 → word ≡ tag_field tag → place ≡ position (λ (life : Life). life.tag == tag) lives → IsLifeOf word lives place

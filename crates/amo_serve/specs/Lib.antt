@@ -1,11 +1,5 @@
 pub mod Serving
-pub mod Records
-pub mod Lane
 pub mod Fates
-pub mod Reign
-pub mod Past
-pub mod Archive
 pub mod Ending
-pub mod Handshakes
 pub mod Waiting
 pub mod States

@@ -1,5 +1,5 @@
 -- How streams are, as a door tells it.
-use Rattle.std.specs.Prelude.{◌≡◌, ◌≤◌, ◌<◌, ◌+◌, ◌^◌, ℕ, zero, suc, Bool, true, false, not, if◌then◌else◌, Option, Some, None, List, ◌++◌, codes, length}
+use Rattle.std.specs.Prelude.{◌≡◌, ◌≢◌, ◌<◌, ◌+◌, ℕ, zero, suc, Bool, true, false, not, if◌then◌else◌, Option, Some, None, List, ◌++◌, codes}
 use Rattle.amo_object.specs.declared.step.End.{End}
 use Rattle.amo_object.specs.declared.step.End.TheVariants as side
 use Rattle.amo_live.specs.Service.{Holds, HoldsNone, sender_of}
@@ -12,15 +12,18 @@ use Rattle.amo_door.specs.declared.answer.Last.TheVariants as last
 use Rattle.amo_door.specs.declared.answer.ReceiverState.{ReceiverState}
 use Rattle.amo_door.specs.declared.answer.SenderState.{SenderState}
 use Rattle.amo_door.specs.declared.refusal.Refusal.{Refusal}
-use Rattle.amo_door.specs.declared.refusal.Refusal.TheVariants.{Conflict}
+use Rattle.amo_door.specs.declared.call.Call.{Call}
+use Rattle.amo_door.specs.declared.call.Call.TheVariants as call
+use Rattle.amo_door.specs.declared.refusal.Refusal.TheVariants.{Conflict, NoStream, UnknownLine}
 use Rattle.amo_door.specs.Answer.{outcome_body, receiver_members, sender_members}
-use Rattle.amo_door.specs.Numbers.{Table, last_of, number_of}
+use Rattle.amo_door.specs.Numbers.{HasStream, Table, last_of, number_of}
 use Rattle.amo_door.specs.Refusal.{status_of}
 use Rattle.amo_serve.specs.Fates.{present_fate}
-use Rattle.amo_serve.specs.Handshakes.{Endings, KeepsAll, messages_of, was_got}
-use Rattle.amo_serve.specs.declared.handshakes.Handshakes.{Handshakes}
+use Rattle.amo_archive.specs.Handshakes.{KnowsGot}
+use Rattle.amo_archive.specs.declared.handshakes.Handshakes.{Handshakes}
 use Rattle.amo_serve.specs.declared.responder.Reply.{Reply}
 use Rattle.amo_serve.specs.declared.responder.Reply.TheVariants as reply
+use Rattle.amo_serve.specs.declared.responder.Responder.{Responder}
 
 -- what the last handshake of a stream said, if one has ended
 abbrev pub last_word : Option Bool → Last
@@ -71,11 +74,6 @@ abbrev pub IsRefused : Refusal → Reply → Type 0
 IsRefused refusal (reply.Answer answer) = answer.status ≡ status_of refusal
 IsRefused refusal _ = ⊥
 
--- Whether the message of a number was got, by the ends of its stream's handshakes, where what is kept tells of these.
-abbrev pub KnowsGot : Handshakes → ℕ → ℕ → Bool → Type 0
-KnowsGot handshakes stream number got =
-    1 ≤ number → (1 ≤ stream) × (stream ≤ length handshakes.streams.items) → (ends : Endings) → messages_of (ends stream) < 2 ^ 64 → KeepsAll handshakes ends → got ≡ was_got number (ends stream)
-
 -- an answer tells what became of the message of a number; where it was not put yet, that there is none
 abbrev pub SpellsFate : List ℕ → ℕ → ℕ → Option Fate → Answer → Type 0
 SpellsFate life stream number (Some fate) answer = (answer.status ≡ 200) × (answer.body.items ≡ outcome_body life stream number fate)
@@ -87,3 +85,26 @@ TellsPresent service table handshakes stream number (reply.Answer answer) =
     (got : Bool) × KnowsGot handshakes stream number got × (let lane = sender_of service stream in
     SpellsFate table.life stream number (present_fate (lane.waiting + lane.travelling) (number_of (last_of table stream)) number got) answer)
 TellsPresent service table handshakes stream number _ = ⊥
+
+-- the side of the host that answers
+abbrev pub side_of : {L S W : Type 0} → Responder L S W → End
+side_of responder = responder.identity.side
+
+-- What is told who asks how a stream is, which messages were got there, or what became of one. What else a call comes to is not told of the host as it is.
+abbrev pub TellsCall : {L S W : Type 0} → Responder L S W → Call → Reply → Type 0
+TellsCall responder (call.State stream wait) told =
+    (HasStream responder.numbers stream → TellsOrWaits (side_of responder) responder.service responder.numbers stream wait told) × (¬ (HasStream responder.numbers stream) → IsRefused NoStream told)
+TellsCall responder (call.Got stream after) told =
+    (IsJournalLine responder.service.host.journal.next after → told ≡ reply.Got stream after) × (¬ (IsJournalLine responder.service.host.journal.next after) → IsRefused UnknownLine told)
+TellsCall responder (call.Outcome stream number life) told =
+    (HasStream responder.numbers stream → life ≡ responder.numbers.life → TellsPresent responder.service responder.numbers responder.handshakes stream number told)
+    × (HasStream responder.numbers stream → life ≢ responder.numbers.life → told ≡ reply.Fate stream number life)
+    × (¬ (HasStream responder.numbers stream) → IsRefused NoStream told)
+TellsCall responder _ told = Unit {0}
+
+-- a call by which nothing is to be put or taken
+abbrev pub IsQuestion : Call → Type 0
+IsQuestion (call.Put claim) = ⊥
+IsQuestion (call.PutNext stream) = ⊥
+IsQuestion (call.Take claim wait) = ⊥
+IsQuestion _ = Unit {0}

@@ -7,7 +7,7 @@
 //!             read what clients sent                                                               door.rt, client.rt
 //!             each request that came whole:  a put or a take is an event, and its line is written  responder.rt
 //!                                            its answer is made, and kept back
-//!             who asks of the journal is told: it is read, some lines a turn                       archive.rt, records.rt, gets.rt, past.rt
+//!             who asks of the journal is told: it is read, some lines a turn                       seeking.rt, amo_archive
 //!             the journal on its disk, where that is asked for                                     turns.rt
 //!             the answers, to the clients                                                          door.rt
 //!             the packets, to the link                                                             amo_live
@@ -25,30 +25,21 @@
 //! The definitions stand in `specs/Serving.antt`.
 #![tactic(auto)]
 
-mod archive;
 mod client;
 mod counts;
 mod door;
 mod ending;
 mod fault;
-mod gets;
-mod handshakes;
-mod lane;
 mod news;
 mod page;
-mod past;
 mod process;
-mod records;
 mod responder;
+mod seeking;
 mod turns;
 mod waiting;
 
-pub use archive::Archive;
 pub use door::Door;
 pub use fault::DoorFault;
-pub use gets::read_gets;
-pub use past::Past;
 pub use process::run_door;
-pub use records::Records;
 pub use responder::{Identity, Reply, Responder, Taken};
 pub use turns::serve_door;

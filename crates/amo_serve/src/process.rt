@@ -2,7 +2,8 @@
 ghost use Rattle.std.specs.Prelude.{◌≤◌};
 
 use crate::responder::{Identity, Responder};
-use crate::{Archive, Door, DoorFault, serve_door};
+use crate::{Door, DoorFault, serve_door};
+use amo_archive::Archive;
 use amo_disk::Start;
 use amo_door::Word;
 use amo_live::{Bell, Durable, Ended, Lineage, Plan, start};

@@ -1,11 +1,12 @@
 //! What callers are answered, by the host and by what was made for them in its life.
-ghost use Rattle.std.specs.Prelude.{◌≡◌, ◌↔◌, IfOk, IsTrue, OnOk};
+ghost use Rattle.std.specs.Prelude.{◌≡◌, ◌↔◌, [], IfOk, IsTrue, OnOk};
 ghost use Rattle.amo_live.specs.Host.{IsNoted};
 ghost use Rattle.amo_live.specs.Service.{words_of};
 ghost use Rattle.amo_live.specs.Words.{BearsNew};
 ghost use Rattle.amo_door.specs.Numbers.{HasStream};
+ghost use Rattle.amo_door.specs.Turns.{Keeps};
 ghost use Rattle.amo_serve.specs.Serving.{IsAtOnce, Serves};
-ghost use Rattle.amo_serve.specs.States.{IsJournalLine, IsRefused};
+ghost use Rattle.amo_serve.specs.States.{IsJournalLine, IsQuestion, IsRefused, TellsCall, side_of};
 ghost use Rattle.amo_door.specs.declared.refusal.Refusal.TheVariants.{UnknownLine};
 ghost use Rattle.amo_serve.specs.declared.responder.Reply.TheVariants.{Got};
 
@@ -14,9 +15,9 @@ mod states;
 mod taking;
 
 use crate::counts::Counts;
-use crate::handshakes::Handshakes;
 use crate::news::News;
 use crate::page::PAGE;
+use amo_archive::Handshakes;
 use amo_door::{About, Answer, Call, Claim, Happening, Kind, Numbers, Refusal, Word};
 use amo_live::{Lineage, LiveFault, Service};
 use amo_net::Link;
@@ -106,6 +107,10 @@ impl<L: Link + Drop, S: Sink + Drop, W: Lineage + Drop> Responder<L, S, W> {
         first_line: u64,
     ) -> Result<Responder<L, S, W>, AllocError>
         ensures service { IfOk result (λ responder. responder.service ≡ service) }
+        ensures side { IfOk result (λ responder. side_of responder ≡ identity.side) }
+        // Nothing was made yet for a caller, in this life.
+        ensures made { IfOk result (λ responder. Keeps [] responder.numbers) }
+        ensures life { IfOk result (λ responder. responder.numbers.life ≡ life) }
     {
         let mut news = News::new(alloc);
         if first_line > 0 {
@@ -134,6 +139,10 @@ impl<L: Link, S: Sink, W: Lineage> Responder<L, S, W> {
         ensures noted { OnOk result (IsNoted S.written self.new.service.host) }
         ensures serves { OnOk result (Serves self.old.numbers self.new.numbers self.old.service.host.pass self.new.service.host.pass) }
         ensures words { OnOk result (BearsNew W.is_drawn (words_of self.old.service) (words_of self.new.service) self.old.service.host.pass self.new.service.host.pass) }
+        // A question is answered by the host as it is, or waits, or goes to the journal.
+        ensures told { IfOk result (TellsCall self.old call) }
+        // Nothing happens at the host for it.
+        ensures quiet { IsQuestion call → self.new.service ≡ self.old.service }
     {
         self.counts.requests = self.counts.requests.saturating_add(1);
         match call {

@@ -5,12 +5,13 @@ ghost use Rattle.amo_live.specs.Service.{words_of};
 ghost use Rattle.amo_live.specs.Words.{BearsNew};
 ghost use Rattle.amo_serve.specs.Serving.{Serves};
 
+use crate::DoorFault;
 use crate::client::Client;
 use crate::door::Door;
 use crate::ending::Farewell;
 use crate::news::News;
 use crate::responder::{Reply, Responder};
-use crate::{Archive, DoorFault};
+use amo_archive::Archive;
 use amo_door::Happening;
 use amo_live::{Bell, Durable, Ended, Limits, Lineage, LiveFault, Notices};
 use amo_net::Link;

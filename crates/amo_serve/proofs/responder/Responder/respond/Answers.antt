@@ -1,7 +1,9 @@
-use Rattle.std.proofs.Common.{Ok, Err, refl}
-use Rattle.std.specs.Prelude.{OnOk, Result}
+use Rattle.std.proofs.Common.{Ok, Err, refl, subst, sym}
+use Rattle.std.specs.Prelude.{IfOk, OnOk, Result}
 use Rattle.amo_live.specs.Service.{words_of}
 use Rattle.amo_live.proofs.Fresh.{bears_none}
+use Rattle.amo_door.specs.declared.call.Call.{Call}
+use Rattle.amo_serve.specs.States.{TellsCall}
 use Rattle.amo_serve.proofs.Served.{serves_none}
 use Rattle.amo_serve.proofs.responder.Responder.respond.Goals as goal
 
@@ -20,3 +22,27 @@ pub returns-in-Outcome-clause-words : goal.returns-in-Outcome-clause-words
 returns-in-Outcome-clause-words g c =
     let service = c.args.self.now.service in
     each_way c.respond_to_outcome.result (bears_none (words_of service) (words_of service) service.host.pass service.host.pass refl refl)
+
+-- it is told one of two things, by what the question is
+told_either : {A T E : Type 0} (P Q : T → Type 0) (result : Result T E) → (A → IfOk result P) → (¬ A → IfOk result Q) → IfOk result (λ told. (A → P told) × (¬ A → Q told))
+told_either P Q (Ok told) one other = (one, other)
+told_either P Q (Err fault) one other = tt
+
+told_of_life : {A B C T E : Type 0} (P Q R : T → Type 0) (result : Result T E) → (A → B → IfOk result P) → (A → C → IfOk result Q) → (¬ A → IfOk result R) → IfOk result (λ told. (A → B → P told) × (A → C → Q told) × (¬ A → R told))
+told_of_life P Q R (Ok told) present earlier nowhere = (present, earlier, nowhere)
+told_of_life P Q R (Err fault) present earlier nowhere = tt
+
+pub returns-in-State-clause-told : goal.returns-in-State-clause-told
+returns-in-State-clause-told g c =
+    subst (λ (call : Call). IfOk c.respond_to_state.result (TellsCall c.args.self.now call)) (sym c.in-State.is)
+    (told_either _ _ c.respond_to_state.result c.respond_to_state.ensures.told c.respond_to_state.ensures.no_stream)
+
+pub returns-in-Got-clause-told : goal.returns-in-Got-clause-told
+returns-in-Got-clause-told g c =
+    subst (λ (call : Call). IfOk c.respond_to_got.result (TellsCall c.args.self.now call)) (sym c.in-Got.is)
+    (told_either _ _ c.respond_to_got.result c.respond_to_got.ensures.known c.respond_to_got.ensures.unknown)
+
+pub returns-in-Outcome-clause-told : goal.returns-in-Outcome-clause-told
+returns-in-Outcome-clause-told g c =
+    subst (λ (call : Call). IfOk c.respond_to_outcome.result (TellsCall c.args.self.now call)) (sym c.in-Outcome.is)
+    (told_of_life _ _ _ c.respond_to_outcome.result c.respond_to_outcome.ensures.present c.respond_to_outcome.ensures.earlier c.respond_to_outcome.ensures.no_stream)

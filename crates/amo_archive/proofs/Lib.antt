@@ -1,0 +1,4 @@
+mod Reading
+mod Lanes
+mod Pasts
+mod Endings
