@@ -1,11 +1,8 @@
 //! Why the program fails.
-ghost use Rattle.std.specs.Prelude.{◌≡◌, ◌≢◌, IsNone, IsSome};
-ghost use Rattle.std.specs.IoError.{error_kind, raw_os_error};
-ghost use Rattle.amo_tool.specs.Failure.{IsOfUnknown, IsOfUntold};
-
-use amo_call::CallFault;
+use amo_client::ClientFault;
+use amo_desk::{ProcessFault, ServeFault};
 use amo_disk::{Cause, OpenFault};
-use amo_live::{LiveFault, LivesOpenFault, ProcessFault, ServeFault, SocketFault};
+use amo_live::{LiveFault, LivesOpenFault, SocketFault};
 use amo_offline::OfflineFault;
 use amo_serve::DoorFault;
 use std::alloc::{AllocError, Global};
@@ -22,12 +19,9 @@ pub(crate) enum Failure {
     /// A command that needs no other process cannot end, or a file or standard output failed as it does there.
     #[error("{0}")]
     Offline(OfflineFault),
-    /// A text is the address of no socket, or has a name that is not known.
-    #[error("amo: no address: {0}: {1}")]
-    NoAddress(String, io::Error),
-    /// A call of the system failed while the name of an address was looked up.
-    #[error("amo: cannot look up {0}: {1}")]
-    Lookup(String, Cause),
+    /// A call of a door cannot be made, or an address or a token failed as it does there.
+    #[error("{0}")]
+    Client(ClientFault),
     /// Standard input is closed, and a host was to read it.
     #[error("amo: standard input is closed")]
     InputClosed,
@@ -52,6 +46,9 @@ pub(crate) enum Failure {
     /// No host has the journal in this file.
     #[error("amo: {0}: no host has it in use by this name")]
     NoHost(String),
+    /// The name of this bell is longer than one of a socket may be, so no host has it.
+    #[error("amo: {0}: it has more than 107 bytes, and no socket can have that name")]
+    LongBell(String),
     /// A host that was asked to come to its end did so by a failure.
     #[error("amo: the host failed, or was killed, before it came to its end")]
     Ended,
@@ -61,42 +58,9 @@ pub(crate) enum Failure {
     /// A door at this address would be open to other machines, and no token is wanted.
     #[error("amo: the door at {0} is open to other machines: give --token-file")]
     OpenDoor(String),
-    /// What stands in this file is no token.
-    #[error("amo: {0}: it has no token: one line of 16 to 256 letters, digits and -._~+/=")]
-    Token(String),
-    /// Another call has the file of this name in use.
-    #[error("amo: {0}: another call has it in use")]
-    InUse(String),
-    /// The system tells no time.
-    #[error("amo: the system tells no time: {0}")]
-    Clock(Cause),
-    /// What came from a door is no answer of one.
-    #[error("amo: what came is no answer of a door")]
-    Strange,
-    /// The system gives no random bytes.
-    #[error("amo: the system gives no random bytes: {0}")]
-    Random(Cause),
 }
 
 impl Failure {
-    /// The addresses that this text stands for were not found, or were not looked up to the end.
-    pub(crate) fn of_address(alloc: Global, address: &str, error: io::Error) -> Failure
-        ensures memory { error_kind error ≡ ErrorKind.OutOfMemory → result ≡ Failure.NoMemory }
-        ensures failed { error_kind error ≢ ErrorKind.OutOfMemory → IsSome (raw_os_error error) → IsOfUntold address.now result }
-        ensures none { error_kind error ≢ ErrorKind.OutOfMemory → IsNone (raw_os_error error) → IsOfUnknown address.now result }
-    {
-        if error.kind() == ErrorKind::OutOfMemory {
-            return Failure::NoMemory;
-        }
-        let Ok(address) = String::from_str(alloc, address) else {
-            return Failure::NoMemory;
-        };
-        match error.raw_os_error() {
-            Some(_code) => Failure::Lookup(address, Cause::from(error)),
-            None => Failure::NoAddress(address, error),
-        }
-    }
-
     /// A socket that was to be at one address, and connected to another, did not open.
     pub(crate) fn of_socket(
         alloc: Global,
@@ -162,6 +126,11 @@ impl Failure {
                     Err(_) => Failure::NoMemory,
                 }
             }
+            // So the library says that a name is too long.
+            ErrorKind::InvalidInput => match String::from_str(alloc, bell) {
+                Ok(bell) => Failure::LongBell(bell),
+                Err(_) => Failure::NoMemory,
+            },
             _ => Failure::of_disk(alloc, bell, Cause::from(error)),
         }
     }
@@ -204,14 +173,6 @@ impl Failure {
         }
     }
 
-    /// What stands in this file is no token.
-    pub(crate) fn of_token(alloc: Global, file: &str) -> Failure {
-        match String::from_str(alloc, file) {
-            Ok(file) => Failure::Token(file),
-            Err(_) => Failure::NoMemory,
-        }
-    }
-
     /// A host with a door, and a journal in this file, cannot go on. If a call on the file failed, this is why.
     pub(crate) fn of_door(
         alloc: Global,
@@ -229,23 +190,6 @@ impl Failure {
     }
 }
 
-impl Failure {
-    /// A call that the file of this name keeps cannot go on. If a call of the system failed, this is why.
-    pub(crate) fn of_call(
-        alloc: Global,
-        path: &str,
-        fault: CallFault,
-        cause: Option<Cause>,
-    ) -> Failure {
-        match (fault, cause) {
-            (CallFault::NoMemory, _) => Failure::NoMemory,
-            (CallFault::File, Some(cause)) => Failure::of_disk(alloc, path, cause),
-            (CallFault::File, None) => Failure::Offline(OfflineFault::Device),
-            (CallFault::Strange, _) => Failure::Strange,
-        }
-    }
-}
-
 impl From<OfflineFault> for Failure {
     ghost use Rattle.std.specs.Prelude.{◌≡◌};
     ghost use Rattle.amo_tool.specs.declared.failure.Failure.TheVariants.{Offline};
@@ -254,6 +198,17 @@ impl From<OfflineFault> for Failure {
 
     fn from(fault: OfflineFault) -> Failure {
         Failure::Offline(fault)
+    }
+}
+
+impl From<ClientFault> for Failure {
+    ghost use Rattle.std.specs.Prelude.{◌≡◌};
+    ghost use Rattle.amo_tool.specs.declared.failure.Failure.TheVariants.{Client};
+
+    ghost from_gives = { λ fault failure. failure ≡ Client fault };
+
+    fn from(fault: ClientFault) -> Failure {
+        Failure::Client(fault)
     }
 }
 

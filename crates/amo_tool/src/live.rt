@@ -5,11 +5,10 @@ ghost use Rattle.amo_settings.specs.Limits.{IsHostWithin};
 use crate::failure::Failure;
 use crate::marking::Marker;
 use crate::stopping::hang_bell;
+use amo_client::check_address;
+use amo_desk::{ProcessFault, run_process};
 use amo_disk::{Cause, Disk, Opened, Start, open};
-use amo_live::{
-    Bell, Durable, Ended, HostLives, Lineage, LiveFault, OpenedLives, Plan, ProcessFault, Socket,
-    run_process,
-};
+use amo_live::{Bell, Durable, Ended, HostLives, Lineage, LiveFault, OpenedLives, Plan, Socket};
 use amo_object::End;
 use amo_offline::{Manner, Retold, tell_untold};
 use amo_settings::{HostSettings, ReceiveSettings, SendSettings};
@@ -19,7 +18,7 @@ use std::fs;
 use std::fs::File;
 use std::io::{ErrorKind, Read, Write};
 use std::marker::Brand;
-use std::net::{Net, ToSocketAddrs};
+use std::net::Net;
 use std::os::fd::AsRawFd;
 use std::random::RandomSource;
 use std::rt::{Clock, Files};
@@ -97,14 +96,6 @@ fn run_host<
         Ended::AtRest => Ok(0),
         Ended::OnItsWay => Ok(ON_ITS_WAY),
         Ended::Torn => Ok(TORN),
-    }
-}
-
-/// Refuses a text that is no address, and a name that nobody knows or that cannot be looked up.
-pub(crate) fn check_address<R: AllocGlobal + Net>(rt: &R, address: &str) -> Result<(), Failure> {
-    match address.to_socket_addrs(rt) {
-        Ok(_) => Ok(()),
-        Err(error) => Err(Failure::of_address(rt.alloc(), address, error)),
     }
 }
 

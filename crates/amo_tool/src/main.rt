@@ -2,27 +2,26 @@
 //! service between two hosts, and keeps a journal; is one host of a pair, for clients at its standard input and output or at a door; makes calls of a door;
 //! and audits and explains journals, and tells by them what became of messages.
 //!
-//! `amo_arguments` reads the program's arguments, and answers as `amo_settings` what they choose. `amo_offline` does what needs no other process;
-//! `live` has a host for lines, `serving` one for programs, `stopping` asks a host to come to its end, and `calling` asks a door. `marking` keeps, while a
+//! `amo_arguments` reads the program's arguments, and answers as `amo_settings` what they choose. `amo_offline` does what needs no other process, and
+//! `amo_client` asks a door. `live` has a host for lines, `serving` one for programs, and `stopping` asks a host to come to its end. `marking` keeps, while a
 //! sender is at work, from where its next start is to tell, and `failure` is why the program cannot do what it was asked for.
 #![tactic(auto)]
 
 ghost use Rattle.std.specs.Prelude.{IfOk};
 ghost use Rattle.amo_settings.specs.Limits.{IsWithin};
 
-mod calling;
 mod failure;
 mod live;
 mod marking;
 mod serving;
 mod stopping;
 
-use crate::calling::call_door;
 use crate::failure::Failure;
 use crate::live::{receive_lines, send_lines};
 use crate::serving::serve_programs;
 use crate::stopping::stop_host;
 use amo_arguments::{ArgumentsFault, not_text, settings};
+use amo_client::call_door;
 use amo_manual::{page, script};
 use amo_offline::{
     OfflineFault, audit_files, explain_files, replay_file, run_to_file, tell_or_follow_got,
@@ -120,7 +119,7 @@ fn carry_out<
         Settings::Receive(settings) => receive_lines(rt, settings, input, output),
         Settings::Stop(file) => stop_host(rt, file.as_str()),
         Settings::Serve(settings) => serve_programs(rt, settings),
-        Settings::Call(settings) => call_door(rt, settings, input, output),
+        Settings::Call(settings) => call_door(rt, settings, input, output).map_err(Failure::from),
         Settings::Manual => show_page(rt, page(rt.alloc())),
         Settings::Completions(shell) => show_page(rt, script(rt.alloc(), *shell)),
     }

@@ -1,5 +1,6 @@
 //! Keeps, while a sender is at work, from which line of its journal on its next start is to tell.
-use amo_live::{Keeper, Lineage, Plan, ServeFault, Service};
+use amo_desk::{Keeper, ServeFault};
+use amo_live::{Lineage, Plan, Service};
 use amo_net::Link;
 use amo_object::End;
 use amo_offline::{OfflineFault, Retold, numbered_line, push_told, write_told};

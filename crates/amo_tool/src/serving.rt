@@ -4,39 +4,32 @@ ghost use Rattle.amo_settings.specs.Limits.{IsSideWithin};
 
 use crate::failure::Failure;
 use crate::live::{
-    ON_ITS_WAY, check_address, hold_numbers, host_of, open_lives, open_socket, path_of_lives,
-    tell_of_start, tell_of_zeros,
+    ON_ITS_WAY, hold_numbers, host_of, open_lives, open_socket, path_of_lives, tell_of_start,
+    tell_of_zeros,
 };
 use crate::stopping::hang_bell;
+use amo_archive::Archive;
 use amo_arguments::VERSION;
+use amo_client::{check_address, read_token};
 use amo_disk::{Cause, Disk, Opened, Start, open};
 use amo_door::{Guard, Served, Word};
 use amo_live::{Durable, Ended, HostLives, LiveFault, LivesOpenFault, Plan, Socket};
 use amo_lives::Lives;
 use amo_object::End;
 use amo_offline::boot_id;
-use amo_serve::{Archive, Door, DoorFault, Identity, run_door};
+use amo_serve::{Door, DoorFault, Identity, run_door};
 use amo_settings::{HostSettings, ServeSettings, ServedSide};
 use amo_text::push_hex;
 use std::alloc::{AllocError, AllocFailed, Global};
 use std::cell::Cell;
 use std::fs;
 use std::fs::File;
-use std::io::Read;
 use std::marker::Brand;
 use std::net::{Net, SocketAddr, TcpListener, TcpStream};
 use std::random::RandomSource;
 use std::rt::{Clock, Files};
 use std::sync::ledger::{Blank, Ledger};
 use std::time::{SystemTime, UNIX_EPOCH};
-
-/// How many bytes of a file of a token are read at most: a longer one has none.
-const MOST_OF_TOKEN: u64 = 512;
-
-/// How long a token is.
-const SHORTEST_TOKEN: usize = 16;
-
-const LONGEST_TOKEN: usize = 256;
 
 /// Is a host that programs ask at a door, until it is ended or cannot go on.
 pub(crate) fn serve_programs<
@@ -95,39 +88,6 @@ fn serve_at<R: AllocGlobal + Clock + Eprint + Files<File = File> + Net + RandomS
         Blank::new(1),
         Blank::new(1),
     )
-}
-
-/// The token that stands in this file: one line.
-pub(crate) fn read_token<R: AllocGlobal + Files<File = File>>(
-    rt: &R,
-    path: &str,
-) -> Result<String, Failure> {
-    let alloc = rt.alloc();
-    let file = match fs::open(rt, path) {
-        Ok(file) => file,
-        Err(error) => return Err(Failure::of_disk(alloc, path, Cause::from(error))),
-    };
-    let mut text = String::new(alloc);
-    match file.take(MOST_OF_TOKEN).read_to_string(&mut text) {
-        Ok(_) => {}
-        Err(error) => return Err(Failure::of_disk(alloc, path, Cause::from(error))),
-    }
-    let token = text.as_str().trim_end();
-    if !is_token(token.as_bytes()) {
-        return Err(Failure::of_token(alloc, path));
-    }
-    Ok(String::from_str(alloc, token)?)
-}
-
-/// Whether this is a token: characters that a field of a request has (RFC 6750), enough of them, and not too many.
-fn is_token(token: &[u8]) -> bool {
-    SHORTEST_TOKEN <= token.len()
-        && token.len() <= LONGEST_TOKEN
-        && token.iter().all(|byte| is_token_character(*byte))
-}
-
-fn is_token_character(byte: u8) -> bool {
-    byte.is_ascii_alphanumeric() || matches!(byte, b'-' | b'.' | b'_' | b'~' | b'+' | b'/' | b'=')
 }
 
 /// Opens the listener of a door at this address. Answers where it is, too. One that other machines can reach is refused where no token is wanted.

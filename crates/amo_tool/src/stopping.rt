@@ -14,6 +14,9 @@ use std::time::SystemTime;
 /// What the name of a bell has behind that of its journal.
 const BELL: &str = ".stop";
 
+/// How many bytes the path of a socket may have, as Linux has it (unix(7)).
+const LONGEST_PATH: usize = 107;
+
 /// Which socket it is, whatever its name: its device, its number there, and when it was made, since numbers are given again.
 type Identity = (u64, u64, Option<SystemTime>);
 
@@ -58,14 +61,22 @@ pub(crate) fn hang_bell<R: AllocGlobal + Eprint + Files + Net>(
             Ok((bell, Nail { path, identity }))
         }
         Err(cause) => {
-            let _ = eprintln!(rt;
-                "amo: {}: {cause}: `amo stop` cannot reach this host",
-                path.as_str()
-            );
+            tell_of_no_bell(rt, path.as_str(), cause);
             let identity = None;
             Ok((Bell::none(alloc), Nail { path, identity }))
         }
     }
+}
+
+/// Tells that no bell hangs at this path, and why.
+fn tell_of_no_bell<R: Eprint>(rt: &R, path: &str, cause: Cause) {
+    let _ = if path.len() > LONGEST_PATH {
+        eprintln!(rt;
+            "amo: {path}: it has more than {LONGEST_PATH} bytes, and no socket can have that name: `amo stop` cannot reach this host"
+        )
+    } else {
+        eprintln!(rt; "amo: {path}: {cause}: `amo stop` cannot reach this host")
+    };
 }
 
 /// Has the host of this journal come to its end, and waits until it has. Answers its status.

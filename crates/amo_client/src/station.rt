@@ -2,8 +2,8 @@
 ghost use Rattle.std.specs.Prelude.{◌≡◌, IfOk, OnOk};
 ghost use Rattle.amo_call.specs.Kept.{kept_text};
 
-use crate::calling::held::write_anew;
-use crate::failure::Failure;
+use crate::fault::ClientFault;
+use crate::held::write_anew;
 use amo_call::{Asker, CallFault, Caller, Kept, Request, Response, exchange, push_kept};
 use amo_disk::Cause;
 use std::alloc::Global;
@@ -52,13 +52,13 @@ impl<'a, R: AllocGlobal + Clock + Files<File = File> + Net<Stream = TcpStream>> 
         place: &'a Place,
         path: &'a str,
         text: Vec<u8>,
-    ) -> Result<Station<'a, R>, Failure>
+    ) -> Result<Station<'a, R>, ClientFault>
         ensures { IfOk result (λ station. station.text ≡ text) }
     {
         let alloc = rt.alloc();
         let since = match Instant::now(rt) {
             Ok(since) => since,
-            Err(error) => return Err(Failure::Clock(Cause::from(error))),
+            Err(error) => return Err(ClientFault::Clock(Cause::from(error))),
         };
         Ok(Station {
             rt,

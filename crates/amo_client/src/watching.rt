@@ -1,7 +1,10 @@
 //! Shows what happens at a host.
-use crate::calling::station::{Place, Station};
-use crate::calling::{tell_no_answer, tell_refusal};
-use crate::failure::Failure;
+ghost use Rattle.std.specs.Prelude.{IfOk};
+ghost use Rattle.amo_client.specs.Statuses.{IsOfWatch};
+
+use crate::fault::ClientFault;
+use crate::station::{Place, Station};
+use crate::telling::{tell_no_answer, tell_refusal};
 use amo_call::{Followed, follow};
 use std::fs::File;
 use std::io::Write;
@@ -12,7 +15,9 @@ use std::rt::{Clock, Files};
 pub(crate) fn watch<
     R: AllocGlobal + Clock + Eprint + Files<File = File> + Net<Stream = TcpStream>,
     O: Write + Drop,
->(rt: &R, place: &Place, after: Option<u64>, output: O) -> Result<u8, Failure> {
+>(rt: &R, place: &Place, after: Option<u64>, output: O) -> Result<u8, ClientFault>
+    ensures { IfOk result IsOfWatch }
+{
     let alloc = rt.alloc();
     let mut output = output;
     let mut station = Station::new(rt, place, "", Vec::new(alloc))?;
@@ -22,7 +27,7 @@ pub(crate) fn watch<
     match follow(alloc, &mut stream, &place.who, after, &mut output) {
         Ok(Followed::Ended) => Ok(tell_no_answer(rt, None)),
         Ok(Followed::Refused(response)) => Ok(tell_refusal(rt, &response)),
-        Ok(Followed::Unshown(error)) => Err(Failure::of_output(error)),
-        Err(fault) => Err(Failure::of_call(alloc, "", fault, None)),
+        Ok(Followed::Unshown(error)) => Err(ClientFault::of_output(error)),
+        Err(fault) => Err(ClientFault::of_call(alloc, "", fault, None)),
     }
 }

@@ -1,5 +1,5 @@
 //! The file of a call, which one process has at a time.
-use crate::failure::Failure;
+use crate::fault::ClientFault;
 use amo_disk::Cause;
 use std::alloc::{AllocError, Global};
 use std::fs::{self, File, OpenOptions, TryLockError};
@@ -35,7 +35,7 @@ impl Held {
     pub(crate) fn take<R: AllocGlobal + Files<File = File>>(
         rt: &R,
         path: &str,
-    ) -> Result<Held, Failure> {
+    ) -> Result<Held, ClientFault> {
         let alloc = rt.alloc();
         let name = behind(alloc, path, LOCK)?;
         'looks: for _look in 0..MOST_LOOKS {
@@ -44,11 +44,11 @@ impl Held {
                 Ok(None) => {}
                 Err(TryLockError::WouldBlock) => break,
                 Err(TryLockError::Error(error)) => {
-                    return Err(Failure::of_disk(alloc, name.as_str(), Cause::from(error)));
+                    return Err(ClientFault::of_file(alloc, name.as_str(), Cause::from(error)));
                 }
             }
         }
-        Err(Failure::InUse(String::from_str(alloc, path)?))
+        Err(ClientFault::InUse(String::from_str(alloc, path)?))
     }
 
     /// Leaves it to others. The lock is taken away while it is held: who opened it meanwhile sees that, and looks again.
@@ -100,17 +100,17 @@ pub(crate) fn is_special<R: Files<File = File>>(rt: &R, path: &str) -> bool {
 pub(crate) fn read_file<R: AllocGlobal + Files<File = File>>(
     rt: &R,
     path: &str,
-) -> Result<Option<Vec<u8>>, Failure> {
+) -> Result<Option<Vec<u8>>, ClientFault> {
     let alloc = rt.alloc();
     let file = match fs::open(rt, path) {
         Ok(file) => file,
         Err(error) if error.kind() == ErrorKind::NotFound => return Ok(None),
-        Err(error) => return Err(Failure::of_disk(alloc, path, Cause::from(error))),
+        Err(error) => return Err(ClientFault::of_file(alloc, path, Cause::from(error))),
     };
     let mut bytes = Vec::new(alloc);
     match file.take(MOST_BYTES).read_to_end(&mut bytes) {
         Ok(_) => Ok(Some(bytes)),
-        Err(error) => Err(Failure::of_disk(alloc, path, Cause::from(error))),
+        Err(error) => Err(ClientFault::of_file(alloc, path, Cause::from(error))),
     }
 }
 
