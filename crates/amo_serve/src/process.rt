@@ -1,5 +1,6 @@
 //! A whole process, from the start of its host.
-ghost use Rattle.std.specs.Prelude.{◌≤◌};
+ghost use Rattle.std.specs.Prelude.{◌≤◌, IfOk};
+ghost use Rattle.amo_live.specs.Host.{IsNoted};
 
 use crate::responder::{Identity, Responder};
 use crate::{Door, DoorFault, serve_door};
@@ -37,10 +38,41 @@ pub fn run_door<
 ) -> Result<Ended, DoorFault>
     requires { (1 ≤ plan.setup.streams) × (plan.setup.streams ≤ 256) }
 {
-    place.admit(plan.setup.batch)?;
     let mut door = door;
     let mut archive = archive;
     let mut bell = bell;
+    let limits = plan.limits;
+    let mut responder = begun(alloc, plan, identity, life, link, sink, place, words)?;
+    let ended = serve_door(
+        rt,
+        &mut responder,
+        &mut door,
+        &mut archive,
+        &mut bell,
+        number,
+        limits,
+    );
+    if let Ok(ended) = &ended {
+        bell.answer(*ended);
+    }
+    ended
+}
+
+/// What answers callers of a host that begins.
+fn begun<L: Link + Drop, S: Durable + Drop, W: Lineage + Drop>(
+    alloc: Global,
+    plan: Plan,
+    identity: Identity,
+    life: Word,
+    link: L,
+    sink: S,
+    place: Start,
+    words: W,
+) -> Result<Responder<L, S, W>, DoorFault>
+    requires { (1 ≤ plan.setup.streams) × (plan.setup.streams ≤ 256) }
+    ensures { IfOk result (λ responder. IsNoted S.written responder.service.host) }
+{
+    place.admit(plan.setup.batch)?;
     let lines = place.lines;
     let service = start(
         alloc,
@@ -51,16 +83,5 @@ pub fn run_door<
         words,
         plan.limits.sync,
     )?;
-    let mut responder = Responder::new(alloc, service, identity, life, plan.setup.streams, lines)?;
-    let ended = serve_door(
-        rt,
-        &mut responder,
-        &mut door,
-        &mut archive,
-        &mut bell,
-        number,
-        plan.limits,
-    )?;
-    bell.answer(ended);
-    Ok(ended)
+    Ok(Responder::new(alloc, service, identity, life, plan.setup.streams, lines)?)
 }

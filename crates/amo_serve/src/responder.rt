@@ -112,24 +112,40 @@ impl<L: Link + Drop, S: Sink + Drop, W: Lineage + Drop> Responder<L, S, W> {
         ensures made { IfOk result (λ responder. Keeps [] responder.numbers) }
         ensures life { IfOk result (λ responder. responder.numbers.life ≡ life) }
     {
-        let mut news = News::new(alloc);
-        if first_line > 0 {
-            news.add(Some(first_line), &Happening::Crash)?;
-        }
+        let (numbers, handshakes, news) = nothing_made(alloc, life, streams, first_line)?;
         Ok(Responder {
             service,
-            numbers: Numbers::new(alloc, life, streams)?,
+            numbers,
             alloc,
             identity,
             streams,
             first_line,
-            handshakes: Handshakes::new(alloc, streams)?,
+            handshakes,
             news,
             heard_at: None,
             counts: Counts::new(),
             ends: false,
         })
     }
+}
+
+/// What was made for callers in a life that begins, how its handshakes ended, and what happened: nothing yet, but a crash where its journal has lines.
+fn nothing_made(
+    alloc: Global,
+    life: Word,
+    streams: u32,
+    first_line: u64,
+) -> Result<(Numbers, Handshakes, News), AllocError>
+    ensures made { IfOk result (λ made. Keeps [] made.0) }
+    ensures life { IfOk result (λ made. made.0.life ≡ life) }
+{
+    let mut news = News::new(alloc);
+    if first_line > 0 {
+        news.add(Some(first_line), &Happening::Crash)?;
+    }
+    let numbers = Numbers::new(alloc, life, streams)?;
+    let handshakes = Handshakes::new(alloc, streams)?;
+    Ok((numbers, handshakes, news))
 }
 
 impl<L: Link, S: Sink, W: Lineage> Responder<L, S, W> {

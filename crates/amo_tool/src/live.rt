@@ -4,7 +4,7 @@ ghost use Rattle.amo_settings.specs.Limits.{IsHostWithin};
 
 use crate::failure::Failure;
 use crate::marking::Marker;
-use crate::stopping::hang_bell;
+use crate::stopping::{Nail, hang_bell};
 use amo_client::check_address;
 use amo_desk::{ProcessFault, run_process};
 use amo_disk::{Cause, Disk, Opened, Start, open};
@@ -197,11 +197,13 @@ fn run_noted<
 {
     let alloc = rt.alloc();
     let path = host.journal.as_str();
-    let file = path_of_lives(alloc, path)?;
     let why = Cell::new(None);
-    let words = open_lives::<R, N>(rt, file.as_str(), &plan, start.lines, &why, lives)?;
-    // Before it tells anything: whoever reads that it is there may ask it to end.
-    let (bell, nail) = hang_bell(rt, path)?;
+    let Prepared {
+        file,
+        words,
+        bell,
+        nail,
+    } = prepare::<R, N>(rt, path, &plan, start.lines, &why, lives)?;
     tell_of_start(rt, host.listen.as_str(), port, path, start.lines);
     let ran = tell_and_run(
         rt, path, plan, input, output, socket, disk, start, words, bell,
@@ -213,6 +215,41 @@ fn run_noted<
         }
         ran => Ok(ran),
     }
+}
+
+/// What a host has, beside its socket and its journal, before it tells that it is there: whoever reads that may ask it to come to its end.
+#[derive(Drop)]
+pub(crate) struct Prepared<W> {
+    /// The path of its file of lives.
+    pub(crate) file: String,
+    /// Where its words come from; of a host with a door what is told of its life, too.
+    pub(crate) words: W,
+    /// Where it is asked to come to its end.
+    pub(crate) bell: Bell,
+    /// Where that hangs.
+    pub(crate) nail: Nail,
+}
+
+/// Opens the file of lives beside the journal at this path, which has so many lines, and hangs the bell.
+fn prepare<'a, R: AllocGlobal + Eprint + Files<File = File> + Net + RandomSource, N: Ledger>(
+    rt: &R,
+    path: &str,
+    plan: &Plan,
+    lines: u64,
+    why: &'a Cell<Option<Cause>>,
+    blank: Blank,
+) -> Result<Prepared<HostLives<Disk<'a, File, N>>>, Failure>
+    requires { (blank.name ≡ N.name) × (blank.parts ≡ N.parts) × (0 < N.parts) }
+{
+    let file = path_of_lives(rt.alloc(), path)?;
+    let words = open_lives::<R, N>(rt, file.as_str(), plan, lines, why, blank)?;
+    let (bell, nail) = hang_bell(rt, path)?;
+    Ok(Prepared {
+        file,
+        words,
+        bell,
+        nail,
+    })
 }
 
 /// Tells what became of messages of earlier lives, and runs the host.

@@ -4,8 +4,8 @@ ghost use Rattle.amo_settings.specs.Limits.{IsSideWithin};
 
 use crate::failure::Failure;
 use crate::live::{
-    ON_ITS_WAY, hold_numbers, host_of, open_lives, open_socket, path_of_lives, tell_of_start,
-    tell_of_zeros,
+    ON_ITS_WAY, Prepared, hold_numbers, host_of, open_lives, open_socket, path_of_lives,
+    tell_of_start, tell_of_zeros,
 };
 use crate::stopping::hang_bell;
 use amo_archive::Archive;
@@ -194,11 +194,13 @@ fn serve_noted<
 {
     let alloc = rt.alloc();
     let path = host.journal.as_str();
-    let file = path_of_lives(alloc, path)?;
     let why = Cell::new(None);
-    let begun = begin::<R, N>(rt, host, &plan, file.as_str(), start.lines, &why, lives)?;
-    // Before it tells anything: whoever reads that it is there may ask it to end.
-    let (bell, nail) = hang_bell(rt, path)?;
+    let Prepared {
+        file,
+        words: begun,
+        bell,
+        nail,
+    } = prepare::<R, N>(rt, host, &plan, start.lines, &why, lives)?;
     tell_of_start(rt, host.listen.as_str(), port, path, start.lines);
     let _ = eprintln!(rt; "amo: its door is http://{address}");
     let number = socket.number();
@@ -218,6 +220,33 @@ fn serve_noted<
         }
         ran => Ok(ran),
     }
+}
+
+/// Opens the file of lives beside the host's journal, which has so many lines, begins a life, and hangs the bell.
+fn prepare<
+    'a,
+    R: AllocGlobal + Clock + Eprint + Files<File = File> + Net + RandomSource,
+    N: Ledger,
+>(
+    rt: &R,
+    host: &HostSettings,
+    plan: &Plan,
+    lines: u64,
+    why: &'a Cell<Option<Cause>>,
+    blank: Blank,
+) -> Result<Prepared<Begun<Disk<'a, File, N>>>, Failure>
+    requires { (blank.name ≡ N.name) × (blank.parts ≡ N.parts) × (0 < N.parts) }
+{
+    let path = host.journal.as_str();
+    let file = path_of_lives(rt.alloc(), path)?;
+    let words = begin::<R, N>(rt, host, plan, file.as_str(), lines, why, blank)?;
+    let (bell, nail) = hang_bell(rt, path)?;
+    Ok(Prepared {
+        file,
+        words,
+        bell,
+        nail,
+    })
 }
 
 /// What a host with a door has once its life began.
