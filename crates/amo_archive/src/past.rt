@@ -9,7 +9,7 @@ ghost use Rattle.amo_world.specs.Stream.{IsStream};
 ghost use Rattle.amo_archive.specs.Fates.{IsLifeOf, fate_of, fate_of_none, is_near, may_have_lost};
 ghost use Rattle.amo_archive.specs.Lane.{AreEmpty, owners_in};
 ghost use Rattle.amo_archive.specs.Records.{Follows, IsFirstOrBehind, next_number};
-ghost use Rattle.amo_archive.specs.Reign.{begun, comes_back, holds, is_taken, owner_by, seen, with_next, without_work};
+ghost use Rattle.amo_archive.specs.Reign.{begun, comes_back, goes_on_at, holds, is_taken, owner_by, seen, with_next, without_work};
 
 use crate::gets::next_in_row;
 use crate::lane::{Lane, Owner};
@@ -45,7 +45,7 @@ impl Reign {
     }
 
     /// Sees whose line this is. A host that comes back after others' work begins a reign; and one whose life begins with a line begins its own there,
-    /// unless somebody is at work: then the life goes on under other words.
+    /// unless somebody is at work, or the life goes on under other words.
     fn see(&mut self, lives: &[Life], line: &Numbered)
         requires { self.old.upcoming ≤ length lives.now }
         ensures seen { self.new ≡ seen lives.now line.now self.old }
@@ -70,26 +70,39 @@ impl Reign {
     /// Lives that begin with the line of this number, or one before it, begin.
     fn begin_lives(&mut self, lives: &[Life], number: u64)
         requires { self.old.upcoming ≤ length lives.now }
-        ensures begun { self.new ≡ begun number (drop self.old.upcoming lives.now) self.old }
+        ensures begun { self.new ≡ begun lives.now number (drop self.old.upcoming lives.now) self.old }
         ensures within { self.new.upcoming ≤ length lives.now }
     {
         while self.upcoming < lives.len() {
             if number < lives[self.upcoming].first_line {
                 return;
             }
-            self.begin_next();
+            self.begin_next(lives);
         }
     }
 
     /// The next life begins.
-    fn begin_next(&mut self)
+    fn begin_next(&mut self, lives: &[Life])
         requires { self.old.upcoming + 1 < 2 ^ 64 }
-        ensures { self.new ≡ with_next self.old }
+        ensures { self.new ≡ with_next lives.now self.old }
     {
-        if !self.is_at_work {
+        if !self.is_at_work && !goes_on_at(lives, self.upcoming) {
             self.life = Some(self.upcoming);
         }
         self.upcoming += 1;
+    }
+}
+
+/// Whether the life at this place goes on where the words of the one before it were used up.
+fn goes_on_at(lives: &[Life], place: usize) -> bool
+    ensures { result ≡ goes_on_at lives.now place }
+{
+    if place == 0 {
+        return false;
+    }
+    match (lives.get(place - 1), lives.get(place)) {
+        (Some(life), Some(next)) => life.goes_on(next),
+        _ => false,
     }
 }
 

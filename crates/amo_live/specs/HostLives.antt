@@ -1,8 +1,8 @@
 -- The lives of a host, and the words of the last one.
-use Rattle.std.specs.Prelude.{◌≡◌, ◌≢◌, ◌<◌, ℕ, ◌+◌, ◌⊎◌, Bool, false, Option, Some, None, List, [], ◌∷◌}
+use Rattle.std.specs.Prelude.{◌≡◌, ◌≢◌, ◌<◌, ℕ, ◌+◌, ◌-◌, ◌⊎◌, Bool, true, false, Option, Some, None, is_some, option_map, List, [], ◌∷◌, length, slice_get}
 use Rattle.std.specs.Io.KnownBytes.{Appends}
 use Rattle.amo_word.specs.Distinct.{AreDistinct, Progress, distinct_word}
-use Rattle.amo_lives.specs.Life.{line_text}
+use Rattle.amo_lives.specs.Life.{line_text, next_tag}
 use Rattle.amo_lives.specs.Lives.{LivesState, has_tag, with_life}
 use Rattle.amo_lives.specs.declared.life.Life.{Life}
 use Rattle.amo_live.specs.declared.lives_file.OpenedLives.{OpenedLives}
@@ -63,10 +63,20 @@ pub record Draws (before after : ℕ → Option ℕ) (word : ℕ) : Type 0 where
   pub is : before place ≡ Some word
   pub rest : (k : ℕ) → after k ≡ before (k + (place + 1))
 
+-- the tag of the life that goes on for the last of these, if there is one
+abbrev pub tag_behind : List Life → Option ℕ
+tag_behind lives = option_map (λ (life : Life). next_tag life.tag) (slice_get lives (length lives - 1))
+
+-- a life that goes on where words were used up has the tag behind theirs, and one that begins at a start has not
+abbrev pub IsTagFor : Bool → Option ℕ → ℕ → Type 0
+IsTagFor true behind tag = behind ≡ Some tag
+IsTagFor false behind tag = behind ≢ Some tag
+
 -- One life more began: it begins in the journal with this line, it has a tag of its own, and its line was written. It tells what it is to tell.
 pub record BeginsLife {S : Type 0} (written : S → Option (List ℕ)) (h g : HostLivesState S) (next_line : ℕ) : Type 0 where
   pub life : Life
   pub tag : has_tag h.lives.lives life.tag ≡ false
+  pub own : IsTagFor (is_some h.words) (tag_behind h.lives.lives) life.tag
   pub first_line : life.first_line ≡ next_line
   pub boot : life.boot ≡ h.boot
   pub sync : life.sync ≡ h.sync

@@ -1,8 +1,9 @@
 //! The words of a live host: each of its lives has some of its own, and a line in a file that outlives it.
-ghost use Rattle.std.specs.Prelude.{◌≡◌, None, IfOk, IfSome, IsNone, OnOk, ◌⊎◌};
+ghost use Rattle.std.specs.Prelude.{◌≡◌, None, false, IfOk, IfSome, IsNone, OnOk, ◌⊎◌};
 ghost use Rattle.std.specs.Io.KnownBytes.{Keeps};
 ghost use Rattle.amo_word.specs.Distinct.{AreDistinct};
-ghost use Rattle.amo_live.specs.HostLives.{BeginsLife, Draws, IsBehind, IsDrawn, to_come};
+ghost use Rattle.amo_lives.specs.Lives.{has_tag};
+ghost use Rattle.amo_live.specs.HostLives.{BeginsLife, Draws, IsBehind, IsDrawn, IsTagFor, tag_behind, to_come};
 ghost use Rattle.amo_live.specs.Words.{IsNew, StaysDrawn};
 
 use crate::{Durable, Lineage, LiveFault};
@@ -63,8 +64,9 @@ impl<S> HostLives<S> {
 }
 
 impl<S: Durable> HostLives<S> {
-    /// Begins one life more, whose next line in the journal has this number, and draws its first word. Its line is written before that, and put on
-    /// its disk, also where the journal is not: what a loss of power takes of the journal is told by the lives.
+    /// Begins one life more, whose next line in the journal has this number, and draws its first word. Where words of this process are used up, that life
+    /// goes on for the one that had them. Its line is written before that, and put on its disk, also where the journal is not: what a loss of power takes of
+    /// the journal is told by the lives.
     pub fn begin_life(&mut self, next_line: u64) -> Result<u64, LiveFault>
         ensures life { OnOk result (BeginsLife S.written self.old self.new next_line) }
         ensures on_disk { OnOk result (S.on_disk self.new.sink ≡ S.written self.new.sink) }
@@ -74,9 +76,7 @@ impl<S: Durable> HostLives<S> {
         if next_line < self.lives.reach() {
             return Err(LiveFault::Lives);
         }
-        let Ok(tag) = self.lives.draw_tag(&mut self.tags) else {
-            return Err(LiveFault::Lives);
-        };
+        let tag = draw_tag(&self.lives, self.words.is_some(), &mut self.tags)?;
         let life = Life {
             tag,
             first_line: next_line,
@@ -91,6 +91,34 @@ impl<S: Durable> HostLives<S> {
         };
         self.words = Some(words);
         Ok(word)
+    }
+}
+
+/// A tag that no life has, for one more: where it goes on for the last one, whose words are used up, that behind its tag, which no start takes.
+fn draw_tag(lives: &Lives, goes_on: bool, tags: &mut ChaChaWords) -> Result<u32, LiveFault>
+    ensures free { IfOk result (λ tag. has_tag lives.now.lives tag ≡ false) }
+    ensures own { IfOk result (IsTagFor goes_on (tag_behind lives.now.lives)) }
+{
+    let behind = tag_behind(lives.lives());
+    if goes_on {
+        return match behind {
+            Some(tag) if !lives.has_tag(tag) => Ok(tag),
+            _ => Err(LiveFault::Lives),
+        };
+    }
+    match lives.draw_tag(tags) {
+        Ok(tag) if behind != Some(tag) => Ok(tag),
+        _ => Err(LiveFault::Lives),
+    }
+}
+
+/// The tag of the life that goes on for the last of these, if there is one.
+fn tag_behind(lives: &[Life]) -> Option<u32>
+    ensures { result ≡ tag_behind lives.now }
+{
+    match lives.last() {
+        Some(life) => Some(life.next_tag()),
+        None => None,
     }
 }
 

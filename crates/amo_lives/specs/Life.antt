@@ -1,5 +1,5 @@
 -- The file of lives: a heading, and a line for each life. One value has one spelling.
-use Rattle.std.specs.Prelude.{◌≡◌, ℕ, ◌<◌, ◌^◌, Bool, true, false, Option, Some, None, IfSome, List, [], ◌∷◌, length, codes}
+use Rattle.std.specs.Prelude.{◌≡◌, ℕ, ◌+◌, ◌<◌, ◌%◌, ◌^◌, ◌==◌, ◌&&◌, Bool, true, false, Option, Some, None, IfSome, List, [], ◌∷◌, length, codes}
 use Rattle.std.specs.Fmt.{decimal}
 use Rattle.std.specs.Int.{to_be_bytes, w32}
 use Rattle.hex.specs.Hex.{IsBytes}
@@ -45,6 +45,14 @@ pub record InRange (life : Life) : Type 0 where
   pub tag : life.tag < 2 ^ 32
   pub first_line : life.first_line < 2 ^ 64
   pub boot : IfSome life.boot IsBootId
+
+-- the tag of the life that goes on where the words of one with this tag are used up
+abbrev pub next_tag : ℕ → ℕ
+next_tag tag = (tag + 1) % 2 ^ 32
+
+-- the next life goes on where the words of this one were used up: it begins where this one does, with the tag behind this one's
+abbrev pub goes_on : Life → Life → Bool
+goes_on life next = (next.first_line == life.first_line) && (next.tag == next_tag life.tag)
 
 -- the line of a life, with its end
 abbrev pub line_text : Life → List ℕ

@@ -5,7 +5,7 @@ use Rattle.amo_archive.proofs.past.Reign.begin_lives.Given as goal
 -- the lives so far have begun
 abbrev pub invariant-loop-self : goal.invariant-loop-self
 invariant-loop-self l = record {
-  begun : begun l.fn.number (drop l.fn.self.upcoming l.fn.lives) l.fn.self ≡ begun l.fn.number (drop l.self.upcoming l.fn.lives) l.self;
+  begun : begun l.fn.lives l.fn.number (drop l.fn.self.upcoming l.fn.lives) l.fn.self ≡ begun l.fn.lives l.fn.number (drop l.self.upcoming l.fn.lives) l.self;
   within : l.self.upcoming ≤ length l.fn.lives;
 }
 
