@@ -12,6 +12,7 @@ use std::fs::{self, File};
 use std::io::{self, ErrorKind, Read};
 use std::os::unix::fs::{FileExt, MetadataExt};
 use std::rt::Files;
+use std::time::SystemTime;
 
 /// How many bytes of a journal are read at once: so many lines that a turn of the host is not long.
 const ROOM: usize = 64 * 1024;
@@ -25,8 +26,8 @@ const HALVES: u32 = 64;
 /// How many bytes of names a directory is asked for at once. A name has 255 at most.
 const NAMES: usize = 4096;
 
-/// Which file a name stands for.
-type Identity = (u64, u64);
+/// Which file a name stands for: its device, its number there, and when it was made, since numbers are given again.
+type Identity = (u64, u64, Option<SystemTime>);
 
 /// The pieces of a journal, which a host of this process writes. They are read between its turns, so that each line is whole.
 #[derive(Drop)]
@@ -168,7 +169,7 @@ impl Records {
     /// Looks which pieces there are, where the newest is another file than before.
     fn look<R: Files<File = File>>(&mut self, rt: &R) -> Result<(), ReadFault> {
         let file = fs::metadata(rt, self.path.as_str())?;
-        let newest = Some((file.dev(), file.ino()));
+        let newest = Some((file.dev(), file.ino(), file.created().ok()));
         if self.newest != newest {
             self.numbers = numbers_of(rt, self.alloc, self.path.as_str())?;
             self.newest = newest;
