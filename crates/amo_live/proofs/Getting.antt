@@ -1,6 +1,6 @@
 -- Which messages were got.
 use Rattle.std.proofs.Common.{◌≡◌, ℕ, Bool, List, ◌∷◌, Option, Some, None, ap, ◌∙◌}
-use Rattle.amo_object.specs.declared.step.End.TheVariants.{Receiver}
+use Rattle.amo_object.specs.declared.step.End.TheVariants.{Receiver, Sender}
 use Rattle.amo_core.specs.declared.act.Act.{Act}
 use Rattle.amo_core.specs.declared.act.Act.TheVariants as act
 use Rattle.amo_core.specs.declared.mode.Mode.{Mode}
@@ -44,6 +44,11 @@ got_none v w stream (Some (reply.Done, position)) is grown = ap gets_in grown.mi
 pub get_puts : (v w : PassState) (stream : ℕ) (answer : Answer) → Grown v w Receiver stream act.Get answer → puts_in (mine w) ≡ puts_in (mine v)
 get_puts v w stream None grown = ap (λ (p : PassState). puts_in (mine p)) grown
 get_puts v w stream (Some (r, position)) grown = ap puts_in grown.mine_grew
+
+-- a put gets nothing
+pub put_gets : (v w : PassState) (stream : ℕ) (m : List ℕ) (answer : Answer) → Grown v w Sender stream (act.Put m) answer → gets_in (mine w) ≡ gets_in (mine v)
+put_gets v w stream m None grown = ap (λ (p : PassState). gets_in (mine p)) grown
+put_gets v w stream m (Some (r, position)) grown = ap gets_in grown.mine_grew
 
 -- a resend gets nothing, and puts nothing
 pub resend_gets : {L S : Type 0} (h g : HostState L S) (stream : ℕ) (mode : Option Mode) → Did h g stream act.Resend mode → gets_in (mine g.pass) ≡ gets_in (mine h.pass)

@@ -1,5 +1,5 @@
 -- Which messages were put.
-use Rattle.std.proofs.Common.{◌≡◌, ℕ, Bool, true, false, List, ◌∷◌, Option, Some, None, Ok, Err, ap}
+use Rattle.std.proofs.Common.{◌≡◌, ℕ, Bool, true, false, List, ◌∷◌, Option, Some, None, Ok, Err, ap, subst, sym}
 use Rattle.amo_object.specs.declared.step.End.TheVariants.{Sender}
 use Rattle.amo_core.specs.declared.act.Act.{Act}
 use Rattle.amo_core.specs.declared.act.Act.TheVariants as act
@@ -11,6 +11,7 @@ use Rattle.amo_book.specs.Pass.{PassState, Grown, mine}
 use Rattle.amo_journal.specs.declared.version.Version.{Version}
 use Rattle.amo_journal.specs.declared.version.Version.TheVariants.{One, Two}
 use Rattle.amo_journal.specs.Version.{HasBatches}
+use Rattle.amo_live.specs.Callers.{MovesNone, gets_in}
 use Rattle.amo_live.specs.Host.{HostState, Delivered, Did, Looks, puts_in}
 use Rattle.amo_live.specs.Service.{start_of, starts_batches}
 use Rattle.amo_live.proofs.Repeating.{looks_still, none_still}
@@ -31,19 +32,27 @@ pub batches_noted : (batch : Bool) (version : Version) → starts_batches batch 
 batches_noted batch One is = cc
 batches_noted batch Two is = tt
 
--- the start of a batch puts nothing, and no other start does
-start_one : {L S : Type 0} (h g : HostState L S) (stream word : ℕ) (mode : Option Mode) → Did h g stream (act.Start word) mode → puts_in (mine g.pass) ≡ puts_in (mine h.pass)
-start_one h g stream word None did = ap (λ (p : PassState). puts_in (mine p)) did.0
-start_one h g stream word (Some mode) did = ap puts_in did.grown.mine_grew
+-- where nothing happened, no message was put or got
+pub still : (v w : PassState) → w ≡ v → MovesNone v w
+still v w same = (ap (λ (p : PassState). puts_in (mine p)) same, ap (λ (p : PassState). gets_in (mine p)) same)
 
-start_batch : {L S : Type 0} (h g : HostState L S) (stream word : ℕ) (mode : Option Mode) → Did h g stream (act.Batch word) mode → puts_in (mine g.pass) ≡ puts_in (mine h.pass)
-start_batch h g stream word None did = ap (λ (p : PassState). puts_in (mine p)) did.0
-start_batch h g stream word (Some mode) did = ap puts_in did.grown.mine_grew
+-- nor behind that
+pub moves_to : (v u w : PassState) → w ≡ u → MovesNone v u → MovesNone v w
+moves_to v u w same moved = subst (MovesNone v) (sym same) moved
 
-pub start_puts : {L S : Type 0} (h g : HostState L S) (stream word : ℕ) (batch : Bool) (version : Version) (mode : Option Mode) → Did h g stream (start_of batch version word) mode → puts_in (mine g.pass) ≡ puts_in (mine h.pass)
-start_puts h g stream word batch One mode did = start_one h g stream word mode did
-start_puts h g stream word false Two mode did = start_one h g stream word mode did
-start_puts h g stream word true Two mode did = start_batch h g stream word mode did
+-- the start of a batch puts and gets nothing, and no other start does
+start_one : {L S : Type 0} (h g : HostState L S) (stream word : ℕ) (mode : Option Mode) → Did h g stream (act.Start word) mode → MovesNone h.pass g.pass
+start_one h g stream word None did = still h.pass g.pass did.0
+start_one h g stream word (Some mode) did = (ap puts_in did.grown.mine_grew, ap gets_in did.grown.mine_grew)
+
+start_batch : {L S : Type 0} (h g : HostState L S) (stream word : ℕ) (mode : Option Mode) → Did h g stream (act.Batch word) mode → MovesNone h.pass g.pass
+start_batch h g stream word None did = still h.pass g.pass did.0
+start_batch h g stream word (Some mode) did = (ap puts_in did.grown.mine_grew, ap gets_in did.grown.mine_grew)
+
+pub start_moves : {L S : Type 0} (h g : HostState L S) (stream word : ℕ) (batch : Bool) (version : Version) (mode : Option Mode) → Did h g stream (start_of batch version word) mode → MovesNone h.pass g.pass
+start_moves h g stream word batch One mode did = start_one h g stream word mode did
+start_moves h g stream word false Two mode did = start_one h g stream word mode did
+start_moves h g stream word true Two mode did = start_batch h g stream word mode did
 
 -- a delivery puts nothing, nor does a look at an act
 pub delivery_puts : {L S : Type 0} (h g : HostState L S) (bytes : List ℕ) (word : ℕ) (did : Option (ℕ × Mode)) → Delivered h g bytes word did → puts_in (mine g.pass) ≡ puts_in (mine h.pass)

@@ -7,6 +7,7 @@ use Rattle.amo_core.specs.declared.reply.Reply.TheVariants as reply
 use Rattle.amo_world.specs.declared.event.Event.{Event}
 use Rattle.amo_book.specs.Pass.{PassState, mine}
 use Rattle.amo_live.specs.Host.{puts_in}
+use Rattle.amo_live.specs.Service.{PutsNone}
 use Rattle.amo_live.specs.declared.service.door.EventAt.{EventAt}
 
 -- the message that an event got, with its stream, if it did
@@ -22,6 +23,14 @@ gets_in (e ∷ past) = got_by e.stream e.act e.reply ++ gets_in past
 -- no message was got
 abbrev pub GetsNone : PassState → PassState → Type 0
 GetsNone v w = gets_in (mine w) ≡ gets_in (mine v)
+
+-- no message was put or got
+abbrev pub MovesNone : PassState → PassState → Type 0
+MovesNone v w = PutsNone v w × GetsNone v w
+
+-- no message was put, and where there is no room to show one, none was got
+abbrev pub MovesWithin : ℕ → PassState → PassState → Type 0
+MovesWithin room v w = PutsNone v w × (room ≡ 0 → GetsNone v w)
 
 -- a message was got of a stream, once; or none was
 abbrev pub Gets : PassState → PassState → ℕ → Option (List ℕ × ℕ) → Type 0

@@ -1,16 +1,18 @@
 -- A host at work.
-use Rattle.std.specs.Prelude.{◌≡◌, ℕ, zero, suc, Bool, true, false, if◌then◌else◌, Option, Some, List, [], ◌∷◌, ◌++◌, get_or, slice_get, ◌<◌, ◌≢◌, ◌⊎◌, is_some, None, Contains, length, map}
+use Rattle.std.specs.Prelude.{◌≡◌, ℕ, zero, suc, Bool, true, false, if◌then◌else◌, Option, Some, List, [], ◌∷◌, ◌++◌, get_or, slice_get, ◌<◌, ◌≤◌, ◌≢◌, ◌⊎◌, is_some, None, Contains, length, map}
 use Rattle.amo_object.specs.declared.step.End.{End}
 use Rattle.amo_object.specs.declared.step.End.TheVariants.{Sender, Receiver}
 use Rattle.amo_core.specs.declared.act.Act.{Act}
 use Rattle.amo_core.specs.declared.act.Act.TheVariants as act
 use Rattle.amo_core.specs.declared.mode.Mode.{Mode}
 use Rattle.amo_core.specs.declared.mode.Mode.TheVariants as mode
+use Rattle.amo_core.specs.Sender.{max_waiting}
 use Rattle.amo_journal.specs.declared.version.Version.{Version}
 use Rattle.amo_journal.specs.declared.version.Version.TheVariants.{One, Two}
 use Rattle.amo_book.specs.Pass.{PassState, mine}
 use Rattle.amo_host.specs.AtStream.{AreCalm, HasMode}
 use Rattle.amo_host.specs.Host as host
+use Rattle.amo_live.specs.Client.{has}
 use Rattle.amo_live.specs.Host.{puts_in}
 use Rattle.amo_live.specs.Shown.{Told}
 use Rattle.amo_lines.specs.declared.lines.Spelling.{Spelling}
@@ -77,6 +79,10 @@ sender_by (Some lane) = as_sender lane
 
 abbrev pub sender_of : {L S W : Type 0} → Service L S W → ℕ → SenderLane
 sender_of service stream = sender_by (lane_of service stream)
+
+-- a stream takes no message more: it is not there, or as many wait there as may
+abbrev pub IsFull : {L S W : Type 0} → Service L S W → ℕ → Type 0
+IsFull service stream = (has (streams_of service) stream ≡ false) ⊎ (max_waiting ≤ (sender_of service stream).waiting)
 
 -- whether this is the mode of a receiver that holds messages
 abbrev pub is_rcvd : Option Mode → Bool

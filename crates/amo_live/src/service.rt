@@ -1,13 +1,14 @@
 //! What a live host does with datagrams, times and its clients' messages.
-ghost use Rattle.std.specs.Prelude.{◌≡◌, ◌≢◌, ◌≤◌, ◌↔◌, ℕ, [], Some, true, IfNone, IfOk, IfSome, IsTrue, OnOk, is_some, length, take};
+ghost use Rattle.std.specs.Prelude.{◌≡◌, ◌≢◌, ◌≤◌, ◌↔◌, ℕ, [], Some, false, true, IfNone, IfOk, IfSome, IsTrue, OnOk, is_some, length, take};
 ghost use Rattle.amo_core.specs.declared.mode.Mode.TheVariants.{Quiet, Send};
 ghost use Rattle.amo_packet.specs.Packet.{body_of, packet_of};
 ghost use Rattle.amo_packet.specs.Grammar.{Spells, messages_of};
 ghost use Rattle.amo_journal.specs.Version.{newest};
 ghost use Rattle.amo_lines.specs.Backlog.{kept_on};
+ghost use Rattle.amo_live.specs.Callers.{MovesNone, MovesWithin};
 ghost use Rattle.amo_live.specs.Client.{PutsNamed, has};
 ghost use Rattle.amo_live.specs.Host.{Delivered, Did, IsNoted};
-ghost use Rattle.amo_live.specs.Service.{IsAtRest, PutsNone, got_by, is_in_doubt, lane_of, new_version, nothing_known, settled_by, shown_by, spelling_of, start_of, starts_batches, streams_of, unanswered_by, words_of};
+ghost use Rattle.amo_live.specs.Service.{IsAtRest, got_by, is_in_doubt, lane_of, new_version, nothing_known, settled_by, shown_by, spelling_of, start_of, starts_batches, streams_of, unanswered_by, words_of};
 ghost use Rattle.amo_live.specs.Shown.{BeginsWithPut, ShowsMore, behind};
 ghost use Rattle.amo_live.specs.Words.{BearsNew, IsNew, StaysDrawn};
 
@@ -93,8 +94,6 @@ pub struct Service<L, S, W> {
     datagram: Option<Box<[u8; MAX_DATAGRAM]>>,
     /// How long the datagram is that stands there and waits to be taken, if one does.
     come: Option<usize>,
-    /// How many bytes may be shown in this turn.
-    room: usize,
     /// The number in the journal of the first message that was got and not shown.
     unshown: Option<u64>,
     /// A stream holds messages for which there was no room.
@@ -194,7 +193,6 @@ impl<L: Link + Drop, S: Sink + Drop, W: Lineage + Drop> Service<L, S, W> {
             settled: Vec::new(alloc),
             datagram: None,
             come: None,
-            room: 0,
             unshown: None,
             unread: false,
             got: 0,
@@ -280,9 +278,11 @@ impl<L: Link, S: Sink, W: Lineage> Service<L, S, W> {
         self.unread
     }
 
-    /// Whether one message more may be shown in this turn, behind no other that waits.
-    fn has_room(&self) -> bool {
-        !self.unread && self.shown.len().saturating_add(LONGEST_LINE) <= self.room
+    /// Whether one message more may be shown where so many bytes may, behind no other that waits.
+    fn has_room(&self, room: usize) -> bool
+        ensures { room ≡ 0 → result ≡ false }
+    {
+        !self.unread && self.shown.len().saturating_add(LONGEST_LINE) <= room
     }
 
     /// Whether it has this stream.
@@ -405,7 +405,7 @@ impl<L: Link, S: Sink, W: Lineage> Service<L, S, W> {
     fn begin(&mut self, stream: u32, now: u64) -> Result<(), LiveFault>
         requires { IsNoted S.written self.old.host }
         ensures noted { OnOk result (IsNoted S.written self.new.host) }
-        ensures none_put { OnOk result (PutsNone self.old.host.pass self.new.host.pass) }
+        ensures moved { OnOk result (MovesNone self.old.host.pass self.new.host.pass) }
         ensures streams { streams_of self.new ≡ streams_of self.old }
         ensures shown { OnOk result (ShowsMore (spelling_of self.old) self.old.host.pass self.new.host.pass (shown_by self.old) (shown_by self.new)) }
         ensures spelling { spelling_of self.new ≡ spelling_of self.old }
@@ -422,7 +422,7 @@ impl<L: Link, S: Sink, W: Lineage> Service<L, S, W> {
     fn catch_up(&mut self, now: u64) -> Result<(), LiveFault>
         requires { IsNoted S.written self.old.host }
         ensures noted { OnOk result (IsNoted S.written self.new.host) }
-        ensures none_put { OnOk result (PutsNone self.old.host.pass self.new.host.pass) }
+        ensures moved { OnOk result (MovesNone self.old.host.pass self.new.host.pass) }
         ensures streams { streams_of self.new ≡ streams_of self.old }
         ensures shown { OnOk result (ShowsMore (spelling_of self.old) self.old.host.pass self.new.host.pass (shown_by self.old) (shown_by self.new)) }
         ensures spelling { spelling_of self.new ≡ spelling_of self.old }
@@ -444,7 +444,7 @@ impl<L: Link, S: Sink, W: Lineage> Service<L, S, W> {
     fn begin_in_turn(&mut self, now: u64) -> Result<(), LiveFault>
         requires { IsNoted S.written self.old.host }
         ensures noted { OnOk result (IsNoted S.written self.new.host) }
-        ensures none_put { OnOk result (PutsNone self.old.host.pass self.new.host.pass) }
+        ensures moved { OnOk result (MovesNone self.old.host.pass self.new.host.pass) }
         ensures streams { streams_of self.new ≡ streams_of self.old }
         ensures shown { OnOk result (ShowsMore (spelling_of self.old) self.old.host.pass self.new.host.pass (shown_by self.old) (shown_by self.new)) }
         ensures spelling { spelling_of self.new ≡ spelling_of self.old }
@@ -473,11 +473,11 @@ impl<L: Link, S: Sink, W: Lineage> Service<L, S, W> {
     }
 
     /// Begins the handshake of a stream's next messages, if its sender is at rest and one waits.
-    #[tactic(auto, using(crate::proofs::Putting::start_puts, crate::proofs::Fresh::bears_none))]
+    #[tactic(auto, using(crate::proofs::Putting::start_moves, crate::proofs::Fresh::bears_none))]
     fn begin_next(&mut self, stream: u32, now: u64) -> Result<(), LiveFault>
         requires { IsNoted S.written self.old.host }
         ensures noted { OnOk result (IsNoted S.written self.new.host) }
-        ensures none_put { OnOk result (PutsNone self.old.host.pass self.new.host.pass) }
+        ensures moved { OnOk result (MovesNone self.old.host.pass self.new.host.pass) }
         ensures streams { streams_of self.new ≡ streams_of self.old }
         ensures shown { OnOk result (ShowsMore (spelling_of self.old) self.old.host.pass self.new.host.pass (shown_by self.old) (shown_by self.new)) }
         ensures spelling { spelling_of self.new ≡ spelling_of self.old }
@@ -537,12 +537,12 @@ impl<L: Link, S: Sink, W: Lineage> Service<L, S, W> {
         }
     }
 
-    /// Delivers a datagram.
+    /// Delivers a datagram, where so many bytes of messages may be shown.
     #[tactic(auto, using(crate::proofs::Fresh::bears_none))]
-    fn deliver(&mut self, bytes: &[u8], now: u64) -> Result<(), LiveFault>
+    fn deliver(&mut self, bytes: &[u8], now: u64, room: usize) -> Result<(), LiveFault>
         requires { IsNoted S.written self.old.host }
         ensures noted { OnOk result (IsNoted S.written self.new.host) }
-        ensures none_put { OnOk result (PutsNone self.old.host.pass self.new.host.pass) }
+        ensures moved { OnOk result (MovesWithin room self.old.host.pass self.new.host.pass) }
         ensures streams { streams_of self.new ≡ streams_of self.old }
         ensures shown { OnOk result (ShowsMore (spelling_of self.old) self.old.host.pass self.new.host.pass (shown_by self.old) (shown_by self.new)) }
         ensures spelling { spelling_of self.new ≡ spelling_of self.old }
@@ -571,7 +571,7 @@ impl<L: Link, S: Sink, W: Lineage> Service<L, S, W> {
         self.tell_ack(&packet, told_by_ack(before, mode, end))?;
         self.keep_delivery(stream, before, mode, end.messages)?;
         self.arrive(stream, mode, is_other, brought_by(&packet), now);
-        self.go_on(stream, mode, is_other, end, now)
+        self.go_on(stream, mode, is_other, end, now, room)
     }
 
     /// Goes on where a packet was delivered on a stream, whose side is in this mode now, which may be another than before: then a handshake may have
@@ -584,17 +584,18 @@ impl<L: Link, S: Sink, W: Lineage> Service<L, S, W> {
         is_other: bool,
         end: Settled,
         now: u64,
+        room: usize,
     ) -> Result<(), LiveFault>
         requires { IsNoted S.written self.old.host }
         ensures noted { OnOk result (IsNoted S.written self.new.host) }
-        ensures none_put { OnOk result (PutsNone self.old.host.pass self.new.host.pass) }
+        ensures moved { OnOk result (MovesWithin room self.old.host.pass self.new.host.pass) }
         ensures streams { streams_of self.new ≡ streams_of self.old }
         ensures shown { OnOk result (ShowsMore (spelling_of self.old) self.old.host.pass self.new.host.pass (shown_by self.old) (shown_by self.new)) }
         ensures spelling { spelling_of self.new ≡ spelling_of self.old }
         ensures words { OnOk result (BearsNew W.is_drawn (words_of self.old) (words_of self.new) self.old.host.pass self.new.host.pass) }
     {
         match mode {
-            Mode::Rcvd => self.get_all(stream, now),
+            Mode::Rcvd => self.get_all(stream, now, room),
             Mode::Quiet if is_other => self.settle(end, now),
             _ => Ok(()),
         }
@@ -635,7 +636,7 @@ impl<L: Link, S: Sink, W: Lineage> Service<L, S, W> {
     fn settle(&mut self, end: Settled, now: u64) -> Result<(), LiveFault>
         requires { IsNoted S.written self.old.host }
         ensures noted { OnOk result (IsNoted S.written self.new.host) }
-        ensures none_put { OnOk result (PutsNone self.old.host.pass self.new.host.pass) }
+        ensures moved { OnOk result (MovesNone self.old.host.pass self.new.host.pass) }
         ensures streams { streams_of self.new ≡ streams_of self.old }
         ensures shown { OnOk result (ShowsMore (spelling_of self.old) self.old.host.pass self.new.host.pass (shown_by self.old) (shown_by self.new)) }
         ensures spelling { spelling_of self.new ≡ spelling_of self.old }

@@ -2,7 +2,7 @@
 use Rattle.std.proofs.Common.{◌≡◌, ℕ, Bool, true, false, cond, not, eqb, List, [], ◌∷◌, ◌++◌, Option, Some, None, refl, sym, ap, ◌∙◌, subst, append_assoc, append-nil}
 use Rattle.std.specs.Prelude.{IfSome, bytes_eq, if◌then◌else◌}
 use Rattle.amo_book.specs.Pass.{PassState, mine}
-use Rattle.amo_live.specs.Callers.{gets_in}
+use Rattle.amo_live.specs.Callers.{GetsNone, MovesNone, gets_in}
 use Rattle.amo_live.specs.Host.{puts_in}
 use Rattle.amo_door.specs.declared.answer.Answer.{Answer as DoorAnswer}
 use Rattle.amo_door.specs.declared.claim.Claim.{Claim}
@@ -17,31 +17,43 @@ use Rattle.amo_door.specs.Answer.{put_body, status_of_put}
 use Rattle.amo_door.specs.Numbers.{HasStream, Table, decision, last_of, made_for, number_of}
 use Rattle.amo_door.specs.Refusal.{status_of}
 use Rattle.amo_door.specs.Turns.{Answer, Answers, Claimed, Fresh, Gone, Keeps, NotNow, Repeated, Stands, Turn, all_made, fresh, in_front, newest}
-use Rattle.amo_serve.specs.Serving.{AnswersPut, AnswersTake, AnswersUnclaimed, IsFull, IsPut, IsTurn, Serves, SpellsPut, SpellsTaken, Takes, got_by_claim, put_by_turn, put_by_turns}
+use Rattle.amo_serve.specs.Serving.{AnswersPut, AnswersTake, AnswersUnclaimed, IsFull, IsPut, IsTurn, Serves, SpellsPut, SpellsTaken, Takes, got_by_turn, got_by_turns, put_by_turn, put_by_turns}
 use Rattle.amo_serve.specs.declared.responder.taking.Taken.{Taken}
 use Rattle.amo_serve.specs.declared.responder.taking.Taken.TheVariants as taken
 
--- no turn came, and nothing was put
-pub serves_none : (s t : Table) (v w : PassState) → t ≡ s → puts_in (mine w) ≡ puts_in (mine v) → Serves s t v w
-serves_none s t v w same none = record { turns = []; keeps = λ past keeps. subst (Keeps past) (sym same) keeps; puts = none }
+-- no turn came, and nothing was put or got
+pub serves_none : (s t : Table) (v w : PassState) → t ≡ s → MovesNone v w → Serves s t v w
+serves_none s t v w same none = record { turns = []; keeps = λ past keeps. subst (Keeps past) (sym same) keeps; puts = none.0; gets = none.1 }
 
 -- one turn came
 pub serves_turn : (s t : Table) (v w : PassState) (turn : Turn) → IsTurn s t v w turn → Serves s t v w
-serves_turn s t v w turn is = record { turns = turn ∷ []; keeps = is.keeps; puts = is.puts ∙ ap (λ (l : List (ℕ × List ℕ)). l ++ puts_in (mine v)) (sym (append-nil (put_by_turn turn))) }
+serves_turn s t v w turn is = record {
+  turns = turn ∷ [];
+  keeps = is.keeps;
+  puts = is.puts ∙ ap (λ (l : List (ℕ × List ℕ)). l ++ puts_in (mine v)) (sym (append-nil (put_by_turn turn)));
+  gets = is.gets ∙ ap (λ (l : List (ℕ × List ℕ)). l ++ gets_in (mine v)) (sym (append-nil (got_by_turn turn)));
+}
 
--- what more turns put stands in front
+-- what more turns put stands in front, and so does what they got
 puts_append : (more past : List Turn) → put_by_turns (more ++ past) ≡ put_by_turns more ++ put_by_turns past
 puts_append [] past = refl
 puts_append (turn ∷ more) past = ap (λ (l : List (ℕ × List ℕ)). put_by_turn turn ++ l) (puts_append more past) ∙ sym (append_assoc (put_by_turn turn) (put_by_turns more) (put_by_turns past))
+
+gets_append : (more past : List Turn) → got_by_turns (more ++ past) ≡ got_by_turns more ++ got_by_turns past
+gets_append [] past = refl
+gets_append (turn ∷ more) past = ap (λ (l : List (ℕ × List ℕ)). got_by_turn turn ++ l) (gets_append more past) ∙ sym (append_assoc (got_by_turn turn) (got_by_turns more) (got_by_turns past))
+
+-- messages in front of others, and more in front of all
+in_front_of : (two one new first last both : List (ℕ × List ℕ)) → last ≡ two ++ new → new ≡ one ++ first → both ≡ two ++ one → last ≡ both ++ first
+in_front_of two one new first last both later earlier are = later ∙ (ap (λ (l : List (ℕ × List ℕ)). two ++ l) earlier ∙ (sym (append_assoc two one first) ∙ ap (λ (l : List (ℕ × List ℕ)). l ++ first) (sym are)))
 
 -- one after the other
 pub serves_on : (s t u : Table) (v w x : PassState) → Serves s t v w → Serves t u w x → Serves s u v x
 serves_on s t u v w x one two = record {
   turns = two.turns ++ one.turns;
   keeps = λ past keeps. subst (λ (l : List Turn). Keeps l u) (sym (append_assoc two.turns one.turns past)) (two.keeps (one.turns ++ past) (one.keeps past keeps));
-  puts = two.puts ∙ (ap (λ (l : List (ℕ × List ℕ)). put_by_turns two.turns ++ l) one.puts
-      ∙ (sym (append_assoc (put_by_turns two.turns) (put_by_turns one.turns) (puts_in (mine v)))
-      ∙ ap (λ (l : List (ℕ × List ℕ)). l ++ puts_in (mine v)) (sym (puts_append two.turns one.turns))));
+  puts = in_front_of (put_by_turns two.turns) (put_by_turns one.turns) (puts_in (mine w)) (puts_in (mine v)) (puts_in (mine x)) (put_by_turns (two.turns ++ one.turns)) two.puts one.puts (puts_append two.turns one.turns);
+  gets = in_front_of (got_by_turns two.turns) (got_by_turns one.turns) (gets_in (mine w)) (gets_in (mine v)) (gets_in (mine x)) (got_by_turns (two.turns ++ one.turns)) two.gets one.gets (gets_append two.turns one.turns);
 }
 
 -- the same, of values that are known under other names
@@ -61,7 +73,7 @@ unclaimed_serves s t v w stream message answer (IsFull same none status) = serve
 -- so is a claim to take; one that waits is none
 pub take_serves : (s t : Table) (v w : PassState) (claim : Claim) (took : Taken) → Takes s t v w claim took → Serves s t v w
 take_serves s t v w claim (taken.Answer answer) answers = serves_turn s t v w (Claimed claim None answers.told) answers.turn
-take_serves s t v w claim (taken.NotYet back) (same, kept, puts, gets) = serves_none s t v w kept puts
+take_serves s t v w claim (taken.NotYet back) (same, kept, none) = serves_none s t v w kept none
 
 -- what was made last stays where a turn made nothing
 nothing_made : (b : Bool) (made : Option Made) (all : List Made) → made ≡ None → newest (in_front (if b then made else None) all) ≡ newest all
@@ -76,88 +88,90 @@ still_kept s claim brings told has answers none past keeps = record {
   lasts = λ stream there. keeps.lasts stream there ∙ sym (nothing_made (eqb claim.stream stream) (fresh told) (all_made stream past) none);
 }
 
-nothing_put : (claim : Claim) (message : List ℕ) (told : Answer) → fresh told ≡ None → put_by_turn (Claimed claim (Some message) told) ≡ []
-nothing_put claim message (Fresh made) none = cc
-nothing_put claim message (Repeated made) none = refl
-nothing_put claim message (Stands number) none = refl
-nothing_put claim message Gone none = refl
-nothing_put claim message NotNow none = refl
+nothing_put : (claim : Claim) (brings : Option (List ℕ)) (told : Answer) → fresh told ≡ None → put_by_turn (Claimed claim brings told) ≡ []
+nothing_put claim None told none = refl
+nothing_put claim (Some message) (Fresh made) none = cc
+nothing_put claim (Some message) (Repeated made) none = refl
+nothing_put claim (Some message) (Stands number) none = refl
+nothing_put claim (Some message) Gone none = refl
+nothing_put claim (Some message) NotNow none = refl
 
-nothing_got : (stream : ℕ) (told : Answer) → fresh told ≡ None → got_by_claim stream told ≡ []
-nothing_got stream (Fresh made) none = cc
-nothing_got stream (Repeated made) none = refl
-nothing_got stream (Stands number) none = refl
-nothing_got stream Gone none = refl
-nothing_got stream NotNow none = refl
+nothing_got : (claim : Claim) (brings : Option (List ℕ)) (told : Answer) → fresh told ≡ None → got_by_turn (Claimed claim brings told) ≡ []
+nothing_got claim (Some message) told none = refl
+nothing_got claim None (Fresh made) none = cc
+nothing_got claim None (Repeated made) none = refl
+nothing_got claim None (Stands number) none = refl
+nothing_got claim None Gone none = refl
+nothing_got claim None NotNow none = refl
 
 -- the turn of a claim that made nothing
 still_turn : (s t : Table) (v w : PassState) (claim : Claim) (brings : Option (List ℕ)) (told : Answer) → HasStream s claim.stream
     → Answers (decision s.life (last_of s claim.stream) claim brings) (last_of s claim.stream) claim brings told → fresh told ≡ None → t ≡ s
-    → puts_in (mine w) ≡ put_by_turn (Claimed claim brings told) ++ puts_in (mine v) → IsTurn s t v w (Claimed claim brings told)
-still_turn s t v w claim brings told has answers none same puts = record {
+    → MovesNone v w → IsTurn s t v w (Claimed claim brings told)
+still_turn s t v w claim brings told has answers none same (puts, gets) = record {
   keeps = λ past keeps. subst (Keeps (Claimed claim brings told ∷ past)) (sym same) (still_kept s claim brings told has answers none past keeps);
-  puts = puts;
+  puts = puts ∙ ap (λ (l : List (ℕ × List ℕ)). l ++ puts_in (mine v)) (sym (nothing_put claim brings told none));
+  gets = gets ∙ ap (λ (l : List (ℕ × List ℕ)). l ++ gets_in (mine v)) (sym (nothing_got claim brings told none));
 }
 
 module _ (s t : Table) (v w : PassState) (claim : Claim) (message : List ℕ) where
   -- a claim to put for which nothing was put
   pub not_put : (told : Answer) (answer : DoorAnswer) → HasStream s claim.stream → Answers (decision s.life (last_of s claim.stream) claim (Some message)) (last_of s claim.stream) claim (Some message) told → fresh told ≡ None
-      → t ≡ s → puts_in (mine w) ≡ puts_in (mine v) → SpellsPut s.life claim.stream told answer → AnswersPut s t v w claim message answer
+      → t ≡ s → MovesNone v w → SpellsPut s.life claim.stream told answer → AnswersPut s t v w claim message answer
   not_put told answer has answers none same kept spelt = record {
     told = told;
-    turn = still_turn s t v w claim (Some message) told has answers none same (kept ∙ ap (λ (l : List (ℕ × List ℕ)). l ++ puts_in (mine v)) (sym (nothing_put claim message told none)));
+    turn = still_turn s t v w claim (Some message) told has answers none same kept;
     spelt = spelt;
   }
 
   -- there was no room
-  pub full_put : (answer : DoorAnswer) → HasStream s claim.stream → decision s.life (last_of s claim.stream) claim (Some message) ≡ Next → t ≡ s → puts_in (mine w) ≡ puts_in (mine v)
+  pub full_put : (answer : DoorAnswer) → HasStream s claim.stream → decision s.life (last_of s claim.stream) claim (Some message) ≡ Next → t ≡ s → MovesNone v w
       → answer.status ≡ status_of refusal.Full → AnswersPut s t v w claim message answer
   full_put answer has next same kept status = not_put NotNow answer has (subst (λ (d : Decision). Answers d (last_of s claim.stream) claim (Some message) NotNow) (sym next) tt) refl same kept status
 
   -- another number is next
-  pub conflicting_put : (answer : DoorAnswer) → HasStream s claim.stream → decision s.life (last_of s claim.stream) claim (Some message) ≡ Conflict → t ≡ s → puts_in (mine w) ≡ puts_in (mine v)
+  pub conflicting_put : (answer : DoorAnswer) → HasStream s claim.stream → decision s.life (last_of s claim.stream) claim (Some message) ≡ Conflict → t ≡ s → MovesNone v w
       → answer.status ≡ status_of refusal.Conflict → AnswersPut s t v w claim message answer
   conflicting_put answer has conflict same kept status =
       not_put (Stands (number_of (last_of s claim.stream))) answer has (subst (λ (d : Decision). Answers d (last_of s claim.stream) claim (Some message) (Stands (number_of (last_of s claim.stream)))) (sym conflict) refl) refl same kept status
 
   -- it was put before
-  pub put_before : (made : Made) (answer : DoorAnswer) → HasStream s claim.stream → decision s.life (last_of s claim.stream) claim (Some message) ≡ Again → last_of s claim.stream ≡ Some made → t ≡ s → puts_in (mine w) ≡ puts_in (mine v)
+  pub put_before : (made : Made) (answer : DoorAnswer) → HasStream s claim.stream → decision s.life (last_of s claim.stream) claim (Some message) ≡ Again → last_of s claim.stream ≡ Some made → t ≡ s → MovesNone v w
       → (answer.status ≡ status_of_put Before) × (answer.body.items ≡ put_body s.life claim.stream made) → AnswersPut s t v w claim message answer
   put_before made answer has again last same kept told =
       not_put (Repeated made) answer has (subst (λ (d : Decision). Answers d (last_of s claim.stream) claim (Some message) (Repeated made)) (sym again) last) refl same kept told
 
   -- it was put now
   pub put_now : (place : EventPlace) (answer : DoorAnswer) → ((past : List Turn) → Keeps past s → Keeps (Claimed claim (Some message) (Fresh (made_for claim message place)) ∷ past) t)
-      → puts_in (mine w) ≡ (claim.stream, message) ∷ puts_in (mine v) → (answer.status ≡ status_of_put Now) × (answer.body.items ≡ put_body s.life claim.stream (made_for claim message place)) → AnswersPut s t v w claim message answer
-  put_now place answer keeps puts told = record { told = Fresh (made_for claim message place); turn = record { keeps = keeps; puts = puts }; spelt = told }
+      → puts_in (mine w) ≡ (claim.stream, message) ∷ puts_in (mine v) → GetsNone v w → (answer.status ≡ status_of_put Now) × (answer.body.items ≡ put_body s.life claim.stream (made_for claim message place)) → AnswersPut s t v w claim message answer
+  put_now place answer keeps puts gets told = record { told = Fresh (made_for claim message place); turn = record { keeps = keeps; puts = puts; gets = gets }; spelt = told }
 
 module _ (s t : Table) (v w : PassState) (claim : Claim) where
   -- a claim to take for which nothing was got
   pub not_taken : (told : Answer) (answer : DoorAnswer) → HasStream s claim.stream → Answers (decision s.life (last_of s claim.stream) claim None) (last_of s claim.stream) claim None told → fresh told ≡ None
-      → t ≡ s → puts_in (mine w) ≡ puts_in (mine v) → gets_in (mine w) ≡ gets_in (mine v) → SpellsTaken told answer → AnswersTake s t v w claim answer
-  not_taken told answer has answers none same kept got spelt = record {
+      → t ≡ s → MovesNone v w → SpellsTaken told answer → AnswersTake s t v w claim answer
+  not_taken told answer has answers none same kept spelt = record {
     told = told;
     turn = still_turn s t v w claim None told has answers none same kept;
-    gets = got ∙ ap (λ (l : List (ℕ × List ℕ)). l ++ gets_in (mine v)) (sym (nothing_got claim.stream told none));
     spelt = spelt;
   }
 
   -- another number is next
-  pub conflicting_take : (answer : DoorAnswer) → HasStream s claim.stream → decision s.life (last_of s claim.stream) claim None ≡ Conflict → t ≡ s → puts_in (mine w) ≡ puts_in (mine v) → gets_in (mine w) ≡ gets_in (mine v)
+  pub conflicting_take : (answer : DoorAnswer) → HasStream s claim.stream → decision s.life (last_of s claim.stream) claim None ≡ Conflict → t ≡ s → MovesNone v w
       → answer.status ≡ status_of refusal.Conflict → AnswersTake s t v w claim answer
-  conflicting_take answer has conflict same kept got status =
-      not_taken (Stands (number_of (last_of s claim.stream))) answer has (subst (λ (d : Decision). Answers d (last_of s claim.stream) claim None (Stands (number_of (last_of s claim.stream)))) (sym conflict) refl) refl same kept got status
+  conflicting_take answer has conflict same kept status =
+      not_taken (Stands (number_of (last_of s claim.stream))) answer has (subst (λ (d : Decision). Answers d (last_of s claim.stream) claim None (Stands (number_of (last_of s claim.stream)))) (sym conflict) refl) refl same kept status
 
   -- it was taken before
-  pub taken_before : (made : Made) (answer : DoorAnswer) → HasStream s claim.stream → decision s.life (last_of s claim.stream) claim None ≡ Again → last_of s claim.stream ≡ Some made → t ≡ s → puts_in (mine w) ≡ puts_in (mine v)
-      → gets_in (mine w) ≡ gets_in (mine v) → (answer.status ≡ 200) × (answer.kind ≡ Bytes) × (answer.body.items ≡ made.message) → AnswersTake s t v w claim answer
-  taken_before made answer has again last same kept got told =
-      not_taken (Repeated made) answer has (subst (λ (d : Decision). Answers d (last_of s claim.stream) claim None (Repeated made)) (sym again) last) refl same kept got told
+  pub taken_before : (made : Made) (answer : DoorAnswer) → HasStream s claim.stream → decision s.life (last_of s claim.stream) claim None ≡ Again → last_of s claim.stream ≡ Some made → t ≡ s → MovesNone v w
+      → (answer.status ≡ 200) × (answer.kind ≡ Bytes) × (answer.body.items ≡ made.message) → AnswersTake s t v w claim answer
+  taken_before made answer has again last same kept told =
+      not_taken (Repeated made) answer has (subst (λ (d : Decision). Answers d (last_of s claim.stream) claim None (Repeated made)) (sym again) last) refl same kept told
 
   -- it was taken now
   pub taken_now : (message : List ℕ) (place : EventPlace) (answer : DoorAnswer) → ((past : List Turn) → Keeps past s → Keeps (Claimed claim None (Fresh (made_for claim message place)) ∷ past) t)
       → puts_in (mine w) ≡ puts_in (mine v) → gets_in (mine w) ≡ (claim.stream, message) ∷ gets_in (mine v) → (answer.status ≡ 200) × (answer.kind ≡ Bytes) × (answer.body.items ≡ message) → AnswersTake s t v w claim answer
-  taken_now message place answer keeps puts gets told = record { told = Fresh (made_for claim message place); turn = record { keeps = keeps; puts = puts }; gets = gets; spelt = told }
+  taken_now message place answer keeps puts gets told = record { told = Fresh (made_for claim message place); turn = record { keeps = keeps; puts = puts; gets = gets }; spelt = told }
 
 -- where it is decided that a claim comes again, something was made before
 pub made_before : (life : List ℕ) (claim : Claim) (brings : Option (List ℕ)) (last : Option Made) → decision life last claim brings ≡ Again → (made : Made) × (last ≡ Some made)

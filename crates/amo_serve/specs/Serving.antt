@@ -1,7 +1,7 @@
 -- What a host does for those who ask at its door.
 use Rattle.std.specs.Prelude.{◌≡◌, ℕ, Some, None, List, [], ◌∷◌, ◌++◌}
 use Rattle.amo_book.specs.Pass.{PassState, mine}
-use Rattle.amo_live.specs.Callers.{gets_in}
+use Rattle.amo_live.specs.Callers.{MovesNone, gets_in}
 use Rattle.amo_live.specs.Host.{puts_in}
 use Rattle.amo_door.specs.declared.answer.Answer.{Answer as DoorAnswer}
 use Rattle.amo_door.specs.declared.answer.Kind.TheVariants.{Bytes}
@@ -35,17 +35,29 @@ abbrev pub put_by_turns : List Turn → List (ℕ × List ℕ)
 put_by_turns [] = []
 put_by_turns (turn ∷ past) = put_by_turn turn ++ put_by_turns past
 
--- This turn came to what is kept of a life, and what the host put meanwhile is what the turn put.
+-- the message that a turn got, with its stream, if it got one: for a claim that brings none
+abbrev pub got_by_turn : Turn → List (ℕ × List ℕ)
+got_by_turn (Claimed claim None (Fresh made)) = (claim.stream, made.message) ∷ []
+got_by_turn _ = []
+
+-- the messages that turns got, each with its stream; newest first
+abbrev pub got_by_turns : List Turn → List (ℕ × List ℕ)
+got_by_turns [] = []
+got_by_turns (turn ∷ past) = got_by_turn turn ++ got_by_turns past
+
+-- This turn came to what is kept of a life, and what the host put and got meanwhile is what the turn put and got.
 pub record IsTurn (s t : Table) (v w : PassState) (turn : Turn) : Type 0 where
   pub keeps : (past : List Turn) → Keeps past s → Keeps (turn ∷ past) t
   pub puts : puts_in (mine w) ≡ put_by_turn turn ++ puts_in (mine v)
+  pub gets : gets_in (mine w) ≡ got_by_turn turn ++ gets_in (mine v)
 
--- Between two moments these turns came to what is kept of a life, each right behind those before it, and the messages that the host put are those that
--- the turns put, in their order.
+-- Between two moments these turns came to what is kept of a life, each right behind those before it, and the messages that the host put, and those that it
+-- got, are those that the turns put and got, in their order.
 pub record Serves (s t : Table) (v w : PassState) : Type 0 where
   pub turns : List Turn
   pub keeps : (past : List Turn) → Keeps past s → Keeps (turns ++ past) t
   pub puts : puts_in (mine w) ≡ put_by_turns turns ++ puts_in (mine v)
+  pub gets : gets_in (mine w) ≡ got_by_turns turns ++ gets_in (mine v)
 
 -- what the turn of a claim to put was answered is spelt so: what was made, with 201 now and 200 before; or why nothing was
 abbrev pub SpellsPut : List ℕ → ℕ → Answer → DoorAnswer → Type 0
@@ -69,24 +81,18 @@ pub record AnswersPut (s t : Table) (v w : PassState) (claim : Claim) (message :
   pub turn : IsTurn s t v w (Claimed claim (Some message) told)
   pub spelt : SpellsPut s.life claim.stream told answer
 
--- the message that the turn of a claim to take got, with its stream, if it got one
-abbrev pub got_by_claim : ℕ → Answer → List (ℕ × List ℕ)
-got_by_claim stream (Fresh made) = (stream, made.message) ∷ []
-got_by_claim stream _ = []
-
--- A claim to take was answered so: the same, and what the host got meanwhile is what the turn got.
+-- A claim to take was answered so: the same.
 pub record AnswersTake (s t : Table) (v w : PassState) (claim : Claim) (answer : DoorAnswer) : Type 0 where
   pub told : Answer
   pub turn : IsTurn s t v w (Claimed claim None told)
-  pub gets : gets_in (mine w) ≡ got_by_claim claim.stream told ++ gets_in (mine v)
   pub spelt : SpellsTaken told answer
 
 -- A message was put without a number, and answered with 201 and where it stands; or it was not, as there was no room for it.
 pub data AnswersUnclaimed (s t : Table) (v w : PassState) (stream : ℕ) (message : List ℕ) (answer : DoorAnswer) : Type 0 where
   IsPut : (made : Made) → IsTurn s t v w (Unclaimed stream made) → made.message ≡ message → answer.status ≡ status_of_put Now → answer.body.items ≡ put_body s.life stream made → AnswersUnclaimed s t v w stream message answer
-  IsFull : t ≡ s → puts_in (mine w) ≡ puts_in (mine v) → answer.status ≡ status_of Full → AnswersUnclaimed s t v w stream message answer
+  IsFull : t ≡ s → MovesNone v w → answer.status ≡ status_of Full → AnswersUnclaimed s t v w stream message answer
 
 -- What came of a claim to take: it was answered, or it waits, and nothing was got or kept.
 abbrev pub Takes : Table → Table → PassState → PassState → Claim → Taken → Type 0
 Takes s t v w claim (taken.Answer answer) = AnswersTake s t v w claim answer
-Takes s t v w claim (taken.NotYet back) = (back ≡ claim) × (t ≡ s) × (puts_in (mine w) ≡ puts_in (mine v)) × (gets_in (mine w) ≡ gets_in (mine v))
+Takes s t v w claim (taken.NotYet back) = (back ≡ claim) × (t ≡ s) × MovesNone v w

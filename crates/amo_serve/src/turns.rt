@@ -38,7 +38,7 @@ pub fn serve_door<C: Clock + Eprint + Files<File = File>, L: Link, S: Durable, W
 ) -> Result<Ended, DoorFault>
     requires { IsNoted S.written responder.old.service.host }
     ensures noted { OnOk result (IsNoted S.written responder.new.service.host) }
-    // Each message that was put was put by a turn of a caller, once and with its bytes; and each turn is right behind those before it.
+    // Each message that was put or got was put or got by a turn of a caller, once and with its bytes; and each turn is right behind those before it.
     ensures serves { OnOk result (Serves responder.old.numbers responder.new.numbers responder.old.service.host.pass responder.new.service.host.pass) }
     // Each word that an event bears was drawn meanwhile, and none is borne twice.
     ensures words { OnOk result (BearsNew W.is_drawn (words_of responder.old.service) (words_of responder.new.service) responder.old.service.host.pass responder.new.service.host.pass) }

@@ -1,8 +1,8 @@
 //! What callers are told by other means than what is shown: puts, gets, and how streams are.
-ghost use Rattle.std.specs.Prelude.{◌≡◌, ◌∷◌, ◌++◌, [], false, length, IfOk, IfSome, IsTrue, OnOk};
-ghost use Rattle.amo_live.specs.Callers.{Gets, PutsAt};
+ghost use Rattle.std.specs.Prelude.{◌≡◌, ◌∷◌, ◌++◌, [], None, false, length, IfOk, IfSome, IsTrue, OnOk};
+ghost use Rattle.amo_live.specs.Callers.{Gets, GetsNone, PutsAt};
 ghost use Rattle.amo_live.specs.Host.{IsNoted};
-ghost use Rattle.amo_live.specs.Service.{Holds, HoldsNone, PutsNone, sender_of, settled_by, streams_of, words_of};
+ghost use Rattle.amo_live.specs.Service.{Holds, HoldsNone, IsFull, PutsNone, sender_of, settled_by, streams_of, words_of};
 ghost use Rattle.amo_live.specs.Words.{BearsNew};
 
 use crate::service::getting::is_rcvd;
@@ -117,8 +117,8 @@ impl<L: Link, S: Sink, W: Lineage> Service<L, S, W> {
         }
     }
 
-    /// Puts a message on a stream as `put` does, and shows nothing. None where it is not taken: the stream is full.
-    #[tactic(auto, using(crate::proofs::Putting::was_put, crate::proofs::Putting::was_refused, crate::proofs::Fresh::bears_none))]
+    /// Puts a message on a stream as `put` does, and shows nothing. None where it is not taken: the stream is full, and then nothing happens.
+    #[tactic(auto, using(crate::proofs::Putting::was_put, crate::proofs::Putting::was_refused, crate::proofs::Getting::put_gets, crate::proofs::Fresh::bears_none))]
     pub fn put_for_caller(
         &mut self,
         stream: u32,
@@ -128,6 +128,8 @@ impl<L: Link, S: Sink, W: Lineage> Service<L, S, W> {
         requires { IsNoted S.written self.old.host }
         ensures noted { OnOk result (IsNoted S.written self.new.host) }
         ensures put { IfOk result (PutsAt self.old.host.pass self.new.host.pass stream message) }
+        ensures none_got { OnOk result (GetsNone self.old.host.pass self.new.host.pass) }
+        ensures full { IfOk result (λ put. IsFull self.old stream → (put ≡ None) × (self.new ≡ self.old)) }
         ensures line { IfOk result (λ put. IfSome put (λ at. at.line ≡ self.old.host.journal.next)) }
         ensures streams { streams_of self.new ≡ streams_of self.old }
         ensures words { OnOk result (BearsNew W.is_drawn (words_of self.old) (words_of self.new) self.old.host.pass self.new.host.pass) }

@@ -1,5 +1,6 @@
 //! How a live host hears: it listens while it waits, and takes the datagrams that have come.
 ghost use Rattle.std.specs.Prelude.{◌≡◌, ◌≤◌, IfSome, OnOk, Some, false, min};
+ghost use Rattle.amo_live.specs.Callers.{GetsNone, MovesWithin};
 ghost use Rattle.amo_live.specs.Host.{IsNoted};
 ghost use Rattle.amo_live.specs.Service.{Listened, PutsNone, has_come, shown_by, spelling_of, streams_of, words_of};
 ghost use Rattle.amo_live.specs.Shown.{ShowsMore};
@@ -28,25 +29,25 @@ impl<L: Link, S: Sink, W: Lineage> Service<L, S, W> {
         requires { IsNoted S.written self.old.host }
         ensures noted { OnOk result (IsNoted S.written self.new.host) }
         ensures none_put { OnOk result (PutsNone self.old.host.pass self.new.host.pass) }
+        ensures none_got { OnOk result (room ≡ 0 → GetsNone self.old.host.pass self.new.host.pass) }
         ensures streams { streams_of self.new ≡ streams_of self.old }
         ensures shown { OnOk result (ShowsMore (spelling_of self.old) self.old.host.pass self.new.host.pass (shown_by self.old) (shown_by self.new)) }
         ensures spelling { spelling_of self.new ≡ spelling_of self.old }
         ensures words { OnOk result (BearsNew W.is_drawn (words_of self.old) (words_of self.new) self.old.host.pass self.new.host.pass) }
     {
-        self.room = room;
         self.closes = closes;
         self.heard = false;
-        self.get_unread(now)?;
-        self.take_datagrams(datagrams, now)?;
+        self.get_unread(now, room)?;
+        self.take_datagrams(datagrams, now, room)?;
         self.hear_peer(now);
         self.catch_up(now)
     }
 
     /// Takes so many of the datagrams that have come.
-    fn take_datagrams(&mut self, datagrams: u32, now: u64) -> Result<(), LiveFault>
+    fn take_datagrams(&mut self, datagrams: u32, now: u64, room: usize) -> Result<(), LiveFault>
         requires { IsNoted S.written self.old.host }
         ensures noted { OnOk result (IsNoted S.written self.new.host) }
-        ensures none_put { OnOk result (PutsNone self.old.host.pass self.new.host.pass) }
+        ensures moved { OnOk result (MovesWithin room self.old.host.pass self.new.host.pass) }
         ensures streams { streams_of self.new ≡ streams_of self.old }
         ensures shown { OnOk result (ShowsMore (spelling_of self.old) self.old.host.pass self.new.host.pass (shown_by self.old) (shown_by self.new)) }
         ensures spelling { spelling_of self.new ≡ spelling_of self.old }
@@ -59,7 +60,7 @@ impl<L: Link, S: Sink, W: Lineage> Service<L, S, W> {
                 Err(_) => return Err(LiveFault::NoMemory),
             },
         };
-        self.take_by(&mut buffer, datagrams, now)?;
+        self.take_by(&mut buffer, datagrams, now, room)?;
         self.datagram = Some(buffer);
         Ok(())
     }
@@ -72,10 +73,11 @@ impl<L: Link, S: Sink, W: Lineage> Service<L, S, W> {
         buffer: &mut [u8; MAX_DATAGRAM],
         datagrams: u32,
         now: u64,
+        room: usize,
     ) -> Result<(), LiveFault>
         requires { IsNoted S.written self.old.host }
         ensures noted { OnOk result (IsNoted S.written self.new.host) }
-        ensures none_put { OnOk result (PutsNone self.old.host.pass self.new.host.pass) }
+        ensures moved { OnOk result (MovesWithin room self.old.host.pass self.new.host.pass) }
         ensures streams { streams_of self.new ≡ streams_of self.old }
         ensures shown { OnOk result (ShowsMore (spelling_of self.old) self.old.host.pass self.new.host.pass (shown_by self.old) (shown_by self.new)) }
         ensures spelling { spelling_of self.new ≡ spelling_of self.old }
@@ -90,7 +92,7 @@ impl<L: Link, S: Sink, W: Lineage> Service<L, S, W> {
                 break;
             };
             self.heard = true;
-            self.deliver(&buffer[..length], now)?;
+            self.deliver(&buffer[..length], now, room)?;
             if self.has_news() {
                 left -= 1;
             }

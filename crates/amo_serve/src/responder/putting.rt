@@ -1,6 +1,6 @@
 //! Puts for callers, each once.
 ghost use Rattle.std.specs.Prelude.{◌≡◌, ◌+◌, ◌<◌, ◌^◌, IfOk, IfSome, IsSome, OnOk, Some};
-ghost use Rattle.amo_live.specs.Callers.{PutsAt};
+ghost use Rattle.amo_live.specs.Callers.{GetsNone, PutsAt};
 ghost use Rattle.amo_live.specs.Host.{IsNoted};
 ghost use Rattle.amo_live.specs.Service.{words_of};
 ghost use Rattle.amo_live.specs.Words.{BearsNew};
@@ -128,6 +128,7 @@ impl<L: Link, S: Sink, W: Lineage> Responder<L, S, W> {
         requires { IsNoted S.written self.old.service.host }
         ensures noted { OnOk result (IsNoted S.written self.new.service.host) }
         ensures put { IfOk result (PutsAt self.old.service.host.pass self.new.service.host.pass stream message) }
+        ensures none_got { OnOk result (GetsNone self.old.service.host.pass self.new.service.host.pass) }
         ensures words { OnOk result (BearsNew W.is_drawn (words_of self.old.service) (words_of self.new.service) self.old.service.host.pass self.new.service.host.pass) }
         ensures same { self.new ≡ record self.old { service = self.new.service } }
     {

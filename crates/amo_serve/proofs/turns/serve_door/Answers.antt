@@ -10,7 +10,7 @@ turns-init g c =
     let first = c.args.responder.now in
     record {
       noted = search rules;
-      serves = serves_none first.numbers first.numbers first.service.host.pass first.service.host.pass refl refl;
+      serves = serves_none first.numbers first.numbers first.service.host.pass first.service.host.pass refl (refl, refl);
       words = bears_none (words_of first.service) (words_of first.service) first.service.host.pass first.service.host.pass refl refl;
     }
 

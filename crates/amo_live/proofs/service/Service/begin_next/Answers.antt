@@ -1,9 +1,7 @@
-use Rattle.std.proofs.Common.{◌≡◌, ◌∙◌, refl, ap, rules}
-use Rattle.amo_book.specs.Pass.{PassState, mine}
-use Rattle.amo_live.specs.Host.{puts_in}
+use Rattle.std.proofs.Common.{◌≡◌, refl, rules}
 use Rattle.amo_live.specs.Service.{shown_by, spelling_of, words_of}
 use Rattle.amo_live.proofs.Fresh.{bears_as}
-use Rattle.amo_live.proofs.Putting.{start_puts}
+use Rattle.amo_live.proofs.Putting.{moves_to, start_moves}
 use Rattle.amo_live.proofs.Showing.{shows_as, start_shows}
 use Rattle.amo_live.proofs.service.Service.begin_next.Goals as goal
 
@@ -18,11 +16,12 @@ returns-clause-shown g c =
     shows_as spelling spelling c.args.self.now.host.pass c.start_anew.new.self.host.pass c.args.self.now.host.pass c.note_start.new.self.host.pass old new old new refl refl pass refl refl
     (start_shows c.args.self.now.host c.start_anew.new.self.host spelling c.args.stream did.0 c.args.self.now.setup.batch c.args.self.now.host.journal.version c.in_ok-started.started old new did.1 shown)
 
-pub returns-clause-none_put : goal.returns-clause-none_put
-returns-clause-none_put g c =
+pub returns-clause-moved : goal.returns-clause-moved
+returns-clause-moved g c =
     let pass : c.note_start.new.self.host.pass ≡ c.start_anew.new.self.host.pass = search rules in
     let did = c.in_ok-started.ensures.did in
-    ap (λ (p : PassState). puts_in (mine p)) pass ∙ start_puts c.args.self.now.host c.start_anew.new.self.host c.args.stream did.0 c.args.self.now.setup.batch c.args.self.now.host.journal.version c.in_ok-started.started did.1
+    moves_to c.args.self.now.host.pass c.start_anew.new.self.host.pass c.note_start.new.self.host.pass pass
+    (start_moves c.args.self.now.host c.start_anew.new.self.host c.args.stream did.0 c.args.self.now.setup.batch c.args.self.now.host.journal.version c.in_ok-started.started did.1)
 
 pub returns-clause-words : goal.returns-clause-words
 returns-clause-words g c =

@@ -15,7 +15,7 @@ messages-preserved g c =
     let so_far = c.messages.invariant in
     record {
       noted = search rules;
-      none_put = search rules;
+      moved = search rules;
       streams = c.get.ensures.streams ∙ so_far.streams;
       shown = shows_after (spelling_of c.args.self.now) (spelling_of c.messages.self) c.args.self.now.host.pass c.messages.self.host.pass c.get.new.self.host.pass
           (shown_by c.args.self.now) (shown_by c.messages.self) (shown_by c.get.new.self) so_far.spelling so_far.shown c.in_ok-get.ensures.shown;
@@ -47,7 +47,7 @@ messages-init g c =
     let old = c.args.self.now in
     record {
       noted = c.requires;
-      none_put = refl;
+      moved = (refl, λ none. refl);
       streams = refl;
       shown = shows_idle (spelling_of old) old.host.pass old.host.pass (shown_by old) (shown_by old) refl refl;
       spelling = refl;

@@ -10,7 +10,7 @@ streams-preserved g c =
     let old = c.args.self.now in let middle = c.streams.self in let new = c.get_in_turn.new.self in
     record {
       noted = search rules;
-      none_put = search rules;
+      moved = search rules;
       streams = c.get_in_turn.ensures.streams ∙ so_far.streams;
       shown = shows_after (spelling_of old) (spelling_of middle) old.host.pass middle.host.pass new.host.pass (shown_by old) (shown_by middle) (shown_by new) so_far.spelling so_far.shown c.in_ok-get_in_turn.ensures.shown;
       spelling = c.get_in_turn.ensures.spelling ∙ so_far.spelling;

@@ -22,7 +22,7 @@ datagrams-preserved g c =
     let spelt : spelling_of asked ≡ spelling = ap (λ (setup : Setup). setup.spelling) listened.3 ∙ so_far.spelling in
     record {
       noted = search rules;
-      none_put = search rules;
+      moved = search rules;
       streams = search rules;
       shown = shows_on spelling first middle last old before new so_far.shown
           (shows_as (spelling_of asked) spelling asked.host.pass last middle last (shown_by asked) new before new (sym spelt) (sym pass) refl (sym listened.2) refl c.in_ok-deliver.ensures.shown);

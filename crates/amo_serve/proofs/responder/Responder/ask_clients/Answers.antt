@@ -9,7 +9,7 @@ clients-init g c =
     let first = c.args.self.now in
     record {
       noted = search rules;
-      serves = serves_none first.numbers first.numbers first.service.host.pass first.service.host.pass refl refl;
+      serves = serves_none first.numbers first.numbers first.service.host.pass first.service.host.pass refl (refl, refl);
       words = bears_none (words_of first.service) (words_of first.service) first.service.host.pass first.service.host.pass refl refl;
     }
 

@@ -1,9 +1,8 @@
-use Rattle.std.proofs.Common.{◌≡◌, ap, ◌∙◌, rules}
-use Rattle.amo_book.specs.Pass.{PassState, mine}
-use Rattle.amo_live.specs.Host.{puts_in}
+use Rattle.std.proofs.Common.{◌≡◌, ◌∙◌, refl, rules}
 use Rattle.amo_serve.proofs.Served.{serves_none}
 use Rattle.amo_live.specs.Service.{words_of}
 use Rattle.amo_live.proofs.Fresh.{bears_on}
+use Rattle.amo_live.proofs.Putting.{moves_to}
 use Rattle.amo_serve.proofs.responder.Responder.hear.Goals as goal
 
 pub returns-clause-words : goal.returns-clause-words
@@ -17,5 +16,5 @@ returns-clause-serves g c =
     let first = c.args.self.now in let heard = c.tell_settled.new.self in
     let numbers : heard.numbers ≡ first.numbers = search rules in
     let pass : heard.service.host.pass ≡ c.resend.new.self.host.pass = search rules in
-    let none : puts_in (mine heard.service.host.pass) ≡ puts_in (mine first.service.host.pass) = ap (λ (p : PassState). puts_in (mine p)) pass ∙ (c.in_ok-resend.ensures.none_put ∙ c.in_ok-hear.ensures.none_put) in
-    serves_none first.numbers heard.numbers first.service.host.pass heard.service.host.pass numbers none
+    serves_none first.numbers heard.numbers first.service.host.pass heard.service.host.pass numbers
+    (moves_to first.service.host.pass c.resend.new.self.host.pass heard.service.host.pass pass (c.in_ok-resend.ensures.none_put ∙ c.in_ok-hear.ensures.none_put, c.in_ok-resend.ensures.none_got ∙ c.in_ok-hear.ensures.none_got refl))

@@ -1,12 +1,11 @@
-use Rattle.std.proofs.Common.{◌≡◌, Some, ap, rules}
+use Rattle.std.proofs.Common.{◌≡◌, Some, rules}
 use Rattle.std.proofs.lemmas.Result.{IfOk-weaker}
-use Rattle.amo_book.specs.Pass.{PassState, mine}
-use Rattle.amo_live.specs.Host.{puts_in}
 use Rattle.amo_door.specs.declared.answer.When.TheVariants.{Before}
 use Rattle.amo_door.specs.declared.claim.Decision.TheVariants as decided
 use Rattle.amo_door.specs.declared.claim.Made.{Made}
 use Rattle.amo_door.specs.Answer.{put_body, status_of_put}
 use Rattle.amo_door.specs.Numbers.{decision, last_of}
+use Rattle.amo_live.proofs.Putting.{still}
 use Rattle.amo_serve.proofs.Served.{conflicting_put, made_before, put_before, said_of}
 use Rattle.amo_serve.proofs.responder.Responder.put.Goals as goal
 
@@ -20,9 +19,8 @@ returns-in-Again-clause-answered g c =
     let (made, is) = made_before s.life c.args.claim (Some c.args.message) last again in
     let same : c.tell_put.new.self.numbers ≡ s = search rules in
     let pass : w ≡ v = search rules in
-    let kept : puts_in (mine w) ≡ puts_in (mine v) = ap (λ (p : PassState). puts_in (mine p)) pass in
     IfOk-weaker c.tell_put.result _ _
-    (λ answer told. put_before s c.tell_put.new.self.numbers v w c.args.claim c.args.message made answer c.requires.stream again is same kept
+    (λ answer told. put_before s c.tell_put.new.self.numbers v w c.args.claim c.args.message made answer c.requires.stream again is same (still v w pass)
     (said_of (λ (m : Made). (answer.status ≡ status_of_put Before) × (answer.body.items ≡ put_body s.life c.args.claim.stream m)) last made is told)) c.tell_put.ensures.told
 
 pub returns-in-Conflict-clause-answered : goal.returns-in-Conflict-clause-answered
@@ -33,5 +31,4 @@ returns-in-Conflict-clause-answered g c =
     let conflict : decision s.life (last_of s c.args.claim.stream) c.args.claim (Some c.args.message) ≡ decided.Conflict = search rules in
     let same : c.tell_conflict.new.self.numbers ≡ s = search rules in
     let pass : w ≡ v = search rules in
-    let kept : puts_in (mine w) ≡ puts_in (mine v) = ap (λ (p : PassState). puts_in (mine p)) pass in
-    IfOk-weaker c.tell_conflict.result _ _ (λ answer status. conflicting_put s c.tell_conflict.new.self.numbers v w c.args.claim c.args.message answer c.requires.stream conflict same kept status) c.tell_conflict.ensures.status
+    IfOk-weaker c.tell_conflict.result _ _ (λ answer status. conflicting_put s c.tell_conflict.new.self.numbers v w c.args.claim c.args.message answer c.requires.stream conflict same (still v w pass) status) c.tell_conflict.ensures.status

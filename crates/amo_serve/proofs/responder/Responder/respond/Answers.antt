@@ -16,7 +16,7 @@ each_way (Err fault) p = tt
 pub returns-in-Outcome-clause-serves : goal.returns-in-Outcome-clause-serves
 returns-in-Outcome-clause-serves g c =
     let before = c.args.self.now in
-    each_way c.respond_to_outcome.result (serves_none before.numbers before.numbers before.service.host.pass before.service.host.pass refl refl)
+    each_way c.respond_to_outcome.result (serves_none before.numbers before.numbers before.service.host.pass before.service.host.pass refl (refl, refl))
 
 pub returns-in-Outcome-clause-words : goal.returns-in-Outcome-clause-words
 returns-in-Outcome-clause-words g c =

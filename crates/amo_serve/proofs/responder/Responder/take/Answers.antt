@@ -1,11 +1,9 @@
-use Rattle.std.proofs.Common.{◌≡◌, None, ap, refl, rules}
-use Rattle.amo_book.specs.Pass.{PassState, mine}
-use Rattle.amo_live.specs.Callers.{gets_in}
-use Rattle.amo_live.specs.Host.{puts_in}
+use Rattle.std.proofs.Common.{◌≡◌, None, refl, rules}
 use Rattle.amo_door.specs.declared.answer.Kind.TheVariants.{Bytes}
 use Rattle.amo_door.specs.declared.claim.Decision.TheVariants as decided
 use Rattle.amo_door.specs.declared.claim.Made.{Made}
 use Rattle.amo_door.specs.Numbers.{decision, last_of}
+use Rattle.amo_live.proofs.Putting.{still}
 use Rattle.amo_serve.proofs.Served.{conflicting_take, made_before, said_of, taken_before}
 use Rattle.amo_serve.proofs.responder.Responder.take.Goals as goal
 
@@ -17,7 +15,7 @@ returns-in_ok-tell_taken-in-Again-clause-taken g c =
     let again : decision s.life last c.args.claim None ≡ decided.Again = search rules in
     let (made, is) = made_before s.life c.args.claim None last again in
     let answer = c.in_ok-tell_taken-in-Again.field-0 in
-    taken_before s s v v c.args.claim made answer c.requires.stream again is refl refl refl
+    taken_before s s v v c.args.claim made answer c.requires.stream again is refl (refl, refl)
     (said_of (λ (m : Made). (answer.status ≡ 200) × (answer.kind ≡ Bytes) × (answer.body.items ≡ m.message)) last made is c.in_ok-tell_taken-in-Again.ensures)
 
 pub returns-in_ok-tell_taken_conflict-in-Conflict-clause-taken : goal.returns-in_ok-tell_taken_conflict-in-Conflict-clause-taken
@@ -29,5 +27,5 @@ returns-in_ok-tell_taken_conflict-in-Conflict-clause-taken g c =
     let conflict : decision s.life (last_of s c.args.claim.stream) c.args.claim None ≡ decided.Conflict = search rules in
     let same : t ≡ s = search rules in
     let pass : w ≡ v = search rules in
-    conflicting_take s t v w c.args.claim c.in_ok-tell_taken_conflict-in-Conflict.field-0 c.requires.stream conflict same (ap (λ (p : PassState). puts_in (mine p)) pass) (ap (λ (p : PassState). gets_in (mine p)) pass)
+    conflicting_take s t v w c.args.claim c.in_ok-tell_taken_conflict-in-Conflict.field-0 c.requires.stream conflict same (still v w pass)
     c.in_ok-tell_taken_conflict-in-Conflict.ensures.status
