@@ -6,3 +6,5 @@ pub mod Blame
 pub mod Appends
 pub mod Alike
 pub mod Onward
+pub mod Written
+pub mod Settled

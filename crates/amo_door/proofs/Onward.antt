@@ -2,6 +2,7 @@
 use Rattle.std.proofs.Common.{◌≡◌, ◌⊎◌, ℕ, ◌+◌, ◌≤◌, Bool, true, false, List, [], ◌++◌, drop, length, Result, refl, sym, ◌∙◌, ap, subst, append_assoc, inl, inr, arith}
 use Rattle.std.specs.Prelude.{Option, None, Some, Ok, Err, OnOk, OnErr, IfOk, ◌==◌, if◌then◌else◌}
 use Rattle.std.proofs.lemmas.List.{append-nil, drop-drop, drop_all}
+use Rattle.http1.specs.declared.server.Server.{Server}
 use Rattle.amo_door.specs.declared.connection.Stage.{Stage}
 use Rattle.amo_door.specs.declared.connection.Stage.TheVariants as stage
 use Rattle.amo_door.specs.declared.connection.Step.{Step}
@@ -71,7 +72,7 @@ closes_where false old new is = subst (GoesOn old) (sym is) (goes_on_same old)
 
 -- one request more was answered, or that could not be spelt
 pub counts_on : (old new : ConnectionState) → Extends old.output new.output → old.answered ≤ new.answered
-    → (new ≡ counted old new.output) ⊎ (new ≡ over (counted old new.output)) → GoesOn old new
+    → (new ≡ counted old new.output new.server) ⊎ (new ≡ over (counted old new.output new.server)) → GoesOn old new
 counts_on old new more counts (inl is) = record {
   input = (0, ap (λ (c : ConnectionState). c.input) is);
   output = more;
@@ -96,7 +97,7 @@ extends_either (Err fault) a text b ok err = ([], err ∙ sym (append-nil a))
 
 -- the same, of what was written by a call that is known to have gone well
 pub write_goes_on : {T E : Type 0} (r : Result T E) (old new : ConnectionState) → Extends old.output new.output → old.answered ≤ new.answered
-    → OnOk r ((new ≡ counted old new.output) ⊎ (new ≡ over (counted old new.output))) → OnErr r (new ≡ over (counted old new.output)) → GoesOn old new
+    → OnOk r ((new ≡ counted old new.output new.server) ⊎ (new ≡ over (counted old new.output new.server))) → OnErr r (new ≡ over (counted old new.output new.server)) → GoesOn old new
 write_goes_on (Ok done) old new more counts ok err = counts_on old new more counts ok
 write_goes_on (Err fault) old new more counts ok err = counts_on old new more counts (inr err)
 
@@ -131,7 +132,7 @@ failing (Ok done) old new on = tt
 failing (Err fault) old new on = on
 
 -- a request has begun
-pub begins_on : (old new : ConnectionState) → new ≡ record old { has_begun = true } → GoesOn old new
+pub begins_on : (old new : ConnectionState) → new ≡ record old { wants_head = new.wants_head; has_begun = true } → GoesOn old new
 begins_on old new is = subst (GoesOn old) (sym is) (record {
   input = rest_same old.input;
   output = extends_same old.output;
@@ -151,3 +152,9 @@ over_on old new on = record {
   thrown = on.thrown;
   answered = on.answered;
 }
+
+-- what happened behind what HTTP/1 read
+pub reads_on : (old before new : ConnectionState) (server : Server) → before ≡ old → GoesOn (record before { server = server }) new → GoesOn old new
+reads_on old before new server is on =
+    let h : GoesOn (record old { server = server }) new = subst (λ (c : ConnectionState). GoesOn (record c { server = server }) new) is on in
+    record { input = h.input; output = h.output; stage = h.stage; has_ended = h.has_ended; thrown = h.thrown; answered = h.answered }

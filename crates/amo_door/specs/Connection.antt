@@ -1,18 +1,33 @@
 -- Connections, as contracts see them.
-use Rattle.std.specs.Prelude.{◌≡◌, ◌⊎◌, ℕ, ◌+◌, ◌-◌, ◌^◌, ◌≤◌, ◌==◌, nat_lt, min, Bool, true, false, not, ◌&&◌, if◌then◌else◌, Option, None, Some, Result, Ok, Err, IsOk, IsErr, MatchResult, List, [], ◌++◌, length, take, drop}
+use Rattle.std.specs.Prelude.{◌≡◌, ◌⊎◌, ℕ, ◌+◌, ◌-◌, ◌^◌, ◌≤◌, ◌==◌, nat_lt, min, Bool, true, false, not, ◌&&◌, if◌then◌else◌, Option, None, Some, Result, Ok, Err, IsOk, IsErr, MatchResult, List, [], ◌∷◌, ◌++◌, length, take, drop, codes}
+use Rattle.http1.specs.Conn.{after_data, data_refusal, data_text}
+use Rattle.http1.specs.Fields.{Header}
+use Rattle.http1.specs.Server.{IsClosed, after_response, new_server, planned_response, response_refusal, with_writing, writing}
+use Rattle.http1.specs.declared.conn.BodySize.TheVariants.{Unknown}
 use Rattle.http1.specs.declared.error.WriteError.{WriteError}
 use Rattle.http1.specs.declared.error.WriteError.TheVariants as WriteFault
+use Rattle.http1.specs.declared.server.Server.{Server}
+use Rattle.amo_door.specs.declared.answer.Answer.{Answer}
+use Rattle.amo_door.specs.declared.answer.Kind.TheVariants.{Json}
 use Rattle.amo_door.specs.declared.connection.Phase.{Phase}
 use Rattle.amo_door.specs.declared.connection.Phase.TheVariants as phase
 use Rattle.amo_door.specs.declared.connection.Stage.{Stage}
 use Rattle.amo_door.specs.declared.connection.Stage.TheVariants as stage
 use Rattle.amo_door.specs.declared.connection.Step.{Step}
 use Rattle.amo_door.specs.declared.connection.Step.TheVariants.{Call, Wait, Over}
+use Rattle.amo_door.specs.declared.refusal.Refusal.{Refusal}
+use Rattle.amo_door.specs.Answer.{IsRefusal, extra_of}
+use Rattle.amo_door.specs.Refusal.{status_of}
+use Rattle.amo_door.specs.Spelling.{after_answer, answer_fault, answer_text}
 
 -- what came from the client and waits to be read, and what is to be sent to it
 pub record ConnectionState : Type 0 where
   pub input : List ℕ
   pub output : List ℕ
+  -- how HTTP/1 is read and written
+  pub server : Server
+  -- the request wants the head of its answer alone
+  pub wants_head : Bool
   -- what it is at
   pub stage : Stage
   -- the head of a request was read, and its body has not come whole
@@ -24,9 +39,13 @@ pub record ConnectionState : Type 0 where
   -- how many requests were answered
   pub answered : ℕ
 
+-- HTTP/1 before a request, with the most bytes of a head, of a chunk's extensions and of what stands behind a body
+abbrev pub unused_server : Server
+unused_server = new_server (record { max_head_len = 16384; max_extensions_len = 1024; max_trailers_len = 1024 })
+
 -- a connection on which nothing came
 abbrev pub unused : ConnectionState
-unused = record { input = []; output = []; stage = stage.Reading; has_begun = false; has_ended = false; thrown = 0; answered = 0 }
+unused = record { input = []; output = []; server = unused_server; wants_head = false; stage = stage.Reading; has_begun = false; has_ended = false; thrown = 0; answered = 0 }
 
 -- what one is at where requests are read
 abbrev pub reading_phase : Bool → ℕ → Phase
@@ -164,26 +183,27 @@ Goes stage.Following old result new = (result ≡ Ok Wait) × (new ≡ (if old.h
 Goes stage.Closing old result new = (result ≡ Ok Wait) × (new ≡ old)
 Goes stage.Over old result new = (result ≡ Ok Over) × (new ≡ old)
 
--- one more request was answered, and so much is to be sent now
-abbrev pub counted : ConnectionState → List ℕ → ConnectionState
-counted c output = record c { output = output; answered = one_more c.answered }
+-- one more request was answered: so much is to be sent now, and HTTP/1 goes on so
+abbrev pub counted : ConnectionState → List ℕ → Server → ConnectionState
+counted c output server = record c { output = output; server = server; wants_head = false; answered = one_more c.answered }
 
--- the request that waited for its answer has it: the next one is read, or none, or the answer could not be spelt
+-- the request that waited for its answer has it: the next one is read, or none where HTTP/1 has ended, or the answer could not be spelt
 abbrev pub Answered : ConnectionState → ConnectionState → Type 0
-Answered told new = (new ≡ record told { stage = stage.Reading }) ⊎ ((new ≡ closed told) ⊎ (new ≡ over told))
+Answered told new =
+    ((¬ (IsClosed told.server)) × (new ≡ record told { stage = stage.Reading })) ⊎ ((IsClosed told.server × (new ≡ closed told)) ⊎ (new ≡ over told))
 
 -- what an answer comes to, by what the connection was at: where no request waits for one it is over
 abbrev pub Answers : {T E : Type 0} → Stage → ConnectionState → Result T E → ConnectionState → Type 0
 Answers stage.Reading old result new = IsOk result × (new ≡ over old)
 Answers stage.Asked old result new =
-    Extends old.output new.output × MatchResult result (λ _. Answered (counted old new.output) new) (λ _. new ≡ over (counted old new.output))
+    Extends old.output new.output × MatchResult result (λ _. Answered (counted old new.output new.server) new) (λ _. new ≡ over (counted old new.output new.server))
 Answers stage.Following old result new = IsOk result × (new ≡ over old)
 Answers stage.Closing old result new = IsOk result × (new ≡ over old)
 Answers stage.Over old result new = IsOk result × (new ≡ over old)
 
 -- so much more is to be sent, and it follows; or that could not be spelt, which ends it
 abbrev pub Follows : ConnectionState → ConnectionState → Type 0
-Follows old new = ((more : List ℕ) × (new ≡ record old { output = old.output ++ more; stage = stage.Following })) ⊎ (new ≡ over old)
+Follows old new = ((more : List ℕ) × (new ≡ record old { output = old.output ++ more; server = new.server; stage = stage.Following })) ⊎ (new ≡ over old)
 
 -- what comes of following, by what the connection was at: where no request waits for its answer it is over
 abbrev pub Begins : {T E : Type 0} → Stage → ConnectionState → Result T E → ConnectionState → Type 0
@@ -209,11 +229,52 @@ Tells stage.Over old result new = IsOk result × (new ≡ old)
 -- what a refusal comes to: it was answered and no more is read; or memory was refused
 abbrev pub Refuses : {T E : Type 0} → ConnectionState → Result T E → ConnectionState → Type 0
 Refuses old result new = MatchResult result
-    (λ _. (output : List ℕ) × Extends old.output output × (new ≡ closed (counted old output)))
-    (λ _. (new ≡ old) ⊎ ((output : List ℕ) × Extends old.output output × (new ≡ over (counted old output))))
+    (λ _. (output : List ℕ) × Extends old.output output × (new ≡ closed (counted old output new.server)))
+    (λ _. (new ≡ old) ⊎ ((output : List ℕ) × Extends old.output output × (new ≡ over (counted old output new.server))))
 
 -- how what was written ends a call: what could not be written whole ends the connection
 abbrev pub Settles : {T E : Type 0} → ConnectionState → Result T WriteError → Result T E → ConnectionState → Type 0
 Settles old (Ok done) result new = IsOk result × (new ≡ old)
 Settles old (Err WriteFault.OutOfMemory) result new = IsErr result × (new ≡ over old)
 Settles old (Err _) result new = IsOk result × (new ≡ over old)
+
+-- it comes to its end
+abbrev pub Ends : Stage → Type 0
+Ends now = (now ≡ stage.Closing) ⊎ (now ≡ stage.Over)
+
+-- what writing comes to: this text is to be sent behind what was, and HTTP/1 goes on so; or there is a fault, and the connection ends
+abbrev pub Spells : Option WriteError → List ℕ → Server → List ℕ → ConnectionState → Type 0
+Spells None text server old new = (new.output ≡ old ++ text) × (new.server ≡ server)
+Spells (Some fault) text server old new = Ends new.stage
+
+-- the same of an answer, which is the last one or not
+abbrev pub SpellsAnswer : Answer → Bool → ConnectionState → ConnectionState → Type 0
+SpellsAnswer answer closes old new =
+    Spells (answer_fault old.server answer old.wants_head closes) (answer_text old.server answer old.wants_head closes) (after_answer old.server answer closes) old.output new
+
+-- an answer says why a request is refused
+pub record SaysWhy (reason : Refusal) (answer : Answer) : Type 0 where
+  pub status : answer.status ≡ status_of reason
+  pub kind : answer.kind ≡ Json
+  pub extra : answer.extra ≡ extra_of reason
+  pub body : IsRefusal reason [] answer.body.items
+
+-- the same of an answer that refuses, which is the last one
+abbrev pub SpellsRefusal : Refusal → ConnectionState → ConnectionState → Type 0
+SpellsRefusal reason old new = (answer : Answer) × SaysWhy reason answer × SpellsAnswer answer true old new
+
+-- the fields of an answer that goes on with what happens
+abbrev pub event_fields : List Header
+event_fields = (codes "cache-control", codes "no-store") ∷ (codes "content-type", codes "text/event-stream") ∷ []
+
+-- the same of its head
+abbrev pub SpellsFront : ConnectionState → ConnectionState → Type 0
+SpellsFront old new =
+    Spells (response_refusal old.server 200 (codes "OK") Unknown event_fields) (planned_response old.server 200 (codes "OK") Unknown event_fields)
+    (after_response old.server 200 Unknown event_fields) old.output new
+
+-- the same of a text behind it
+abbrev pub SpellsText : List ℕ → ConnectionState → ConnectionState → Type 0
+SpellsText text old new =
+    Spells (data_refusal (writing old.server) (length text)) (data_text (writing old.server) text)
+    (with_writing old.server (after_data (writing old.server) (length text))) old.output new

@@ -12,3 +12,4 @@ pub mod Guard
 pub mod Connection
 pub mod Event
 pub mod Head
+pub mod Spelling

@@ -1,6 +1,6 @@
 //! A connection of a client.
-ghost use Rattle.std.specs.Prelude.{◌≡◌, ◌≤◌, ◌<◌, ◌↔◌, ◌⊎◌, true, length, if◌then◌else◌, IfOk, IsTrue, MatchResult, OnErr, OnOk};
-ghost use Rattle.amo_door.specs.Connection.{Answers, Begins, Comes, Goes, GoesOn, Extends, MayCome, Refuses, Settles, Tells, closed, counted, over, phase_of, room_of, taken_at, taken_count, throws, unused, wants_input, without_sent};
+ghost use Rattle.std.specs.Prelude.{◌≡◌, ◌≤◌, ◌<◌, ◌↔◌, ◌⊎◌, false, true, length, if◌then◌else◌, IfOk, IsTrue, MatchResult, OnErr, OnOk};
+ghost use Rattle.amo_door.specs.Connection.{Answers, Begins, Comes, Goes, GoesOn, Extends, MayCome, Refuses, Settles, SpellsAnswer, SpellsFront, SpellsRefusal, SpellsText, Tells, closed, counted, over, phase_of, room_of, taken_at, taken_count, throws, unused, wants_input, without_sent};
 ghost use Rattle.amo_door.specs.declared.connection.Stage.TheVariants as stage;
 ghost use Rattle.httparse.specs.Spans.{IsRequestWithin};
 
@@ -110,7 +110,7 @@ impl Model for Connection {
 
     ghost Value = { ConnectionState };
 
-    ghost view = { λ c. record { input = c.input.items; output = c.output.items; stage = c.stage; has_begun = is_some c.begun; has_ended = c.has_ended; thrown = c.thrown; answered = c.answered } };
+    ghost view = { λ c. record { input = c.input.items; output = c.output.items; server = c.server; wants_head = c.is_head; stage = c.stage; has_begun = is_some c.begun; has_ended = c.has_ended; thrown = c.thrown; answered = c.answered } };
 
     ghost invariant = { λ c. length c.input.items ≤ 17408 };
 }
@@ -378,7 +378,7 @@ impl Connection {
     /// Takes the request whose head is in front of the input.
     fn begin(&mut self, reader: &Reader<'_>, head: &RequestSpans, spans: &[HeaderSpan])
         requires { IsRequestWithin self.old.input spans.now head.now }
-        ensures { self.new ≡ record self.old { has_begun = true } }
+        ensures { self.new ≡ record self.old { wants_head = self.new.wants_head; has_begun = true } }
     {
         let input = self.input.as_slice();
         let call = if self.server.has_codings() {
@@ -416,7 +416,7 @@ impl Connection {
     /// Asks for the body where the client waits to be asked.
     fn ask_on(&mut self) -> Result<(), AllocError>
         ensures output { Extends self.old.output self.new.output }
-        ensures kept { self.new ≡ record self.old { output = self.new.output } }
+        ensures kept { self.new ≡ record self.old { output = self.new.output; server = self.new.server } }
     {
         if !self.server.expects_continue() {
             return Ok(());
@@ -508,6 +508,7 @@ impl Connection {
     /// to answer, and what is pending is sent.
     pub fn refuse(&mut self, refusal: Refusal) -> Result<(), AllocError>
         ensures refused { Refuses self.old result self.new }
+        ensures spelt { OnOk result (SpellsRefusal refusal self.old self.new) }
         ensures goes_on { GoesOn self.old self.new }
     {
         let answer = Answer::refusal(self.alloc, refusal)?;
@@ -518,7 +519,8 @@ impl Connection {
 
     /// Answers the request that waits for it. Where none does, or it cannot be spelt, the connection is over.
     pub fn answer(&mut self, answer: &Answer) -> Result<(), AllocError>
-        ensures { Answers self.old.stage self.old result self.new }
+        ensures answered { Answers self.old.stage self.old result self.new }
+        ensures spelt { OnOk result (self.old.stage ≡ stage.Asked → SpellsAnswer answer.now false self.old self.new) }
     {
         if self.stage != Stage::Asked {
             self.stage = Stage::Over;
@@ -534,7 +536,8 @@ impl Connection {
 
     /// Answers the request that waits for it with what happens from now on (server-sent events, of the HTML standard): [`Connection::tell`] goes on.
     pub fn follow(&mut self) -> Result<(), AllocError>
-        ensures { Begins self.old.stage self.old result self.new }
+        ensures begun { Begins self.old.stage self.old result self.new }
+        ensures spelt { OnOk result (self.old.stage ≡ stage.Asked → SpellsFront self.old self.new) }
     {
         if self.stage != Stage::Asked {
             self.stage = Stage::Over;
@@ -559,7 +562,8 @@ impl Connection {
 
     /// Tells a client that follows what happened, in the text of such events. One that lags too far behind is let go.
     pub fn tell(&mut self, text: &[u8]) -> Result<(), AllocError>
-        ensures { Tells self.old.stage self.old result self.new }
+        ensures told { Tells self.old.stage self.old result self.new }
+        ensures spelt { OnOk result (self.old.stage ≡ stage.Following → length self.old.output ≤ MOST_OUTPUT → SpellsText text.now self.old self.new) }
     {
         if self.stage != Stage::Following {
             return Ok(());
@@ -592,8 +596,9 @@ impl Connection {
     /// Appends an answer to what is to be sent.
     fn write(&mut self, answer: &Answer, closes: bool) -> Result<(), AllocError>
         ensures output { Extends self.old.output self.new.output }
-        ensures ok { OnOk result ((self.new ≡ counted self.old self.new.output) ⊎ (self.new ≡ over (counted self.old self.new.output))) }
-        ensures err { OnErr result (self.new ≡ over (counted self.old self.new.output)) }
+        ensures ok { OnOk result ((self.new ≡ counted self.old self.new.output self.new.server) ⊎ (self.new ≡ over (counted self.old self.new.output self.new.server))) }
+        ensures err { OnErr result (self.new ≡ over (counted self.old self.new.output self.new.server)) }
+        ensures spelt { OnOk result (SpellsAnswer answer.now closes self.old self.new) }
         ensures counts { self.old.answered ≤ self.new.answered }
     {
         let written = write_answer(

@@ -1,5 +1,11 @@
 //! Spells answers for a connection.
+ghost use Rattle.std.specs.Fmt.{decimal};
+ghost use Rattle.std.specs.Prelude.{◌≡◌, [], ◌∷◌, ◌++◌, IfErr, IfOk, OnErr, OnOk};
+ghost use Rattle.http1.specs.declared.error.WriteError.TheVariants.{OutOfMemory};
+ghost use Rattle.http1.specs.Head.{pairs};
+ghost use Rattle.http1.specs.Server.{with_writing, writing};
 ghost use Rattle.amo_door.specs.Connection.{Extends};
+ghost use Rattle.amo_door.specs.Spelling.{Writes, after_answer, after_head, answer_fault, answer_text, behind_body, body_fault, body_text, close_fields, extra_fields, fields_of, head_fault, head_text, place_fields, reason_of, sent_body, size_of, type_fields};
 
 use crate::{Answer, EventPlace, Extra, Kind};
 use bytes::BytesMut;
@@ -16,32 +22,80 @@ pub(crate) fn write_answer(
     is_head: bool,
     closes: bool,
 ) -> Result<(), WriteError>
-    ensures { Extends output.old.items output.new.items }
+    ensures extends { Extends output.old.items output.new.items }
+    ensures ok { OnOk result (output.new.items ≡ output.old.items ++ answer_text server.old answer.now is_head closes) }
+    ensures next { OnOk result (server.new ≡ after_answer server.old answer.now closes) }
+    ensures outcome { Writes (answer_fault server.old answer.now is_head closes) result }
+{
+    write_head(alloc, server, output, answer, closes)?;
+    write_body(server, output, answer, is_head)?;
+    server.write_end(output, &[])
+}
+
+/// Appends the head of an answer.
+fn write_head(
+    alloc: Global,
+    server: &mut Server,
+    output: &mut BytesMut,
+    answer: &Answer,
+    closes: bool,
+) -> Result<(), WriteError>
+    ensures ok { OnOk result (output.new.items ≡ output.old.items ++ head_text server.old answer.now closes) }
+    ensures next { OnOk result (server.new ≡ after_head server.old answer.now closes) }
+    ensures kept { OnErr result (output.new.items ≡ output.old.items) }
+    ensures outcome { Writes (head_fault server.old answer.now closes) result }
 {
     let mut digits = Digits::new();
+    let fields = fields_of(alloc, answer, closes, &mut digits)?;
+    let size = size_of(answer);
+    let reason = reason_of(answer.status).as_bytes();
+    server.write_response(output, answer.status, reason, fields.as_slice(), size)
+}
+
+/// The fields of its head.
+fn fields_of<'a>(
+    alloc: Global,
+    answer: &'a Answer,
+    closes: bool,
+    digits: &'a mut Digits,
+) -> Result<Vec<Header<'a>>, WriteError>
+    ensures ok { IfOk result (λ fields. pairs fields.items ≡ fields_of answer.now closes) }
+    ensures memory { IfErr result (λ e. e ≡ OutOfMemory) }
+{
     let mut fields = Vec::new(alloc);
     push(&mut fields, b"cache-control", b"no-store")?;
-    if answer.kind != Kind::None {
-        push(
-            &mut fields,
-            b"content-type",
-            answer.kind.media_type().as_bytes(),
-        )?;
-    }
-    push_extra(&mut fields, answer.extra, &mut digits)?;
-    if closes {
-        push(&mut fields, b"connection", b"close")?;
-    }
-    let size = match answer.kind {
+    push_type(&mut fields, answer.kind)?;
+    push_extra(&mut fields, answer.extra, digits)?;
+    push_close(&mut fields, closes)?;
+    Ok(fields)
+}
+
+/// The size of its body, as its head says it.
+fn size_of(answer: &Answer) -> BodySize
+    ensures { result ≡ size_of answer.now }
+{
+    match answer.kind {
         Kind::None => BodySize::Empty,
         _ => BodySize::Known(answer.body.len() as u64),
-    };
-    let reason = reason_of(answer.status).as_bytes();
-    server.write_response(output, answer.status, reason, fields.as_slice(), size)?;
-    if !is_head && !answer.body.is_empty() {
-        server.write_data(output, answer.body.as_slice())?;
     }
-    server.write_end(output, &[])
+}
+
+/// Appends the body of an answer, where it has one and the request asked for it.
+fn write_body(
+    server: &mut Server,
+    output: &mut BytesMut,
+    answer: &Answer,
+    is_head: bool,
+) -> Result<(), WriteError>
+    ensures extends { Extends output.old.items output.new.items }
+    ensures ok { OnOk result (output.new.items ≡ output.old.items ++ body_text (writing server.old) (sent_body is_head answer.now.body.items)) }
+    ensures next { OnOk result (server.new ≡ with_writing server.old (behind_body (writing server.old) (sent_body is_head answer.now.body.items))) }
+    ensures outcome { Writes (body_fault (writing server.old) (sent_body is_head answer.now.body.items)) result }
+{
+    if is_head || answer.body.is_empty() {
+        return Ok(());
+    }
+    server.write_data(output, answer.body.as_slice())
 }
 
 /// The digits of the numbers that a head has.
@@ -65,15 +119,49 @@ impl Digits {
 }
 
 /// Appends a field.
-fn push<'a>(
-    fields: &mut Vec<Header<'a>>,
-    name: &'a [u8],
-    value: &'a [u8],
-) -> Result<(), WriteError> {
+fn push<'a>(fields: &mut Vec<Header<'a>>, name: &'a [u8], value: &'a [u8]) -> Result<(), WriteError>
+    ensures ok { OnOk result (pairs fields.new.items ≡ pairs fields.old.items ++ (name.now, value.now) ∷ []) }
+    ensures memory { IfErr result (λ e. e ≡ OutOfMemory) }
+{
     match fields.push(Header { name, value }) {
         Ok(()) => Ok(()),
         Err(AllocFailed { .. }) => Err(WriteError::OutOfMemory),
     }
+}
+
+/// Appends a field whose value is a number, which is spelt in these digits.
+fn push_number<'a>(
+    fields: &mut Vec<Header<'a>>,
+    name: &'a [u8],
+    number: u64,
+    digits: &'a mut Buffer,
+) -> Result<(), WriteError>
+    ensures ok { OnOk result (pairs fields.new.items ≡ pairs fields.old.items ++ (name.now, decimal number) ∷ []) }
+    ensures memory { IfErr result (λ e. e ≡ OutOfMemory) }
+{
+    push(fields, name, digits.format(number).as_bytes())
+}
+
+/// Appends the type of a body, where there is one.
+fn push_type(fields: &mut Vec<Header<'_>>, kind: Kind) -> Result<(), WriteError>
+    ensures ok { OnOk result (pairs fields.new.items ≡ pairs fields.old.items ++ type_fields kind) }
+    ensures memory { IfErr result (λ e. e ≡ OutOfMemory) }
+{
+    match kind {
+        Kind::None => Ok(()),
+        _ => push(fields, b"content-type", kind.media_type().as_bytes()),
+    }
+}
+
+/// Appends that the answer is the last one, where it is.
+fn push_close(fields: &mut Vec<Header<'_>>, closes: bool) -> Result<(), WriteError>
+    ensures ok { OnOk result (pairs fields.new.items ≡ pairs fields.old.items ++ close_fields closes) }
+    ensures memory { IfErr result (λ e. e ≡ OutOfMemory) }
+{
+    if closes {
+        return push(fields, b"connection", b"close");
+    }
+    Ok(())
 }
 
 /// Appends what the head says beside the body.
@@ -81,15 +169,16 @@ fn push_extra<'a>(
     fields: &mut Vec<Header<'a>>,
     extra: Extra,
     digits: &'a mut Digits,
-) -> Result<(), WriteError> {
+) -> Result<(), WriteError>
+    ensures ok { OnOk result (pairs fields.new.items ≡ pairs fields.old.items ++ extra_fields extra) }
+    ensures memory { IfErr result (λ e. e ≡ OutOfMemory) }
+{
     match extra {
         Extra::None => Ok(()),
         Extra::Allow(place) => push(fields, b"allow", place.methods().as_bytes()),
-        Extra::RetryAfter(seconds) => push(
-            fields,
-            b"retry-after",
-            digits.number.format(seconds).as_bytes(),
-        ),
+        Extra::RetryAfter(seconds) => {
+            push_number(fields, b"retry-after", seconds, &mut digits.number)
+        }
         Extra::Authenticate => push(fields, b"www-authenticate", b"Bearer"),
         Extra::Message {
             stream,
@@ -106,37 +195,26 @@ fn push_message<'a>(
     number: u64,
     place: EventPlace,
     digits: &'a mut Digits,
-) -> Result<(), WriteError> {
+) -> Result<(), WriteError>
+    ensures ok { OnOk result (pairs fields.new.items ≡ pairs fields.old.items ++ place_fields stream number place.position place.line) }
+    ensures memory { IfErr result (λ e. e ≡ OutOfMemory) }
+{
     let Digits {
         stream: stream_digits,
         number: number_digits,
         position: position_digits,
         line: line_digits,
     } = digits;
-    push(
-        fields,
-        b"amo-stream",
-        stream_digits.format(stream).as_bytes(),
-    )?;
-    push(
-        fields,
-        b"amo-number",
-        number_digits.format(number).as_bytes(),
-    )?;
-    push(
-        fields,
-        b"amo-position",
-        position_digits.format(place.position).as_bytes(),
-    )?;
-    push(
-        fields,
-        b"amo-line",
-        line_digits.format(place.line).as_bytes(),
-    )
+    push_number(fields, b"amo-stream", stream as u64, stream_digits)?;
+    push_number(fields, b"amo-number", number, number_digits)?;
+    push_number(fields, b"amo-position", place.position, position_digits)?;
+    push_number(fields, b"amo-line", place.line, line_digits)
 }
 
 /// What a status means, in a word or two (RFC 9110, section 15).
-fn reason_of(status: u16) -> &'static str {
+fn reason_of(status: u16) -> &'static str
+    ensures { result.now ≡ reason_of status }
+{
     match status {
         200 => "OK",
         201 => "Created",
