@@ -17,7 +17,7 @@ use Rattle.amo_call.specs.declared.putting.PutTurn.{PutTurn}
 use Rattle.amo_call.specs.Answer.{TellsPut}
 use Rattle.amo_call.specs.Heard.{Heard, ToCall}
 use Rattle.amo_call.specs.Kept.{kept_text}
-use Rattle.amo_call.specs.Puts.{ComesTo, IsFound, Begins, GoesOn, HasPut, IsNextPut, IsPutting, IsAnswered, IsToldFull, IsLater, IsFirst, IsLast, IsToldRefusal, OfCall, OfState, OfFate, NothingPut, Resumes, TellsDelay, ToldPut}
+use Rattle.amo_call.specs.Puts.{ComesTo, IsFound, Begins, GoesOn, HasPut, IsNextPut, IsPutting, IsAnswered, IsToldLater, IsLater, IsFirst, IsToldRefusal, OfFirst, OfState, IsToldUntold, OfCall, OfFate, NothingPut, Resumes, TellsDelay, TellsNoPut, TellsRefused, ToldPut}
 
 -- the text of a call whose parts are known
 pub text_of_parts : (call : Kept) (claim : Claim) (p : Progress) → call.claim ≡ claim → call.progress ≡ p → kept_text call ≡ kept_text (record { claim = claim; progress = p })
@@ -33,16 +33,20 @@ goes_further heard order found before call p (GoesOn middle next q nothing new) 
     GoesOn middle next (goes_further heard order found before middle p q) nothing new
 
 -- what is told of some calls is told of more
-full_of_more : (heard : Heard → Type 0) (order : Order) (few more : Kept → Type 0) → ((k : Kept) → few k → more k) → IsToldFull heard order few → IsToldFull heard order more
-full_of_more heard order few more f (IsLater call is putting response answered tells) = IsLater call (f call is) putting response answered tells
-full_of_more heard order few more f (IsFirst call is putting response answered status) = IsFirst call (f call is) putting response answered status
-full_of_more heard order few more f (IsLast response state answered told last) = IsLast response state answered told last
+later_of_more : (heard : Heard → Type 0) (order : Order) (few more : Kept → Type 0) (response : Response) → ((k : Kept) → few k → more k)
+    → IsToldLater heard order few response → IsToldLater heard order more response
+later_of_more heard order few more response f (IsLater call is putting answered tells) = IsLater call (f call is) putting answered tells
+later_of_more heard order few more response f (IsFirst call is putting answered status) = IsFirst call (f call is) putting answered status
 
-refusal_of_more : (heard : Heard → Type 0) (order : Order) (few more : Kept → Type 0) (response : Response) → ((k : Kept) → few k → more k)
-    → IsToldRefusal heard order few response → IsToldRefusal heard order more response
-refusal_of_more heard order few more response f (OfCall call is putting answered none) = OfCall call (f call is) putting answered none
-refusal_of_more heard order few more response f (OfState answered none) = OfState answered none
-refusal_of_more heard order few more response f (OfFate call is putting answered none) = OfFate call (f call is) putting answered none
+refusal_of_more : (heard : Heard → Type 0) (order : Order) (few more : Kept → Type 0) (saved : List ℕ) (response : Response) → ((k : Kept) → few k → more k)
+    → IsToldRefusal heard order few saved response → IsToldRefusal heard order more saved response
+refusal_of_more heard order few more saved response f (OfFirst call is putting answered none) = OfFirst call (f call is) putting answered none
+refusal_of_more heard order few more saved response f (OfState may answered none) = OfState may answered none
+
+untold_of_more : (heard : Heard → Type 0) (order : Order) (few more : Kept → Type 0) (response : Response) → ((k : Kept) → few k → more k)
+    → IsToldUntold heard order few response → IsToldUntold heard order more response
+untold_of_more heard order few more response f (OfCall call is putting answered none) = OfCall call (f call is) putting answered none
+untold_of_more heard order few more response f (OfFate call is putting answered none) = OfFate call (f call is) putting answered none
 
 told_of_more : (heard : Heard → Type 0) (order : Order) (few more : Kept → Type 0) (silent : Type 0) (saved : List ℕ) (told : PutTold) → ((k : Kept) → few k → more k)
     → ToldPut heard order few silent saved told → ToldPut heard order more silent saved told
@@ -66,7 +70,8 @@ told_of_more heard order few more silent saved told.Doubtful f t = record {
   told = t.told;
   other = t.other;
 }
-told_of_more heard order few more silent saved told.Full f t = full_of_more heard order few more f t
+told_of_more heard order few more silent saved (told.Later response) f t = later_of_more heard order few more response f t
+told_of_more heard order few more silent saved told.NoNumber f t = t
 told_of_more heard order few more silent saved told.NoAnswer f (inl nothing) = inl nothing
 told_of_more heard order few more silent saved told.NoAnswer f (inr t) = inr (record {
   call = t.call;
@@ -78,7 +83,8 @@ told_of_more heard order few more silent saved told.NoAnswer f (inr t) = inr (re
   untold = t.untold;
 })
 told_of_more heard order few more silent saved told.OtherCall f t = record { call = t.call; is_reached = f t.call t.is_reached; other = t.other; same = t.same }
-told_of_more heard order few more silent saved (told.Refused response) f t = refusal_of_more heard order few more response f t
+told_of_more heard order few more silent saved (told.Refused response) f t = refusal_of_more heard order few more saved response f t
+told_of_more heard order few more silent saved (told.Untold response) f t = untold_of_more heard order few more response f t
 
 pub of_more : (heard : Heard → Type 0) (order : Order) (few more : Kept → Type 0) (fresh silent : Type 0) (saved : List ℕ) (after : AfterPut) → ((k : Kept) → few k → more k)
     → HasPut heard order few fresh silent saved after → HasPut heard order more fresh silent saved after
@@ -156,9 +162,11 @@ is_resumed heard order fresh silent saved (after.Told (told.Put claim line)) cal
 is_resumed heard order fresh silent saved (after.Told told.OtherCall) call is other = record { call = call; is_reached = IsFound call refl; other = other; same = is }
 is_resumed heard order fresh silent saved (after.Told (told.Became what)) call is never = absurd never
 is_resumed heard order fresh silent saved (after.Told told.Doubtful) call is never = absurd never
-is_resumed heard order fresh silent saved (after.Told told.Full) call is never = absurd never
+is_resumed heard order fresh silent saved (after.Told (told.Later response)) call is never = absurd never
+is_resumed heard order fresh silent saved (after.Told told.NoNumber) call is never = absurd never
 is_resumed heard order fresh silent saved (after.Told told.NoAnswer) call is never = absurd never
 is_resumed heard order fresh silent saved (after.Told (told.Refused response)) call is never = absurd never
+is_resumed heard order fresh silent saved (after.Told (told.Untold response)) call is never = absurd never
 
 -- the same of what may have failed
 pub begins_ok : (heard : Heard → Type 0) (order : Order) (fresh silent : Type 0) (saved : List ℕ) (r : Result AfterPut CallFault)
@@ -187,10 +195,13 @@ at_some {A} r P x e some = subst (λ (o : Option A). IfSome o P) e some
 pub told_as_delayed : (heard : Heard → Type 0) (order : Order) (silent : Type 0) (saved : List ℕ) (turn : PutTurn) (response : Response) (told : PutTold) → IsPutting order turn.kept
     → IsAnswered heard turn response → (response.status ≡ 408) ⊎ (response.status ≡ 503) → TellsDelay turn response told
     → ToldPut heard order (ComesTo heard order (Some turn.kept)) silent saved told
-told_as_delayed heard order silent saved turn response told.Full putting answered status (inl first) =
-    IsFirst turn.kept (IsFound turn.kept refl) putting response (answered.first first) status
-told_as_delayed heard order silent saved turn response told.Full putting answered status (inr tells) =
-    IsLater turn.kept (IsFound turn.kept refl) putting response answered.call tells
+told_as_delayed heard order silent saved turn response (told.Later other) putting answered status (same, inl first) =
+    subst (λ (r : Response). IsToldLater heard order (ComesTo heard order (Some turn.kept)) r) (sym same)
+    (IsFirst turn.kept (IsFound turn.kept refl) putting (answered.first first) status)
+told_as_delayed heard order silent saved turn response (told.Later other) putting answered status (same, inr tells) =
+    subst (λ (r : Response). IsToldLater heard order (ComesTo heard order (Some turn.kept)) r) (sym same)
+    (IsLater turn.kept (IsFound turn.kept refl) putting answered.call tells)
+told_as_delayed heard order silent saved turn response told.NoNumber putting answered status tells = absurd tells
 told_as_delayed heard order silent saved turn response told.NoAnswer putting answered status tells = inr (record {
   call = turn.kept;
   is_reached = IsFound turn.kept refl;
@@ -205,3 +216,22 @@ told_as_delayed heard order silent saved turn response (told.Became what) puttin
 told_as_delayed heard order silent saved turn response told.Doubtful putting answered status tells = absurd tells
 told_as_delayed heard order silent saved turn response told.OtherCall putting answered status tells = absurd tells
 told_as_delayed heard order silent saved turn response (told.Refused other) putting answered status tells = absurd tells
+told_as_delayed heard order silent saved turn response (told.Untold other) putting answered status tells = absurd tells
+
+-- what is told of a call that is refused
+pub told_as_refused : (heard : Heard → Type 0) (order : Order) (silent : Type 0) (saved : List ℕ) (turn : PutTurn) (response : Response) (told : PutTold) → IsPutting order turn.kept
+    → IsAnswered heard turn response → TellsNoPut turn.kept.claim response → TellsRefused turn response told
+    → ToldPut heard order (ComesTo heard order (Some turn.kept)) silent saved told
+told_as_refused heard order silent saved turn response (told.Refused other) putting answered none (same, first) =
+    subst (λ (r : Response). IsToldRefusal heard order (ComesTo heard order (Some turn.kept)) saved r) (sym same)
+    (OfFirst turn.kept (IsFound turn.kept refl) putting (answered.first first) none)
+told_as_refused heard order silent saved turn response (told.Untold other) putting answered none (same, again) =
+    subst (λ (r : Response). IsToldUntold heard order (ComesTo heard order (Some turn.kept)) r) (sym same)
+    (OfCall turn.kept (IsFound turn.kept refl) putting answered.call none)
+told_as_refused heard order silent saved turn response (told.Put claim line) putting answered none tells = absurd tells
+told_as_refused heard order silent saved turn response (told.Became what) putting answered none tells = absurd tells
+told_as_refused heard order silent saved turn response told.Doubtful putting answered none tells = absurd tells
+told_as_refused heard order silent saved turn response (told.Later other) putting answered none tells = absurd tells
+told_as_refused heard order silent saved turn response told.NoNumber putting answered none tells = absurd tells
+told_as_refused heard order silent saved turn response told.NoAnswer putting answered none tells = absurd tells
+told_as_refused heard order silent saved turn response told.OtherCall putting answered none tells = absurd tells

@@ -1,5 +1,5 @@
 -- What the answers of a door tell.
-use Rattle.std.specs.Prelude.{◌≡◌, ℕ, ◌<◌, ◌^◌, Bool, if◌then◌else◌, List, ◌++◌, codes, ◌⊎◌}
+use Rattle.std.specs.Prelude.{◌≡◌, ℕ, ◌<◌, ◌^◌, ◌==◌, ◌||◌, Bool, true, if◌then◌else◌, List, ◌++◌, codes, ◌⊎◌}
 use Rattle.std.specs.Fmt.{decimal}
 use Rattle.amo_door.specs.declared.answer.Fate.{Fate}
 use Rattle.amo_door.specs.declared.claim.Claim.{Claim}
@@ -59,6 +59,19 @@ pub record TellsRefusal (word : List ℕ) (response : Response) : Type 0 where
   pub is_word : IsWord word
   pub rest : List ℕ
   pub body : response.body.items ≡ codes "{\"error\":\"" ++ word ++ codes "\"" ++ rest
+
+abbrev pub HasWord : Response → Type 0
+HasWord response = (word : List ℕ) × TellsRefusal word response
+
+-- the statuses of a door's answers
+abbrev pub is_door_status : ℕ → Bool
+is_door_status s = (s == 200) || (s == 201) || (s == 204) || (s == 400) || (s == 401) || (s == 403) || (s == 404) || (s == 405) || (s == 408) || (s == 409) || (s == 410)
+    || (s == 413) || (s == 414) || (s == 421) || (s == 431) || (s == 500) || (s == 501) || (s == 503)
+
+-- An answer is a door's: it has such a status, and where that says that the server is at fault, a word of the door for it. A proxy whose door does not answer
+-- has others.
+abbrev pub IsOfDoor : Response → Type 0
+IsOfDoor response = (is_door_status response.status ≡ true) × ((response.status < 500) ⊎ HasWord response)
 
 -- a text has this front
 abbrev pub Begins : List ℕ → List ℕ → Type 0

@@ -6,17 +6,12 @@ use Rattle.amo_call.specs.declared.putting.Order.{Order}
 use Rattle.amo_call.specs.Heard.{Answered, Heard}
 use Rattle.amo_call.specs.Kept.{done_of, kept_text}
 use Rattle.amo_call.specs.Pages.{TellsNextLine}
-use Rattle.amo_call.specs.Puts.{IsNextPut, IsPut, IsPutting, IsToldPut, NothingPut}
+use Rattle.amo_call.specs.Puts.{IsNextPut, IsPut, IsToldPut, MayPut}
 use Rattle.amo_call.specs.Takes.{HasDone, HasTaken, IsNextTake, IsToldTake, NothingTaken, take_behind}
 
 -- a file has this call
 abbrev pub HasCall : List ℕ → Kept → Type 0
 HasCall saved call = saved ≡ kept_text call
-
--- the message of an order may be given a number: its file has no call, or one that was to put it and put nothing
-pub data MayPut (heard : Heard → Type 0) (order : Order) (saved : List ℕ) : Type 0 where
-  PutsFirst : saved ≡ [] → MayPut heard order saved
-  PutsAnew : (before : Kept) → HasCall saved before → IsPutting order before → NothingPut heard before → MayPut heard order saved
 
 -- A take may begin at a line of the journal: its file has no call, and the door told that this line is the next one; or it has one that took nothing by any
 -- line before this one.

@@ -1,5 +1,5 @@
 -- Puts under way, and what is told of them.
-use Rattle.std.specs.Prelude.{◌≡◌, ◌≢◌, ℕ, ◌+◌, ◌<◌, ◌^◌, true, Option, None, Some, List, ◌⊎◌}
+use Rattle.std.specs.Prelude.{◌≡◌, ◌≢◌, ℕ, ◌+◌, ◌<◌, ◌^◌, true, Option, None, Some, List, [], ◌⊎◌}
 use Rattle.amo_door.specs.declared.answer.Fate.{Fate}
 use Rattle.amo_door.specs.declared.answer.Fate.TheVariants as fate
 use Rattle.amo_door.specs.declared.claim.Claim.{Claim}
@@ -44,6 +44,11 @@ pub data NothingPut (heard : Heard → Type 0) (call : Kept) : Type 0 where
   IsLate : (response : Response) → heard (ToFirst call response) → response.status ≡ 410 → NothingPut heard call
   -- its life is over, and it was never put in that
   NeverWas : (response : Response) → Answered heard (outcome_target call.claim) response → TellsFate call.claim fate.Never response → NothingPut heard call
+
+-- the message of an order may be given a number: its file has no call, or one that was to put it and put nothing
+pub data MayPut (heard : Heard → Type 0) (order : Order) (saved : List ℕ) : Type 0 where
+  PutsFirst : saved ≡ [] → MayPut heard order saved
+  PutsAnew : (before : Kept) → saved ≡ kept_text before → IsPutting order before → NothingPut heard before → MayPut heard order saved
 
 -- a call names the number behind the last one of its stream, in the life that the host lives, as the door told
 pub record IsNextPut (heard : Heard → Type 0) (order : Order) (call : Kept) : Type 0 where
@@ -99,13 +104,19 @@ pub record IsToldDoubt (heard : Heard → Type 0) (order : Order) (reached : Kep
   pub told : TellsConflict call.claim true last response
   pub other : last ≢ call.claim.number
 
--- a call was not made for now, as its host says or since it was made once, or the life has no number more
-pub data IsToldFull (heard : Heard → Type 0) (order : Order) (reached : Kept → Type 0) : Type 0 where
-  IsLater : (call : Kept) → reached call → IsPutting order call → (response : Response) → heard (ToCall call response) → TellsUnput response → IsToldFull heard order reached
-  IsFirst : (call : Kept) → reached call → IsPutting order call → (response : Response) → heard (ToFirst call response)
-      → (response.status ≡ 408) ⊎ (response.status ≡ 503) → IsToldFull heard order reached
-  IsLast : (response : Response) (state : StreamState) → Answered heard (state_target order.stream 0) response → TellsState order.stream true state response
-      → state.last + 1 ≡ 2 ^ 64 → IsToldFull heard order reached
+-- a call was put off by this answer and not made, as its host says or since it was made once
+pub data IsToldLater (heard : Heard → Type 0) (order : Order) (reached : Kept → Type 0) (response : Response) : Type 0 where
+  IsLater : (call : Kept) → reached call → IsPutting order call → heard (ToCall call response) → TellsUnput response → IsToldLater heard order reached response
+  IsFirst : (call : Kept) → reached call → IsPutting order call → heard (ToFirst call response) → (response.status ≡ 408) ⊎ (response.status ≡ 503)
+      → IsToldLater heard order reached response
+
+-- the life has no number more
+pub record IsToldLast (heard : Heard → Type 0) (order : Order) : Type 0 where
+  pub response : Response
+  pub answered : Answered heard (state_target order.stream 0) response
+  pub state : StreamState
+  pub told : TellsState order.stream true state response
+  pub last : state.last + 1 ≡ 2 ^ 64
 
 -- a call was put off that may have been made before, and its host says nothing of that
 pub record IsToldDelay (heard : Heard → Type 0) (order : Order) (reached : Kept → Type 0) : Type 0 where
@@ -119,7 +130,7 @@ pub record IsToldDelay (heard : Heard → Type 0) (order : Order) (reached : Kep
 
 -- what is told of a call that is put off: that nothing was put where its host says so, and else only where it is the first
 abbrev pub TellsDelay : PutTurn → Response → PutTold → Type 0
-TellsDelay turn response told.Full = (turn.is_first ≡ true) ⊎ TellsUnput response
+TellsDelay turn response (told.Later other) = (other ≡ response) × ((turn.is_first ≡ true) ⊎ TellsUnput response)
 TellsDelay turn response told.NoAnswer = ¬ (TellsUnput response)
 TellsDelay turn response _ = ⊥
 
@@ -131,13 +142,24 @@ pub record TellsNoPut (claim : Claim) (response : Response) : Type 0 where
   pub no_slowness : response.status ≢ 408
   pub no_delay : response.status ≢ 503
 
--- the door refused a call, or a question on the way to it, by this answer
-pub data IsToldRefusal (heard : Heard → Type 0) (order : Order) (reached : Kept → Type 0) (response : Response) : Type 0 where
-  OfCall : (call : Kept) → reached call → IsPutting order call → heard (ToCall call response) → TellsNoPut call.claim response → IsToldRefusal heard order reached response
-  OfState : Answered heard (state_target order.stream 0) response → ((state : StreamState) → ¬ (TellsState order.stream true state response))
-      → IsToldRefusal heard order reached response
+-- what is told of a call that is refused: that it is, where it is the first; and else that it may have been put
+abbrev pub TellsRefused : PutTurn → Response → PutTold → Type 0
+TellsRefused turn response (told.Refused other) = (other ≡ response) × (turn.is_first ≡ true)
+TellsRefused turn response (told.Untold other) = (other ≡ response) × (turn.is_first ≢ true)
+TellsRefused turn response _ = ⊥
+
+-- nothing was put, as the door refused by this answer what was asked first: a call, or how the stream is where none was made that may have put it
+pub data IsToldRefusal (heard : Heard → Type 0) (order : Order) (reached : Kept → Type 0) (saved : List ℕ) (response : Response) : Type 0 where
+  OfFirst : (call : Kept) → reached call → IsPutting order call → heard (ToFirst call response) → TellsNoPut call.claim response
+      → IsToldRefusal heard order reached saved response
+  OfState : MayPut heard order saved → Answered heard (state_target order.stream 0) response → ((state : StreamState) → ¬ (TellsState order.stream true state response))
+      → IsToldRefusal heard order reached saved response
+
+-- the door refused by this answer a call that may have been made before, or to tell what became of it
+pub data IsToldUntold (heard : Heard → Type 0) (order : Order) (reached : Kept → Type 0) (response : Response) : Type 0 where
+  OfCall : (call : Kept) → reached call → IsPutting order call → heard (ToCall call response) → TellsNoPut call.claim response → IsToldUntold heard order reached response
   OfFate : (call : Kept) → reached call → IsPutting order call → Answered heard (outcome_target call.claim) response
-      → ((what : Fate) → ¬ (TellsFate call.claim what response)) → IsToldRefusal heard order reached response
+      → ((what : Fate) → ¬ (TellsFate call.claim what response)) → IsToldUntold heard order reached response
 
 -- the file has another call
 pub record IsToldOther (order : Order) (reached : Kept → Type 0) (saved : List ℕ) : Type 0 where
@@ -152,10 +174,12 @@ ToldPut heard order reached silent saved (told.Put claim line) =
     (saved ≡ kept_text (record { claim = claim; progress = progress.Put line order.message })) × IsToldPut heard order reached claim line
 ToldPut heard order reached silent saved (told.Became what) = IsToldFate heard order reached what
 ToldPut heard order reached silent saved told.Doubtful = IsToldDoubt heard order reached
-ToldPut heard order reached silent saved told.Full = IsToldFull heard order reached
+ToldPut heard order reached silent saved (told.Later response) = IsToldLater heard order reached response
+ToldPut heard order reached silent saved told.NoNumber = IsToldLast heard order
 ToldPut heard order reached silent saved told.NoAnswer = silent ⊎ IsToldDelay heard order reached
 ToldPut heard order reached silent saved told.OtherCall = IsToldOther order reached saved
-ToldPut heard order reached silent saved (told.Refused response) = IsToldRefusal heard order reached response
+ToldPut heard order reached silent saved (told.Refused response) = IsToldRefusal heard order reached saved response
+ToldPut heard order reached silent saved (told.Untold response) = IsToldUntold heard order reached response
 
 -- The file has the call that is made next, which a put came to; `fresh` says that it was not made yet.
 pub record IsTurn (order : Order) (reached : Kept → Type 0) (fresh : Type 0) (saved : List ℕ) (turn : PutTurn) : Type 0 where

@@ -6,7 +6,7 @@ ghost use Rattle.amo_door.specs.declared.answer.Fate.{Fate};
 ghost use Rattle.amo_door.specs.declared.claim.EventPlace.{EventPlace};
 ghost use Rattle.amo_door.specs.Word.{IsWord};
 ghost use Rattle.amo_call.specs.declared.answer.StreamState.{StreamState};
-ghost use Rattle.amo_call.specs.Answer.{Begins, IsEventPlace, event_members, last_name, TellsConflict, TellsFate, TellsPut, TellsRefusal, TellsState, TellsUnput};
+ghost use Rattle.amo_call.specs.Answer.{Begins, HasWord, IsEventPlace, IsOfDoor, event_members, is_door_status, last_name, TellsConflict, TellsFate, TellsPut, TellsRefusal, TellsState, TellsUnput};
 ghost use Rattle.amo_text.specs.Line.{Lacks};
 
 use crate::scan::{behind, behind_number, number_before, quoted_in_front, word_before};
@@ -126,6 +126,49 @@ pub fn read_refusal(response: &Response) -> Option<Word>
     let word = behind(response.body.as_slice(), b"{\"error\":\"")?;
     let (word, _rest) = word_before(word, b'"')?;
     Some(word)
+}
+
+/// Whether an answer is one that a door gives.
+pub(crate) fn is_of_door(response: &Response) -> bool
+    ensures { IsTrue result ↔ IsOfDoor response.now }
+{
+    is_door_status(response.status) && (response.status < 500 || has_word(response))
+}
+
+/// Whether a door answers with this status.
+fn is_door_status(status: u16) -> bool
+    ensures { result ≡ is_door_status status }
+{
+    matches!(
+        status,
+        200 | 201
+            | 204
+            | 400
+            | 401
+            | 403
+            | 404
+            | 405
+            | 408
+            | 409
+            | 410
+            | 413
+            | 414
+            | 421
+            | 431
+            | 500
+            | 501
+            | 503
+    )
+}
+
+/// Whether an answer has the word of a refusal.
+fn has_word(response: &Response) -> bool
+    ensures { IsTrue result ↔ HasWord response.now }
+{
+    match read_refusal(response) {
+        Some(_word) => true,
+        None => false,
+    }
 }
 
 /// Whether an answer says that the message of a call was not put: a host that has no room, or comes to its end, looks first whether it was. Another one that

@@ -1,7 +1,9 @@
 //! A request and its answer, over a connection.
-ghost use Rattle.std.specs.Prelude.{◌≡◌, ◌≤◌, All, length};
+ghost use Rattle.std.specs.Prelude.{◌≡◌, ◌≤◌, All, IfOk, IfSome, length};
+ghost use Rattle.amo_call.specs.Answer.{IsOfDoor};
 ghost use Rattle.httparse.specs.Spans.{IsHeaderWithin, IsResponseWithin};
 
+use crate::answer::is_of_door;
 use crate::{CallFault, Request, Response};
 use amo_door::Method;
 use amo_text::read_decimal;
@@ -41,24 +43,37 @@ pub(crate) struct Reading {
     pub(crate) body: Vec<u8>,
 }
 
-/// Sends a request over a connection on which nothing was sent, and waits for its answer. None where none comes whole: the request may have been done.
+/// Sends a request over a connection on which nothing was sent, and waits for the door's answer. None where none comes whole: the request may have been
+/// done. What comes of a proxy between that had no answer of its door is none.
 pub fn exchange<S: Read + Write>(
     alloc: Global,
     stream: &mut S,
     who: &Asker,
     request: &Request,
-) -> Result<Option<Response>, CallFault> {
+) -> Result<Option<Response>, CallFault>
+    ensures { IfOk result (λ answer. IfSome answer IsOfDoor) }
+{
     let Some(mut reading) = begin(alloc, stream, who, request)? else {
         return Ok(None);
     };
     'reads: for _read in 0..u64::MAX {
         match reading.read(stream)? {
             Came::More => {}
-            Came::Whole => return Ok(reading.response(alloc)),
+            Came::Whole => return Ok(of_door(reading.response(alloc))),
             Came::Nothing => return Ok(None),
         }
     }
     Ok(None)
+}
+
+/// An answer that came, where it is one of a door.
+pub(crate) fn of_door(response: Option<Response>) -> Option<Response>
+    ensures { IfSome result IsOfDoor }
+{
+    match response {
+        Some(response) if is_of_door(&response) => Some(response),
+        _ => None,
+    }
 }
 
 /// Sends a request over a connection on which nothing was sent. None where it did not leave whole.

@@ -1,5 +1,5 @@
 //! What happens at a host, as its door tells those who follow.
-use crate::connection::{Came, Reading, begin};
+use crate::connection::{Came, Reading, begin, of_door};
 use crate::{Asker, CallFault, Request, Response};
 use amo_text::next_line;
 use std::alloc::{AllocError, Global};
@@ -40,7 +40,7 @@ pub fn follow<S: Read + Write, O: Write>(
         match came {
             Came::More => {}
             Came::Nothing => return Ok(Followed::Ended),
-            Came::Whole => return Ok(refused(reading.response(alloc))),
+            Came::Whole => return Ok(refused(of_door(reading.response(alloc)))),
         }
     }
     Ok(Followed::Ended)

@@ -11,9 +11,9 @@ ghost use Rattle.amo_door.specs.declared.claim.Claim.{Claim};
 ghost use Rattle.amo_door.specs.declared.claim.EventPlace.{EventPlace};
 ghost use Rattle.amo_door.specs.declared.claim.Made.{Made};
 ghost use Rattle.amo_door.specs.declared.refusal.Refusal.{Refusal};
-ghost use Rattle.amo_door.specs.Refusal.{word_of};
+ghost use Rattle.amo_door.specs.Refusal.{status_of, word_of};
 ghost use Rattle.amo_door.specs.Word.{IsWord};
-ghost use Rattle.amo_call.specs.Answer.{IsEventPlace, TellsConflict, TellsFate, TellsPut, TellsRefusal, TellsState};
+ghost use Rattle.amo_call.specs.Answer.{IsEventPlace, IsOfDoor, TellsConflict, TellsFate, TellsPut, TellsRefusal, TellsState};
 ghost use Rattle.amo_call.specs.declared.answer.Response.{Response};
 ghost use Rattle.amo_call.specs.declared.answer.StreamState.{StreamState};
 ghost use Rattle.amo_call.specs.declared.kept.Kept.{Kept};
@@ -28,7 +28,7 @@ pub fn answers_tell_one_thing()
     ensures refusal { (a b : List ℕ) (response : Response) → TellsRefusal a response → TellsRefusal b response → a ≡ b }
 {}
 
-/// What a door answers is told: that a message was put, how a stream is, and why a request is refused.
+/// What a door answers is told: that a message was put, how a stream is, and why a request is refused; and no refusal is taken for that of a proxy.
 pub fn answers_of_doors_are_told()
     ensures put { (claim : Claim) (made : Made) (when : When) (response : Response) → IsEventPlace made.place → made.number ≡ claim.number
         → response.status ≡ status_of_put when → response.body.items ≡ put_body claim.life claim.stream made → TellsPut claim made.place response }
@@ -37,6 +37,7 @@ pub fn answers_of_doors_are_told()
     ensures receiver { (life : List ℕ) (stream : ℕ) (state : ReceiverState) (response : Response) → IsWord life → state.taken < 2 ^ 64 → response.status ≡ 200
         → response.body.items ≡ codes "{" ++ receiver_members life stream state ++ codes "}" → TellsState stream false (record { life = life; last = state.taken }) response }
     ensures refusal { (reason : Refusal) (more : List ℕ) (response : Response) → IsRefusal reason more response.body.items → TellsRefusal (word_of reason) response }
+    ensures door { (reason : Refusal) (more : List ℕ) (response : Response) → response.status ≡ status_of reason → IsRefusal reason more response.body.items → IsOfDoor response }
 {}
 
 /// Two calls have two texts: what a file keeps is read back as it was.

@@ -3,8 +3,7 @@ ghost use Rattle.std.specs.Prelude.{◌≡◌, ◌↔◌, Some, [], ◌⊎◌, t
 ghost use Rattle.amo_door.specs.declared.claim.EventPlace.{EventPlace};
 ghost use Rattle.amo_call.specs.Answer.{TellsPut};
 ghost use Rattle.amo_call.specs.Kept.{kept_text};
-ghost use Rattle.amo_call.specs.Naming.{MayPut};
-ghost use Rattle.amo_call.specs.Puts.{ComesTo, HasPut, IsAnswered, IsNextPut, IsPutting, Resumes, TellsDelay, ToldPut, WasPut};
+ghost use Rattle.amo_call.specs.Puts.{ComesTo, HasPut, IsAnswered, IsNextPut, IsPutting, MayPut, Resumes, TellsDelay, TellsRefused, ToldPut, WasPut};
 
 use crate::answer::{Response, read_conflict, read_fate, read_put, read_state, tells_unput};
 use crate::caller::{ask_until, copied};
@@ -33,14 +32,18 @@ pub enum PutTold {
     Became(Fate),
     /// Another program puts on the stream, and whether this message was put before is not known.
     Doubtful,
-    /// It was not put yet, as there is no room, or the host comes to its end, or its only call was put off.
-    Full,
+    /// It was not put yet: the door puts it off so, and says that it was not, or its only call was put off.
+    Later(Response),
+    /// It was not put: the life of the host has no number more for it.
+    NoNumber,
     /// No answer came, or a call that was made before was put off: it may have been put.
     NoAnswer,
     /// The file is that of another call. Nothing was asked.
     OtherCall,
-    /// The door refuses it so.
+    /// The door refuses it so, and it was not put: its call was made once, or not at all.
     Refused(Response),
+    /// The door refuses so to put it or to tell of it, and it may have been put by a call that was made before.
+    Untold(Response),
 }
 
 /// A put under way.
@@ -145,7 +148,7 @@ fn begin<C: Caller>(alloc: Global, caller: &mut C, order: &Order) -> Result<Afte
         return Ok(AfterPut::Told(PutTold::Refused(response)));
     };
     let Some(number) = state.last.checked_add(1) else {
-        return Ok(AfterPut::Told(PutTold::Full));
+        return Ok(AfterPut::Told(PutTold::NoNumber));
     };
     let kept = Kept {
         claim: Claim {
@@ -201,13 +204,13 @@ fn look_at_refusal<C: Caller>(
     ensures { IfOk result (HasPut C.heard order.now (ComesTo C.heard order.now (Some turn.kept)) (C.is_fresh caller.new) (C.is_silent caller.new) (C.saved caller.new)) }
 {
     if is_put_off(response.status) {
-        let told = told_of_delay(&turn, &response);
+        let told = told_of_delay(&turn, response);
         return Ok(put_again(caller, turn, told));
     }
     match response.status {
         409 => look_at_conflict(alloc, caller, turn, response, order),
         410 => look_back(alloc, caller, turn, &response, order),
-        _ => Ok(AfterPut::Told(PutTold::Refused(response))),
+        _ => Ok(AfterPut::Told(told_of_refusal(&turn, response))),
     }
 }
 
@@ -220,13 +223,24 @@ fn is_put_off(status: u16) -> bool
 
 /// What is told of a call that is put off, where there is no time to make it again. A door at which too many ask, or that a request reached too slowly, says
 /// nothing of what was put before.
-fn told_of_delay(turn: &PutTurn, response: &Response) -> PutTold
-    ensures { TellsDelay turn.now response.now result }
+fn told_of_delay(turn: &PutTurn, response: Response) -> PutTold
+    ensures { TellsDelay turn.now response result }
 {
-    if turn.is_first || tells_unput(response) {
-        PutTold::Full
+    if turn.is_first || tells_unput(&response) {
+        PutTold::Later(response)
     } else {
         PutTold::NoAnswer
+    }
+}
+
+/// What is told of a call that the door refuses. One that was made before may have been done: a refusal says nothing of that.
+fn told_of_refusal(turn: &PutTurn, response: Response) -> PutTold
+    ensures { TellsRefused turn.now response result }
+{
+    if turn.is_first {
+        PutTold::Refused(response)
+    } else {
+        PutTold::Untold(response)
     }
 }
 
@@ -292,7 +306,7 @@ fn look_at_conflict<C: Caller>(
     ensures { IfOk result (HasPut C.heard order.now (ComesTo C.heard order.now (Some turn.kept)) (C.is_fresh caller.new) (C.is_silent caller.new) (C.saved caller.new)) }
 {
     let Some(last) = read_conflict(&response, &turn.kept.claim, true) else {
-        return Ok(AfterPut::Told(PutTold::Refused(response)));
+        return Ok(AfterPut::Told(told_of_refusal(&turn, response)));
     };
     if turn.is_first {
         return begin(alloc, caller, order);
@@ -339,7 +353,7 @@ fn look_at_fate<C: Caller>(
         return Ok(AfterPut::Told(PutTold::NoAnswer));
     };
     let Some(fate) = read_fate(&response, &turn.kept.claim) else {
-        return Ok(AfterPut::Told(PutTold::Refused(response)));
+        return Ok(AfterPut::Told(PutTold::Untold(response)));
     };
     if was_never(&fate) {
         return begin(alloc, caller, order);

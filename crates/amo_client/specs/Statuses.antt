@@ -1,11 +1,16 @@
 -- The statuses with which a call ends.
-use Rattle.std.specs.Prelude.{◌≡◌, ◌≢◌, ◌⊎◌, ◌≤◌, ℕ}
+use Rattle.std.specs.Prelude.{◌≡◌, ◌≢◌, ◌⊎◌, ◌≤◌, ℕ, None, Some, List}
 use Rattle.amo_door.specs.declared.answer.Fate.{Fate}
 use Rattle.amo_door.specs.declared.answer.Fate.TheVariants as fate
+use Rattle.amo_call.specs.declared.kept.Kept.{Kept}
+use Rattle.amo_call.specs.declared.putting.Order.{Order}
 use Rattle.amo_call.specs.declared.putting.PutTold.{PutTold}
 use Rattle.amo_call.specs.declared.putting.PutTold.TheVariants as put
 use Rattle.amo_call.specs.declared.taking.TakeTold.{TakeTold}
 use Rattle.amo_call.specs.declared.taking.TakeTold.TheVariants as take
+use Rattle.amo_call.specs.Heard.{Heard}
+use Rattle.amo_call.specs.Kept.{done_of, kept_text}
+use Rattle.amo_call.specs.Puts.{ToldPut}
 use Rattle.amo_settings.specs.declared.settings.DoorCall.{DoorCall}
 use Rattle.amo_settings.specs.declared.settings.DoorCall.TheVariants.{Put, Get, Done, Status, Watch}
 
@@ -23,10 +28,22 @@ abbrev pub put_status : PutTold → ℕ
 put_status (put.Put claim line) = 0
 put_status (put.Became fate) = fate_status fate
 put_status put.Doubtful = 8
-put_status put.Full = 5
+put_status (put.Later response) = 5
+put_status put.NoNumber = 5
 put_status put.NoAnswer = 4
 put_status put.OtherCall = 2
 put_status (put.Refused response) = 10
+put_status (put.Untold response) = 8
+
+-- a put ended with the status of what is told of it, and that is what answers told
+pub record EndsPut (heard : Heard → Type 0) (order : Order) (reached : Kept → Type 0) (silent : Type 0) (saved : List ℕ) (status : ℕ) : Type 0 where
+  pub told : PutTold
+  pub is_told : ToldPut heard order reached silent saved told
+  pub is_status : status ≡ put_status told
+
+-- the file of a call says by now that its message is done; or no message was got by it
+abbrev pub EndsDone : Kept → List ℕ → ℕ → Type 0
+EndsDone kept saved status = ((status ≡ 0) × ((done : Kept) × (done_of kept ≡ Some done) × (saved ≡ kept_text done))) ⊎ ((status ≡ 2) × (done_of kept ≡ None))
 
 -- that of what is told of a take
 abbrev pub take_status : TakeTold → ℕ

@@ -1,20 +1,21 @@
 //! A call of a door.
 ghost use Rattle.std.specs.Prelude.{◌≡◌, [], None, IfNone, IfOk, IfSome};
 ghost use Rattle.amo_call.specs.Kept.{kept_text};
+ghost use Rattle.amo_client.specs.File.{bytes_of};
 ghost use Rattle.amo_client.specs.Statuses.{IsOfDone, IsOfGet, IsOfPut, IsOfStatus, IsStatusOf};
 
 use crate::address::check_address;
+use crate::ending::{end_and_tell, put_and_tell};
 use crate::fault::ClientFault;
-use crate::held::{Held, is_special, read_file};
+use crate::held::{FileText, Held, KEEPS_NONE, read_file, unfit};
 use crate::message::message_of;
-use crate::station::{MOST_WAIT, Place, Station};
+use crate::station::{Explains, Place, Station};
 use crate::telling::{
-    NO_CALL, show, tell_no_answer, tell_nothing_taken, tell_other_call, tell_put, tell_refusal,
-    tell_take,
+    NO_CALL, show, tell_no_answer, tell_nothing_taken, tell_other_call, tell_refusal, tell_take,
 };
 use crate::token::read_token;
 use crate::watching::watch;
-use amo_call::{Asker, Kept, KeptFault, Order, Request, TakeTold, note_done, put, read_kept, take};
+use amo_call::{Asker, Kept, KeptFault, Order, Progress, TakeTold, read_kept, take};
 use amo_disk::Cause;
 use amo_door::Word;
 use amo_packet::Message;
@@ -42,23 +43,40 @@ pub fn call_door<
 >(rt: &R, settings: &CallSettings, input: I, output: O) -> Result<u8, ClientFault>
     ensures { IfOk result (IsStatusOf settings.now.call) }
 {
-    let place = place_of(rt, settings)?;
     match &settings.call {
         DoorCall::Put {
             stream,
             state,
             message,
         } => match message_of(rt, settings.hex, message, input)? {
-            Some(message) => put_once(rt, &place, *stream, state.as_str(), message),
+            Some(message) => put_once(rt, settings, *stream, state.as_str(), message),
             None => Ok(NO_CALL),
         },
         DoorCall::Get { stream, state } => {
-            get_next(rt, &place, *stream, state.as_str(), settings.hex, output)
+            get_next(rt, settings, *stream, state.as_str(), output)
         }
-        DoorCall::Done { stream, state } => end_last(rt, &place, *stream, state.as_str()),
-        DoorCall::Status { stream } => tell_state(rt, &place, *stream, output),
-        DoorCall::Watch { after } => watch(rt, &place, *after, output),
+        DoorCall::Done { stream, state } => end_last(rt, *stream, state.as_str()),
+        DoorCall::Status { stream } => tell_state(rt, &place_of(rt, settings)?, *stream, output),
+        DoorCall::Watch { after } => watch(rt, &place_of(rt, settings)?, *after, output),
     }
+}
+
+/// The place that is asked for the call of a file. One whose message was put, or was taken, asks nothing: so the door need not be there, nor what finds it,
+/// nor its token.
+fn place_for<R: AllocGlobal + Clock + Files<File = File> + Net>(
+    rt: &R,
+    settings: &CallSettings,
+    kept: &Option<Kept>,
+) -> Result<Place, ClientFault> {
+    match kept {
+        Some(kept) if is_over(&kept.progress) => Ok(Place::nowhere(rt.alloc())),
+        _ => place_of(rt, settings),
+    }
+}
+
+/// Whether a call has come to its end, so that it is made no more.
+fn is_over(progress: &Progress) -> bool {
+    matches!(progress, Progress::Put { .. } | Progress::Taken { .. })
 }
 
 /// The place that is asked, by whom, and for how long.
@@ -102,7 +120,13 @@ fn put_once<
         + Net<Stream = TcpStream>
         + Print
         + RandomSource,
->(rt: &R, place: &Place, stream: u32, path: &str, message: Message) -> Result<u8, ClientFault>
+>(
+    rt: &R,
+    settings: &CallSettings,
+    stream: u32,
+    path: &str,
+    message: Message,
+) -> Result<u8, ClientFault>
     ensures { IfOk result IsOfPut }
 {
     let order = Order {
@@ -111,7 +135,7 @@ fn put_once<
         by: drawn(rt)?,
     };
     let held = Held::take(rt, path)?;
-    let status = put_held(rt, place, path, &order);
+    let status = put_held(rt, settings, path, &order);
     held.leave(rt);
     status
 }
@@ -119,37 +143,33 @@ fn put_once<
 /// Puts a message once, by the call that a file keeps which this process holds.
 fn put_held<R: AllocGlobal + Clock + Eprint + Files<File = File> + Net<Stream = TcpStream> + Print>(
     rt: &R,
-    place: &Place,
+    settings: &CallSettings,
     path: &str,
     order: &Order,
 ) -> Result<u8, ClientFault>
     ensures { IfOk result IsOfPut }
 {
-    let Some(Found { bytes, kept }) = find_call(rt, path)? else {
+    let Some(Found { text, kept }) = find_call(rt, path)? else {
         return Ok(NO_CALL);
     };
-    let mut station = Station::new(rt, place, path, bytes)?;
-    let told = put(rt.alloc(), &mut station, kept, order);
-    let why = station.why;
-    match told {
-        Ok(told) => tell_put(rt, path, why, told),
-        Err(fault) => Err(ClientFault::of_call(rt.alloc(), path, fault, why)),
-    }
+    let place = place_for(rt, settings, &kept)?;
+    let mut station = Station::new(rt, &place, path, text)?;
+    put_and_tell(rt, &mut station, kept, order, path)
 }
 
 /// Takes the next message of a stream, by the call that this file keeps, and shows it.
 fn get_next<
     R: AllocGlobal + Clock + Eprint + Files<File = File> + Net<Stream = TcpStream> + RandomSource,
     O: Write + Drop,
->(rt: &R, place: &Place, stream: u32, path: &str, hex: bool, output: O) -> Result<u8, ClientFault>
+>(rt: &R, settings: &CallSettings, stream: u32, path: &str, output: O) -> Result<u8, ClientFault>
     ensures { IfOk result IsOfGet }
 {
     let by = drawn(rt)?;
     let held = Held::take(rt, path)?;
-    let told = take_held(rt, place, stream, path, &by);
+    let told = take_held(rt, settings, stream, path, &by);
     held.leave(rt);
     match told? {
-        Some((told, why)) => tell_take(rt, path, why, told, hex, output),
+        Some((told, why)) => tell_take(rt, path, why, told, settings.hex, output),
         None => Ok(NO_CALL),
     }
 }
@@ -158,17 +178,18 @@ fn get_next<
 /// keeps no call.
 fn take_held<R: AllocGlobal + Clock + Eprint + Files<File = File> + Net<Stream = TcpStream>>(
     rt: &R,
-    place: &Place,
+    settings: &CallSettings,
     stream: u32,
     path: &str,
     by: &Word,
 ) -> Result<Option<(TakeTold, Option<Cause>)>, ClientFault> {
-    let Some(Found { bytes, kept }) = find_call(rt, path)? else {
+    let Some(Found { text, kept }) = find_call(rt, path)? else {
         return Ok(None);
     };
-    let mut station = Station::new(rt, place, path, bytes)?;
+    let place = place_for(rt, settings, &kept)?;
+    let mut station = Station::new(rt, &place, path, text)?;
     let told = take(rt.alloc(), &mut station, kept, stream, by);
-    let why = station.why;
+    let why = station.why();
     match told {
         Ok(told) => Ok(Some((told, why))),
         Err(fault) => Err(ClientFault::of_call(rt.alloc(), path, fault, why)),
@@ -178,14 +199,13 @@ fn take_held<R: AllocGlobal + Clock + Eprint + Files<File = File> + Net<Stream =
 /// Notes that the message that was got by the call that this file keeps is done.
 fn end_last<R: AllocGlobal + Clock + Eprint + Files<File = File> + Net<Stream = TcpStream>>(
     rt: &R,
-    place: &Place,
     stream: u32,
     path: &str,
 ) -> Result<u8, ClientFault>
     ensures { IfOk result IsOfDone }
 {
     let held = Held::take(rt, path)?;
-    let status = end_held(rt, place, stream, path);
+    let status = end_held(rt, stream, path);
     held.leave(rt);
     status
 }
@@ -193,13 +213,12 @@ fn end_last<R: AllocGlobal + Clock + Eprint + Files<File = File> + Net<Stream = 
 /// Notes that the message that was got by the call that a file keeps is done, which this process holds.
 fn end_held<R: AllocGlobal + Clock + Eprint + Files<File = File> + Net<Stream = TcpStream>>(
     rt: &R,
-    place: &Place,
     stream: u32,
     path: &str,
 ) -> Result<u8, ClientFault>
     ensures { IfOk result IsOfDone }
 {
-    let Some(Found { bytes, kept }) = find_call(rt, path)? else {
+    let Some(Found { text, kept }) = find_call(rt, path)? else {
         return Ok(NO_CALL);
     };
     let Some(kept) = kept else {
@@ -208,15 +227,12 @@ fn end_held<R: AllocGlobal + Clock + Eprint + Files<File = File> + Net<Stream = 
     if kept.claim.stream != stream {
         return Ok(tell_other_call(rt, path));
     }
-    let mut station = Station::new(rt, place, path, bytes)?;
-    match note_done(&mut station, kept) {
-        Ok(true) => Ok(0),
-        Ok(false) => Ok(tell_nothing_taken(rt, path)),
-        Err(fault) => Err(ClientFault::of_call(rt.alloc(), path, fault, station.why)),
-    }
+    let place = Place::nowhere(rt.alloc());
+    let mut station = Station::new(rt, &place, path, text)?;
+    end_and_tell(rt, &mut station, kept, path)
 }
 
-/// Shows how a stream is.
+/// Shows how a stream is, once that has settled, or its next message is ready, if there is time for that.
 fn tell_state<
     R: AllocGlobal + Clock + Eprint + Files<File = File> + Net<Stream = TcpStream> + Print,
     O: Write + Drop,
@@ -224,22 +240,21 @@ fn tell_state<
     ensures { IfOk result IsOfStatus }
 {
     let alloc = rt.alloc();
-    let request = Request::state(alloc, stream, place.wait.min(MOST_WAIT))?;
-    let mut station = Station::new(rt, place, "", Vec::new(alloc))?;
-    match station.inquire(&request) {
+    let mut station = Station::new(rt, place, "", FileText::absent(alloc))?;
+    match station.settle(stream) {
         Ok(Some(response)) if response.status == 200 => {
             show(alloc, output, response.body.as_slice())?;
             Ok(0)
         }
         Ok(Some(response)) => Ok(tell_refusal(rt, &response)),
-        Ok(None) => Ok(tell_no_answer(rt, station.why)),
-        Err(fault) => Err(ClientFault::of_call(alloc, "", fault, station.why)),
+        Ok(None) => Ok(tell_no_answer(rt, station.why())),
+        Err(fault) => Err(ClientFault::of_call(alloc, "", fault, station.why())),
     }
 }
 
 /// What the file of a call has, and the call that it keeps: nothing, and none, where there is no file.
 struct Found {
-    bytes: Vec<u8>,
+    text: FileText,
     kept: Option<Kept>,
 }
 
@@ -248,34 +263,34 @@ fn find_call<R: AllocGlobal + Eprint + Files<File = File>>(
     rt: &R,
     path: &str,
 ) -> Result<Option<Found>, ClientFault>
-    ensures call { IfOk result (λ found. IfSome found (λ found. IfSome found.kept (λ kept. found.bytes.items ≡ kept_text kept))) }
-    ensures none { IfOk result (λ found. IfSome found (λ found. IfNone found.kept (found.bytes.items ≡ []))) }
+    ensures call { IfOk result (λ found. IfSome found (λ found. IfSome found.kept (λ kept. bytes_of found.text ≡ kept_text kept))) }
+    ensures none { IfOk result (λ found. IfSome found (λ found. IfNone found.kept (bytes_of found.text ≡ []))) }
 {
     let alloc = rt.alloc();
-    if is_special(rt, path) {
-        return Ok(tell_no_call(rt, path));
+    if let Some(why) = unfit(rt, path) {
+        return Ok(tell_no_call(rt, path, why));
     }
-    let Some(bytes) = read_file(rt, path)? else {
+    let Some(text) = read_file(rt, path)? else {
         return Ok(Some(Found {
-            bytes: Vec::new(alloc),
+            text: FileText::absent(alloc),
             kept: None,
         }));
     };
-    match read_kept(alloc, bytes.as_slice()) {
+    match read_kept(alloc, text.bytes()) {
         Ok(kept) => Ok(Some(Found {
-            bytes,
+            text,
             kept: Some(kept),
         })),
         Err(KeptFault::NoMemory) => Err(ClientFault::NoMemory),
-        Err(KeptFault::Malformed) => Ok(tell_no_call(rt, path)),
+        Err(KeptFault::Malformed) => Ok(tell_no_call(rt, path, KEEPS_NONE)),
     }
 }
 
-/// Tells that a file keeps no call.
-fn tell_no_call<R: Eprint>(rt: &R, path: &str) -> Option<Found>
+/// Tells why a file keeps no call.
+fn tell_no_call<R: Eprint>(rt: &R, path: &str, why: &str) -> Option<Found>
     ensures { result ≡ None }
 {
-    let _ = eprintln!(rt; "amo: {path}: it keeps no call: what it has is left as it is");
+    let _ = eprintln!(rt; "amo: {path}: {why}");
     None
 }
 

@@ -1,4 +1,7 @@
 //! The file of a call, which one process has at a time.
+ghost use Rattle.std.specs.Prelude.{◌≡◌, [], IfOk};
+ghost use Rattle.amo_client.specs.File.{bytes_of};
+
 use crate::fault::ClientFault;
 use amo_disk::Cause;
 use std::alloc::{AllocError, Global};
@@ -88,11 +91,42 @@ fn is_named<R: Files<File = File>>(rt: &R, file: &File, path: &str) -> io::Resul
     }
 }
 
-/// Whether this is the name of a pipe or a device, which may have no end, or nothing until somebody writes.
-pub(crate) fn is_special<R: Files<File = File>>(rt: &R, path: &str) -> bool {
-    match fs::metadata(rt, path) {
-        Ok(found) => !found.is_file() && !found.is_dir(),
-        Err(_) => false,
+/// What is told of a file that keeps no call.
+pub(crate) const KEEPS_NONE: &str = "it keeps no call: what it has is left as it is";
+
+/// What is told of a link. The same call could be kept behind each name of its file.
+const IS_LINK: &str = "it is a link, and the file of a call has one name: nothing was asked";
+
+/// Why what has this name cannot be the file of a call, if that is seen before it is opened: a pipe or a device may have no end, or nothing until somebody
+/// writes.
+pub(crate) fn unfit<R: Files<File = File>>(rt: &R, path: &str) -> Option<&'static str> {
+    match fs::symlink_metadata(rt, path) {
+        Ok(found) if found.is_symlink() => Some(IS_LINK),
+        Ok(found) if !found.is_file() && !found.is_dir() => Some(KEEPS_NONE),
+        _ => None,
+    }
+}
+
+/// What the file of a call has: what was read from there, or written there, whole and on its disk; or nothing, where it is not there.
+#[derive(Debug, Drop)]
+pub(crate) struct FileText {
+    bytes: Vec<u8>,
+}
+
+impl FileText {
+    /// That of a file which is not there.
+    pub(crate) fn absent(alloc: Global) -> FileText
+        ensures { bytes_of result ≡ [] }
+    {
+        FileText {
+            bytes: Vec::new(alloc),
+        }
+    }
+
+    pub(crate) fn bytes(&self) -> &[u8]
+        ensures { result.now ≡ bytes_of self.now }
+    {
+        self.bytes.as_slice()
     }
 }
 
@@ -100,7 +134,7 @@ pub(crate) fn is_special<R: Files<File = File>>(rt: &R, path: &str) -> bool {
 pub(crate) fn read_file<R: AllocGlobal + Files<File = File>>(
     rt: &R,
     path: &str,
-) -> Result<Option<Vec<u8>>, ClientFault> {
+) -> Result<Option<FileText>, ClientFault> {
     let alloc = rt.alloc();
     let file = match fs::open(rt, path) {
         Ok(file) => file,
@@ -109,7 +143,7 @@ pub(crate) fn read_file<R: AllocGlobal + Files<File = File>>(
     };
     let mut bytes = Vec::new(alloc);
     match file.take(MOST_BYTES).read_to_end(&mut bytes) {
-        Ok(_) => Ok(Some(bytes)),
+        Ok(_) => Ok(Some(FileText { bytes })),
         Err(error) => Err(ClientFault::of_file(alloc, path, Cause::from(error))),
     }
 }
@@ -119,8 +153,10 @@ pub(crate) fn write_anew<R: Files<File = File>>(
     rt: &R,
     alloc: Global,
     path: &str,
-    text: &[u8],
-) -> io::Result<()> {
+    text: Vec<u8>,
+) -> io::Result<FileText>
+    ensures { IfOk result (λ written. bytes_of written ≡ text.items) }
+{
     let name = behind(alloc, path, NEW)?;
     let mut file: File = OpenOptions::new()
         .write(true)
@@ -128,10 +164,11 @@ pub(crate) fn write_anew<R: Files<File = File>>(
         .truncate(true)
         .mode(MODE)
         .open(rt, name.as_str())?;
-    file.write_all(text)?;
+    file.write_all(text.as_slice())?;
     file.sync_all()?;
     fs::rename(rt, name.as_str(), path)?;
-    fs::open(rt, directory_of(path))?.sync_all()
+    fs::open(rt, directory_of(path))?.sync_all()?;
+    Ok(FileText { bytes: text })
 }
 
 /// The directory in which the file of this path stands.

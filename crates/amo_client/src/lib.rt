@@ -9,6 +9,7 @@
 
 mod address;
 mod calling;
+mod ending;
 mod fault;
 mod held;
 mod message;

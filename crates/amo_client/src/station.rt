@@ -1,9 +1,10 @@
 //! From where a call is made: its file, the way to the door, and the time that it has.
 ghost use Rattle.std.specs.Prelude.{◌≡◌, IfOk, OnOk};
 ghost use Rattle.amo_call.specs.Kept.{kept_text};
+ghost use Rattle.amo_client.specs.File.{bytes_of};
 
 use crate::fault::ClientFault;
-use crate::held::write_anew;
+use crate::held::{FileText, write_anew};
 use amo_call::{Asker, CallFault, Caller, Kept, Request, Response, exchange, push_kept};
 use amo_disk::Cause;
 use std::alloc::Global;
@@ -30,6 +31,24 @@ pub(crate) struct Place {
     pub(crate) wait: u64,
 }
 
+impl Place {
+    /// That of a call which asks nothing.
+    pub(crate) fn nowhere(alloc: Global) -> Place {
+        Place {
+            who: Asker {
+                host: String::new(alloc),
+                authorization: None,
+            },
+            wait: 0,
+        }
+    }
+}
+
+/// Who knows why the last call came to nothing.
+pub(crate) trait Explains {
+    fn why(&self) -> Option<Cause>;
+}
+
 /// Who makes a call.
 #[derive(Drop)]
 pub(crate) struct Station<'a, R> {
@@ -39,19 +58,19 @@ pub(crate) struct Station<'a, R> {
     /// The path of the call's file.
     path: &'a str,
     /// What that has.
-    text: Vec<u8>,
+    text: FileText,
     since: Instant,
     /// Why the last call came to nothing.
-    pub(crate) why: Option<Cause>,
+    why: Option<Cause>,
 }
 
 impl<'a, R: AllocGlobal + Clock + Files<File = File> + Net<Stream = TcpStream>> Station<'a, R> {
-    /// One whose file has these bytes, which are none where it is not there.
+    /// One whose file has this.
     pub(crate) fn new(
         rt: &'a R,
         place: &'a Place,
         path: &'a str,
-        text: Vec<u8>,
+        text: FileText,
     ) -> Result<Station<'a, R>, ClientFault>
         ensures { IfOk result (λ station. station.text ≡ text) }
     {
@@ -73,13 +92,13 @@ impl<'a, R: AllocGlobal + Clock + Files<File = File> + Net<Stream = TcpStream>> 
 
     /// Keeps a call in the file.
     fn keep(&mut self, kept: &Kept) -> Result<(), CallFault>
-        ensures { OnOk result (self.new.text.items ≡ kept_text kept.now) }
+        ensures { OnOk result (bytes_of self.new.text ≡ kept_text kept.now) }
     {
         let mut text = Vec::new(self.alloc);
         push_kept(&mut text, kept)?;
-        match write_anew(self.rt, self.alloc, self.path, text.as_slice()) {
-            Ok(()) => {
-                self.text = text;
+        match write_anew(self.rt, self.alloc, self.path, text) {
+            Ok(written) => {
+                self.text = written;
                 Ok(())
             }
             Err(error) => {
@@ -99,8 +118,31 @@ impl<'a, R: AllocGlobal + Clock + Files<File = File> + Net<Stream = TcpStream>> 
         }
     }
 
+    /// How a stream is, asked for until its last message has settled, or its next one is ready, as long as there is time. None where no answer came.
+    pub(crate) fn settle(&mut self, stream: u32) -> Result<Option<Response>, CallFault> {
+        'asks: for _ask in 0..u64::MAX {
+            let request = Request::state(self.alloc, stream, self.left().min(MOST_WAIT))?;
+            let response = self.inquire(&request)?;
+            if is_settled(&response) || !self.pause() {
+                return Ok(response);
+            }
+        }
+        Err(CallFault::Strange)
+    }
+
+    /// A way to the door, as long as there is time. None where there is none, and why is kept.
+    pub(crate) fn find(&mut self) -> Option<TcpStream> {
+        'tries: for _try in 0..u64::MAX {
+            let way = self.reach();
+            if way.is_some() || !self.pause() {
+                return way;
+            }
+        }
+        None
+    }
+
     /// A way to the door. None where there is none, and why is kept.
-    pub(crate) fn reach(&mut self) -> Option<TcpStream>
+    fn reach(&mut self) -> Option<TcpStream>
         ensures { self.new.text ≡ self.old.text }
     {
         match self.connect() {
@@ -132,7 +174,7 @@ impl<'a, R: AllocGlobal + Clock + Files<File = File> + Net<Stream = TcpStream>> 
 
 impl<R: AllocGlobal + Clock + Files<File = File> + Net<Stream = TcpStream>> Caller
     for Station<'_, R> {
-    ghost saved = { λ s. s.text.items };
+    ghost saved = { λ s. bytes_of s.text };
 
     // No clause says what a connection carries: whatever came over it counts as an answer.
     ghost is_fresh = { λ _. Unit {0} };
@@ -156,7 +198,11 @@ impl<R: AllocGlobal + Clock + Files<File = File> + Net<Stream = TcpStream>> Call
     }
 
     fn ask(&mut self, request: &Request) -> Result<Option<Response>, CallFault> {
-        self.inquire(request)
+        // A question that is put off has no answer yet: else a crowded door would be taken for one that refuses it.
+        match self.inquire(request)? {
+            Some(response) if is_put_off(response.status) => Ok(None),
+            answer => Ok(answer),
+        }
     }
 
     fn pause(&mut self) -> bool {
@@ -166,4 +212,32 @@ impl<R: AllocGlobal + Clock + Files<File = File> + Net<Stream = TcpStream>> Call
         thread::sleep(self.rt, Duration::from_millis(REST));
         true
     }
+}
+
+impl<R> Explains for Station<'_, R> {
+    fn why(&self) -> Option<Cause> {
+        self.why
+    }
+}
+
+/// Whether an answer is the last one that is asked for: not how a stream is whose last message is on its way, or whose next one is not there, and no wish to
+/// be asked later.
+fn is_settled(response: &Option<Response>) -> bool {
+    match response {
+        Some(response) => {
+            !is_put_off(response.status)
+                && !(response.status == 200 && is_open(response.body.as_slice()))
+        }
+        None => false,
+    }
+}
+
+/// Whether a status asks to try later.
+fn is_put_off(status: u16) -> bool {
+    status == 408 || status == 503
+}
+
+/// Whether the text of how a stream is ends with that its last message is on its way, or its next one not there.
+fn is_open(state: &[u8]) -> bool {
+    state.ends_with(b"\"last\":\"open\"}") || state.ends_with(b"\"ready\":false}")
 }

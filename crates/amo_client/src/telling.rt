@@ -53,15 +53,27 @@ pub(crate) fn tell_put<R: AllocGlobal + Eprint + Print>(
             );
             say(rt, "unknown", UNKNOWN)
         }
-        PutTold::Full => {
+        PutTold::Later(response) => {
+            tell_answer(rt, "it was not put yet: the door puts it off", &response);
+            Ok(NOT_IN_TIME)
+        }
+        PutTold::NoNumber => {
             let _ = eprintln!(rt;
-                "amo: the host has no room, or comes to its end: it was not put yet"
+                "amo: it was not put: the stream has no number more in this life of its host"
             );
             Ok(NOT_IN_TIME)
         }
         PutTold::NoAnswer => Ok(tell_no_answer(rt, why)),
         PutTold::OtherCall => Ok(tell_other_call(rt, path)),
         PutTold::Refused(response) => Ok(tell_refusal(rt, &response)),
+        PutTold::Untold(response) => {
+            tell_answer(
+                rt,
+                "whether it was put is not known: the door refuses to tell",
+                &response,
+            );
+            say(rt, "unknown", UNKNOWN)
+        }
     }
 }
 
@@ -173,16 +185,24 @@ pub(crate) fn tell_nothing_taken<R: Eprint>(rt: &R, path: &str) -> u8
 pub(crate) fn tell_refusal<R: Eprint>(rt: &R, response: &Response) -> u8
     ensures { result ≡ 10 }
 {
+    if response.status == DONE {
+        let _ = eprintln!(rt;
+            "amo: the door answers, and not to this: is its host of the other side?"
+        );
+    } else {
+        tell_answer(rt, "the door refuses it", response);
+    }
+    REFUSED
+}
+
+/// Tells this, and what the door answers: its status, and the word that it has for programs.
+fn tell_answer<R: Eprint>(rt: &R, what: &str, response: &Response) {
     let status = response.status;
     let _ = match read_refusal(response) {
         Some(word) => match std::str::from_utf8(word.bytes()) {
-            Ok(word) => eprintln!(rt; "amo: the door refuses it: {status} {word}"),
-            Err(_) => eprintln!(rt; "amo: the door refuses it: {status}"),
+            Ok(word) => eprintln!(rt; "amo: {what}: {status} {word}"),
+            Err(_) => eprintln!(rt; "amo: {what}: {status}"),
         },
-        None if status == DONE => eprintln!(rt;
-            "amo: the door answers, and not to this: is its host of the other side?"
-        ),
-        None => eprintln!(rt; "amo: the door refuses it: {status}"),
+        None => eprintln!(rt; "amo: {what}: {status}"),
     };
-    REFUSED
 }

@@ -3,7 +3,8 @@ ghost use Rattle.std.specs.Prelude.{IfOk};
 ghost use Rattle.amo_client.specs.Statuses.{IsOfWatch};
 
 use crate::fault::ClientFault;
-use crate::station::{Place, Station};
+use crate::held::FileText;
+use crate::station::{Explains, Place, Station};
 use crate::telling::{tell_no_answer, tell_refusal};
 use amo_call::{Followed, follow};
 use std::fs::File;
@@ -20,9 +21,9 @@ pub(crate) fn watch<
 {
     let alloc = rt.alloc();
     let mut output = output;
-    let mut station = Station::new(rt, place, "", Vec::new(alloc))?;
-    let Some(mut stream) = station.reach() else {
-        return Ok(tell_no_answer(rt, station.why));
+    let mut station = Station::new(rt, place, "", FileText::absent(alloc))?;
+    let Some(mut stream) = station.find() else {
+        return Ok(tell_no_answer(rt, station.why()));
     };
     match follow(alloc, &mut stream, &place.who, after, &mut output) {
         Ok(Followed::Ended) => Ok(tell_no_answer(rt, None)),

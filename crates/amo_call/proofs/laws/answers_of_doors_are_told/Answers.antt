@@ -1,6 +1,6 @@
 use Rattle.std.proofs.Common.{◌≡◌, ℕ, List, ◌++◌, ◌⊎◌, true, false, codes, inl, inr, ◌∙◌, ap}
 use Rattle.std.specs.Fmt.{decimal}
-use Rattle.amo_door.specs.Answer.{last_value, place_members, put_body, receiver_members, refusal_members, sender_members, status_of_put, stream_members, truth}
+use Rattle.amo_door.specs.Answer.{IsRefusal, last_value, place_members, put_body, receiver_members, refusal_members, sender_members, status_of_put, stream_members, truth}
 use Rattle.amo_door.specs.declared.answer.ReceiverState.{ReceiverState}
 use Rattle.amo_door.specs.declared.answer.SenderState.{SenderState}
 use Rattle.amo_door.specs.declared.answer.When.{When}
@@ -9,9 +9,10 @@ use Rattle.amo_door.specs.declared.claim.Made.{Made}
 use Rattle.amo_door.specs.declared.refusal.Refusal.{Refusal}
 use Rattle.amo_door.specs.Json.{quoted}
 use Rattle.amo_door.specs.Refusal.{word_of}
-use Rattle.amo_call.specs.Answer.{event_members, state_members}
+use Rattle.amo_call.specs.declared.answer.Response.{Response}
+use Rattle.amo_call.specs.Answer.{event_members, is_door_status, state_members, TellsRefusal}
 use Rattle.amo_call.proofs.Steps.{put_regroup, receiver_regroup, refusal_regroup, sender_regroup}
-use Rattle.amo_call.proofs.Words.{IsWord-word_of}
+use Rattle.amo_call.proofs.Words.{IsWord-word_of, of_door}
 use Rattle.amo_call.proofs.laws.answers_of_doors_are_told.Goals as goal
 
 which : (w : When) (status : ℕ) → status ≡ status_of_put w → (status ≡ 200) ⊎ (status ≡ 201)
@@ -63,9 +64,15 @@ returns-clause-receiver c = λ life stream state response is_word fits status bo
   body = body ∙ receiver_parts life stream state;
 }
 
-pub returns-clause-refusal : goal.returns-clause-refusal
-returns-clause-refusal c = λ reason more response is. record {
+tells : (reason : Refusal) (more : List ℕ) (response : Response) → IsRefusal reason more response.body.items → TellsRefusal (word_of reason) response
+tells reason more response is = record {
   is_word = IsWord-word_of reason;
   rest = codes ",\"text\":" ++ quoted is.sentence ++ more ++ codes "}";
   body = is.body_is ∙ refusal_parts reason is.sentence more;
 }
+
+pub returns-clause-refusal : goal.returns-clause-refusal
+returns-clause-refusal c = tells
+
+pub returns-clause-door : goal.returns-clause-door
+returns-clause-door c = λ reason more response status is. (ap is_door_status status ∙ of_door reason, inr (word_of reason, tells reason more response is))

@@ -4,16 +4,17 @@ use Rattle.amo_call.specs.declared.answer.StreamState.{StreamState}
 use Rattle.amo_call.specs.declared.kept.Progress.TheVariants as progress
 use Rattle.amo_call.specs.Answer.{TellsState}
 use Rattle.amo_call.specs.Heard.{ToQuestion}
-use Rattle.amo_call.specs.Naming.{MayPut, NamesPut}
-use Rattle.amo_call.specs.Puts.{IsLast, OfState}
+use Rattle.amo_call.specs.Naming.{NamesPut}
+use Rattle.amo_call.specs.Puts.{MayPut, OfState}
 use Rattle.amo_call.proofs.Puts.{at_some}
 use Rattle.amo_call.proofs.Steps.{at_none}
 use Rattle.amo_call.proofs.putting.begin.Goals as goal
 
 pub returns-in_default-read_state : goal.returns-in_default-read_state
 returns-in_default-read_state g c =
-    let heard = g.C.Caller.heard in
-    OfState (record {
+    let C = g.C.Caller in
+    let heard = C.heard in
+    OfState (subst (λ (s : List ℕ). MayPut heard c.args.order.now s) (sym c.ask_until.ensures.saved) c.requires) (record {
       request = c.in_ok-request.request;
       asked = record { method_is = c.in_ok-request.ensures.method; target_is = c.in_ok-request.ensures.target };
       answered = at_some c.in_ok-response.field-0 (λ (r : Response). heard (ToQuestion c.in_ok-request.request r)) c.in-Some.response c.in-Some.is c.in_ok-response.ensures.heard;
@@ -26,11 +27,17 @@ returns-in_default-checked_add g c =
     let told = c.in-Some-read_state.ensures.found in
     let fits : c.in-Some-read_state.state.last < 2 ^ 64 = told.fits in
     let none : ¬ (c.in-Some-read_state.state.last + 1 < 2 ^ 64) = c.in_default-checked_add.ensures in
-    IsLast c.in-Some.response c.in-Some-read_state.state (record {
-      request = c.in_ok-request.request;
-      asked = record { method_is = c.in_ok-request.ensures.method; target_is = c.in_ok-request.ensures.target };
-      answered = at_some c.in_ok-response.field-0 (λ (r : Response). heard (ToQuestion c.in_ok-request.request r)) c.in-Some.response c.in-Some.is c.in_ok-response.ensures.heard;
-    }) told (omega (arith, fits, none))
+    record {
+      response = c.in-Some.response;
+      answered = record {
+        request = c.in_ok-request.request;
+        asked = record { method_is = c.in_ok-request.ensures.method; target_is = c.in_ok-request.ensures.target };
+        answered = at_some c.in_ok-response.field-0 (λ (r : Response). heard (ToQuestion c.in_ok-request.request r)) c.in-Some.response c.in-Some.is c.in_ok-response.ensures.heard;
+      };
+      state = c.in-Some-read_state.state;
+      told = told;
+      last = omega (arith, fits, none);
+    }
 
 pub returns : goal.returns
 returns g c =

@@ -2,8 +2,7 @@ use Rattle.std.proofs.Common.{◌≡◌, [], sym, subst}
 use Rattle.std.specs.Prelude.{IfOk, Option}
 use Rattle.amo_call.specs.declared.kept.Kept.{Kept}
 use Rattle.amo_call.specs.Kept.{kept_text}
-use Rattle.amo_call.specs.Naming.{PutsFirst}
-use Rattle.amo_call.specs.Puts.{ComesTo, HasPut}
+use Rattle.amo_call.specs.Puts.{ComesTo, HasPut, PutsFirst}
 use Rattle.amo_call.proofs.Puts.{at_some, begins_ok, is_resumed}
 use Rattle.amo_call.proofs.Steps.{at_none}
 use Rattle.amo_call.proofs.putting.begin_or_resume.Goals as goal

@@ -1,22 +1,23 @@
 use Rattle.std.proofs.Common.{ℕ, true, refl, subst, arith}
 use Rattle.amo_call.specs.Answer.{TellsConflict}
-use Rattle.amo_call.specs.Naming.{PutsAnew}
-use Rattle.amo_call.specs.Puts.{IsFound, IsTaken, OfCall, WasRefused}
-use Rattle.amo_call.proofs.Puts.{goes_on_ok}
+use Rattle.amo_call.specs.Puts.{IsFound, IsTaken, PutsAnew, WasRefused}
+use Rattle.amo_call.proofs.Puts.{goes_on_ok, told_as_refused}
 use Rattle.amo_call.proofs.Steps.{at_none}
 use Rattle.amo_call.proofs.putting.look_at_conflict.Goals as goal
 
 pub returns-in_default : goal.returns-in_default
 returns-in_default g c =
+    let C = g.C.Caller in
+    let caller = c.args.caller.now in
     let kept = c.args.turn.kept in
     let status = c.requires.status in
-    OfCall kept (IsFound kept refl) c.requires.putting c.requires.answered.call (record {
+    told_as_refused C.heard c.args.order.now (C.is_silent caller) (C.saved caller) c.args.turn c.args.response c.told_of_refusal.result c.requires.putting c.requires.answered (record {
       no_place = c.requires.no_place;
       no_conflict = at_none c.read_conflict.result ((last : ℕ) → ¬ (TellsConflict kept.claim true last c.args.response)) c.in_default.is c.read_conflict.ensures.none;
       no_other_life = λ e. omega (arith, e, status);
       no_slowness = λ e. omega (arith, e, status);
       no_delay = λ e. omega (arith, e, status);
-    })
+    }) c.told_of_refusal.ensures
 
 pub returns-then-turn : goal.returns-then-turn
 returns-then-turn g c =

@@ -3,8 +3,7 @@ use Rattle.amo_door.specs.declared.answer.Fate.{Fate}
 use Rattle.amo_call.specs.declared.answer.Response.{Response}
 use Rattle.amo_call.specs.Answer.{TellsFate}
 use Rattle.amo_call.specs.Heard.{ToQuestion}
-use Rattle.amo_call.specs.Naming.{PutsAnew}
-use Rattle.amo_call.specs.Puts.{IsFound, NeverWas, OfFate}
+use Rattle.amo_call.specs.Puts.{IsFound, NeverWas, OfFate, PutsAnew}
 use Rattle.amo_call.proofs.Puts.{at_some, goes_on_ok}
 use Rattle.amo_call.proofs.Steps.{at_none}
 use Rattle.amo_call.proofs.putting.look_at_fate.Goals as goal

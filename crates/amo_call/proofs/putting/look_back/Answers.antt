@@ -1,5 +1,4 @@
-use Rattle.amo_call.specs.Naming.{PutsAnew}
-use Rattle.amo_call.specs.Puts.{IsLate}
+use Rattle.amo_call.specs.Puts.{IsLate, PutsAnew}
 use Rattle.amo_call.proofs.Puts.{goes_on_ok}
 use Rattle.amo_call.proofs.putting.look_back.Goals as goal
 
