@@ -1,8 +1,9 @@
 -- The program's commands, as `clap` defines their matches.
-use Rattle.std.specs.Prelude.{◌≡◌, ℕ, true, false, codes, Some, List, [], ◌∷◌, map}
+use Rattle.std.specs.Prelude.{◌≡◌, ℕ, true, false, codes, Some, Result, Ok, IfOk, List, [], ◌∷◌, map}
 use Rattle.std.specs.Borrow.{Bor}
-use Rattle.clap.specs.Words.{App, Rule, Text, app_of, new_app, new_rule, with_rule, with_subcommand}
+use Rattle.clap.specs.Words.{AddsArg, AddsSubcommand, App, Rule, Text, app_of, new_app, new_rule, with_rule, with_subcommand}
 use Rattle.clap.specs.declared.builder.action.ArgAction.TheVariants.{Set, SetTrue}
+use Rattle.clap.specs.declared.builder.arg.Arg.{Arg}
 use Rattle.clap.specs.declared.builder.command.Command.{Command}
 use Rattle.clap.specs.declared.builder.command.Command.TheViews.{out-Command}
 use Rattle.clap.specs.declared.builder.value_parser.ValueParser.TheVariants as parser
@@ -84,11 +85,10 @@ IsShell rule = (names : Names) × AreShells names × (rule ≡ shell names)
 abbrev pub replay : App
 replay = with_rule (new_app (codes "replay")) file
 
-abbrev pub run_before_link : App
-run_before_link = with_rule (with_rule (with_rule (with_rule (new_app (codes "run")) (number (codes "streams") 1 256)) (number (codes "clients") 1 56)) (number (codes "crashes") 0 1000)) (text (codes "seed"))
-
 abbrev pub run : Names → App
-run links = with_rule (with_rule (with_rule (with_rule (with_rule run_before_link (link links)) (text (codes "journal"))) pumps) (flag (codes "split"))) (flag (codes "batch"))
+run links =
+    with_rule (with_rule (with_rule (with_rule (with_rule (with_rule (with_rule (with_rule (with_rule (new_app (codes "run")) (number (codes "streams") 1 256))
+    (number (codes "clients") 1 56)) (number (codes "crashes") 0 1000)) (text (codes "seed"))) (link links)) (text (codes "journal"))) pumps) (flag (codes "split"))) (flag (codes "batch"))
 
 -- what both hosts of a pair are told: where they are, of how many streams, and which journal is theirs
 abbrev pub placed : Text → App
@@ -113,22 +113,17 @@ receive = with_rule (host (codes "receive")) (optional_number (codes "count") 0 
 abbrev pub stop : App
 stop = with_rule (new_app (codes "stop")) file
 
--- the door of a host of one of the sides, and what that host is told
-abbrev pub served : App
-served = with_rule (with_rule (with_rule (placed (codes "serve")) (text (codes "side"))) (text (codes "door"))) (optional_text (codes "token-file"))
-
+-- a host with a door: its side, its door, and what both hosts of a pair are told
 abbrev pub serve : App
-serve = limited (with_rule (with_rule (with_rule served tick) (flag (codes "batch"))) (flag (codes "sync")))
+serve =
+    limited (with_rule (with_rule (with_rule (with_rule (with_rule (with_rule (placed (codes "serve")) (text (codes "side"))) (text (codes "door"))) (optional_text (codes "token-file"))) tick)
+    (flag (codes "batch"))) (flag (codes "sync")))
 
--- which call of a door is made, with the message of a put
-abbrev pub called : App
-called = with_rule (with_rule (with_rule (new_app (codes "call")) (needed (codes "CALL"))) (offered (codes "MESSAGE"))) (text (codes "door"))
-
--- and of which stream, by which file and token, and how
+-- a call of a door: which, with the message of a put, of which stream, by which file and token, and how
 abbrev pub call : App
 call =
-    with_rule (with_rule (with_rule (with_rule (with_rule (with_rule called stream) (optional_text (codes "state")))
-    (optional_text (codes "token-file"))) (optional_number (codes "wait") 0 1000000)) (optional_number (codes "after") 0 18446744073709551615)) (flag (codes "hex"))
+    with_rule (with_rule (with_rule (with_rule (with_rule (with_rule (with_rule (with_rule (with_rule (new_app (codes "call")) (needed (codes "CALL"))) (offered (codes "MESSAGE"))) (text (codes "door"))) stream)
+    (optional_text (codes "state"))) (optional_text (codes "token-file"))) (optional_number (codes "wait") 0 1000000)) (optional_number (codes "after") 0 18446744073709551615)) (flag (codes "hex"))
 
 abbrev pub audit : App
 audit = with_rule (with_rule (new_app (codes "audit")) file) second_file
@@ -152,36 +147,33 @@ completions shells = with_rule (new_app (codes "completions")) (shell shells)
 abbrev pub bare : App
 bare = let app = new_app (codes "amo") in record app { top = record app.top { has_version = true; subcommand_required = true; arg_required_else_help = true } }
 
-abbrev pub running : Names → App
-running links = with_subcommand (with_subcommand (with_subcommand (with_subcommand bare replay.top) (run links).top) send.top) receive.top
-
-abbrev pub acting : Names → App
-acting links = with_subcommand (with_subcommand (with_subcommand (running links) stop.top) serve.top) call.top
-
-abbrev pub telling : Names → App
-telling links = with_subcommand (with_subcommand (with_subcommand (with_subcommand (acting links) audit.top) explain.top) outcomes.top) got.top
-
 abbrev pub amo : Names → Names → App
-amo links shells = with_subcommand (with_subcommand (telling links) manual.top) (completions shells).top
+amo links shells =
+    with_subcommand (with_subcommand (with_subcommand (with_subcommand (with_subcommand (with_subcommand (with_subcommand (with_subcommand (with_subcommand (with_subcommand (with_subcommand
+    (with_subcommand (with_subcommand bare replay.top) (run links).top) send.top) receive.top) stop.top) serve.top) call.top) audit.top) explain.top) outcomes.top) got.top) manual.top)
+    (completions shells).top
 
 -- the command is this one, and shares no argument with commands below it
 abbrev pub IsCommand : App → Command → Type 0
 IsCommand app command = (app_of command ≡ app) × ((out-Command command).has_globals ≡ false)
 
-abbrev pub IsRun : Command → Type 0
-IsRun command = (links : Names) × AreLinks links × IsCommand (run links) command
+-- the same, where there was memory for it
+abbrev pub Describes : {E : Type 0} → App → Result Command E → Type 0
+Describes app command = IfOk command (IsCommand app)
 
-abbrev pub IsRunning : Command → Type 0
-IsRunning command = (links : Names) × AreLinks links × (app_of command ≡ running links)
+abbrev pub IsRun : {E : Type 0} → Result Command E → Type 0
+IsRun command = (links : Names) × AreLinks links × Describes (run links) command
 
-abbrev pub IsActing : Command → Type 0
-IsActing command = (links : Names) × AreLinks links × (app_of command ≡ acting links)
-
-abbrev pub IsTelling : Command → Type 0
-IsTelling command = (links : Names) × AreLinks links × (app_of command ≡ telling links)
-
-abbrev pub IsCompletions : Command → Type 0
-IsCompletions command = (shells : Names) × AreShells shells × IsCommand (completions shells) command
+abbrev pub IsCompletions : {E : Type 0} → Result Command E → Type 0
+IsCompletions command = (shells : Names) × AreShells shells × Describes (completions shells) command
 
 abbrev pub IsAmo : Command → Type 0
 IsAmo command = (links : Names) × AreLinks links × ((shells : Names) × AreShells shells × (app_of command ≡ amo links shells))
+
+-- one argument more, where there was memory for both
+abbrev pub HasOneMore : {E : Type 0} → Result Command E → Arg → Result Command E → Type 0
+HasOneMore before argument after = IfOk after (λ new. (old : Command) × (before ≡ Ok old) × AddsArg old argument new)
+
+-- one command more under it, where there was memory for both
+abbrev pub HasOneUnder : {E : Type 0} → Result Command E → Result Command E → Result Command E → Type 0
+HasOneUnder before under after = IfOk after (λ new. (old sub : Command) × (before ≡ Ok old) × (under ≡ Ok sub) × AddsSubcommand old sub new)

@@ -242,7 +242,7 @@ fn parse_side(alloc: Global, matches: &ArgMatches<'_>) -> Result<ServedSide, Unf
     }
 }
 
-/// The settings that the arguments of `serve` choose for its host.
+/// The settings that the options choose which every host has, also one with a door.
 fn parse_served_host(alloc: Global, matches: &ArgMatches<'_>) -> Result<HostSettings, Unfit>
     ensures { IfOk result (HasServedHost (rows_of (found_of matches.now))) }
 {
@@ -370,31 +370,16 @@ fn parse_got(alloc: Global, matches: &ArgMatches<'_>) -> Result<GotSettings, Unf
 fn parse_host(alloc: Global, matches: &ArgMatches<'_>) -> Result<HostSettings, Unfit>
     ensures { IfOk result (HasHost (rows_of (found_of matches.now))) }
 {
-    let listen = address_of(alloc, matches, "listen", "0.0.0.0", 0)?;
-    let peer = address_of(alloc, matches, "peer", "127.0.0.1", 1)?;
-    check_apart(alloc, listen.as_str(), peer.as_str())?;
-    let streams = number_of(alloc, matches, "streams", 1, STREAMS)?;
-    let journal = journal_of(alloc, matches)?;
-    let tick = number_of(alloc, matches, "tick", 1, TICK)?;
+    let plain = parse_served_host(alloc, matches)?;
     let tick_most = number_or_none_of(alloc, matches, "tick-most", 1, TICK_MOST)?;
-    check_ceiling(alloc, tick, tick_most)?;
+    check_ceiling(alloc, plain.tick, tick_most)?;
     let json = flag_of(alloc, matches, "json")?;
-    let sync = flag_of(alloc, matches, "sync")?;
-    let wait = number_or_none_of(alloc, matches, "wait", 0, WAIT)?;
-    let piece = number_or_none_of(alloc, matches, "piece", LEAST_PIECE, PIECE)?;
     let stats = number_or_none_of(alloc, matches, "stats", 1, STATS)?;
     Ok(HostSettings {
-        listen,
-        peer,
-        streams,
-        journal,
-        tick,
         tick_most,
         json,
-        sync,
-        wait,
-        piece,
         stats,
+        ..plain
     })
 }
 

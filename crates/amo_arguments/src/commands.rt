@@ -3,6 +3,7 @@ ghost use Rattle.std.specs.Prelude.{◌≡◌, IfOk, false};
 ghost use Rattle.clap.specs.Words.{App, app_of, new_app, rule_of};
 ghost use Rattle.amo_arguments.specs.Commands as described;
 
+use crate::description::Description;
 use crate::texts;
 use clap::builder::ValueParser;
 use clap::{Arg, ArgAction, Command};
@@ -45,60 +46,39 @@ static SHELLS: [&str; 3] = ["bash", "zsh", "fish"];
 pub fn command<'a>(alloc: Global) -> Result<Command<'a>, AllocError>
     ensures { IfOk result described.IsAmo }
 {
-    telling(alloc)?
-        .subcommand(manual(alloc))?
-        .subcommand(completions(alloc)?)
-}
-
-/// The program with those of its commands that have something happen, or tell what has happened, and no others.
-fn telling<'a>(alloc: Global) -> Result<Command<'a>, AllocError>
-    ensures { IfOk result described.IsTelling }
-{
-    acting(alloc)?
-        .subcommand(audit(alloc)?)?
-        .subcommand(explain(alloc)?)?
-        .subcommand(outcomes(alloc)?)?
-        .subcommand(got(alloc)?)
-}
-
-/// The program with those of its commands that have something happen, and no others.
-fn acting<'a>(alloc: Global) -> Result<Command<'a>, AllocError>
-    ensures { IfOk result described.IsActing }
-{
-    running(alloc)?
-        .subcommand(stop(alloc)?)?
-        .subcommand(serve(alloc)?)?
-        .subcommand(call(alloc)?)
-}
-
-/// The program with those of its commands that replay a schedule, run the service, or run a host that has no door, and no others.
-fn running<'a>(alloc: Global) -> Result<Command<'a>, AllocError>
-    ensures { IfOk result described.IsRunning }
-{
-    bare(alloc)?
-        .subcommand(replay(alloc)?)?
-        .subcommand(run(alloc)?)?
-        .subcommand(send(alloc)?)?
-        .subcommand(receive(alloc)?)
+    bare(alloc)
+        .subcommand(replay(alloc))
+        .subcommand(run(alloc))
+        .subcommand(send(alloc))
+        .subcommand(receive(alloc))
+        .subcommand(stop(alloc))
+        .subcommand(serve(alloc))
+        .subcommand(call(alloc))
+        .subcommand(audit(alloc))
+        .subcommand(explain(alloc))
+        .subcommand(outcomes(alloc))
+        .subcommand(got(alloc))
+        .subcommand(manual(alloc))
+        .subcommand(completions(alloc))
+        .into_command()
 }
 
 /// The program without its commands.
-fn bare<'a>(alloc: Global) -> Result<Command<'a>, AllocError>
-    ensures { IfOk result (λ command. app_of command ≡ described.bare) }
+fn bare<'a>(alloc: Global) -> Description<'a>
+    ensures { IfOk result.command (λ command. app_of command ≡ described.bare) }
 {
-    let named = Command::new(alloc, NAME).bin_name(NAME)?;
-    Ok(
-        named
-            .version(texts::VERSION)
-            .about(texts::ABOUT)
-            .after_help(texts::AFTER_HELP)
-            .subcommand_required(true)
-            .arg_required_else_help(true),
-    )
+    let command = Command::new(alloc, NAME)
+        .version(texts::VERSION)
+        .about(texts::ABOUT)
+        .after_help(texts::AFTER_HELP)
+        .subcommand_required(true)
+        .arg_required_else_help(true)
+        .bin_name(NAME);
+    Description { command }
 }
 
-fn replay<'a>(alloc: Global) -> Result<Command<'a>, AllocError>
-    ensures { IfOk result (described.IsCommand described.replay) }
+fn replay<'a>(alloc: Global) -> Description<'a>
+    ensures { described.Describes described.replay result.command }
 {
     with_texts(
         alloc,
@@ -109,28 +89,8 @@ fn replay<'a>(alloc: Global) -> Result<Command<'a>, AllocError>
     .arg(file(alloc, "The schedule"))
 }
 
-fn run<'a>(alloc: Global) -> Result<Command<'a>, AllocError>
-    ensures { IfOk result described.IsRun }
-{
-    run_before_link(alloc)?
-        .arg(link(alloc))?
-        .arg(text(alloc, "journal", "FILE", "Where the journal goes"))?
-        .arg(pumps(alloc))?
-        .arg(flag(
-            alloc,
-            "split",
-            "Gives each host a book and a journal of its own, FILE.s and FILE.r",
-        ))?
-        .arg(flag(
-            alloc,
-            "batch",
-            "Sends the messages that wait on a stream together, up to four",
-        ))
-}
-
-/// `run` with its numbers and its seed.
-fn run_before_link<'a>(alloc: Global) -> Result<Command<'a>, AllocError>
-    ensures { IfOk result (described.IsCommand described.run_before_link) }
+fn run<'a>(alloc: Global) -> Description<'a>
+    ensures { described.IsRun result.command }
 {
     with_texts(alloc, "run", texts::RUN_ABOUT, texts::RUN_AFTER_HELP)
         .arg(number(
@@ -139,48 +99,61 @@ fn run_before_link<'a>(alloc: Global) -> Result<Command<'a>, AllocError>
             1,
             STREAMS,
             "The number of streams, 1 to 256",
-        ))?
+        ))
         .arg(number(
             alloc,
             "clients",
             1,
             CLIENTS,
             "The number of clients, 1 to 56",
-        ))?
+        ))
         .arg(number(
             alloc,
             "crashes",
             0,
             CRASHES,
             "The number of crashes, 0 to 1000",
-        ))?
+        ))
         .arg(text(
             alloc,
             "seed",
             "HEX",
             "What identifiers and losses are drawn from, 64 digits",
         ))
+        .arg(link(alloc))
+        .arg(text(alloc, "journal", "FILE", "Where the journal goes"))
+        .arg(pumps(alloc))
+        .arg(flag(
+            alloc,
+            "split",
+            "Gives each host a book and a journal of its own, FILE.s and FILE.r",
+        ))
+        .arg(flag(
+            alloc,
+            "batch",
+            "Sends the messages that wait on a stream together, up to four",
+        ))
 }
 
-pub(crate) fn send<'a>(alloc: Global) -> Result<Command<'a>, AllocError>
-    ensures { IfOk result (described.IsCommand described.send) }
+pub(crate) fn send<'a>(alloc: Global) -> Description<'a>
+    ensures { described.Describes described.send result.command }
 {
-    host(alloc, "send", texts::SEND_ABOUT, texts::SEND_AFTER_HELP)?
+    host(alloc, "send", texts::SEND_ABOUT, texts::SEND_AFTER_HELP)
         .arg(flag(
             alloc,
             "each",
             "Puts a stream's next message once the last one's answer came, as without it",
-        ))?
+        ))
         .arg(flag(
             alloc,
             "many",
             "Puts it while the last ones have no answer yet, and up to 16 wait",
-        ))?
+        ))
         .arg(flag(
             alloc,
             "batch",
             "The same, and sends those that wait on a stream together, up to four",
-        ))?
+        ))
         .arg(flag(
             alloc,
             "hex",
@@ -188,15 +161,15 @@ pub(crate) fn send<'a>(alloc: Global) -> Result<Command<'a>, AllocError>
         ))
 }
 
-fn receive<'a>(alloc: Global) -> Result<Command<'a>, AllocError>
-    ensures { IfOk result (described.IsCommand described.receive) }
+fn receive<'a>(alloc: Global) -> Description<'a>
+    ensures { described.Describes described.receive result.command }
 {
     host(
         alloc,
         "receive",
         texts::RECEIVE_ABOUT,
         texts::RECEIVE_AFTER_HELP,
-    )?
+    )
     .arg(optional_number(
         alloc,
         "count",
@@ -208,95 +181,81 @@ fn receive<'a>(alloc: Global) -> Result<Command<'a>, AllocError>
     ))
 }
 
-fn serve<'a>(alloc: Global) -> Result<Command<'a>, AllocError>
-    ensures { IfOk result (described.IsCommand described.serve) }
+fn serve<'a>(alloc: Global) -> Description<'a>
+    ensures { described.Describes described.serve result.command }
 {
-    let served = served(alloc)?
-        .arg(tick(alloc))?
-        .arg(flag(
-            alloc,
-            "batch",
-            "Sends the messages that wait on a stream together, up to four",
-        ))?
-        .arg(flag(
-            alloc,
-            "sync",
-            "Puts the journal on its disk before answers and packets leave",
-        ))?;
-    limited(alloc, served)
-}
-
-/// `serve` with what it is told of the host that has a door, and of that door.
-fn served<'a>(alloc: Global) -> Result<Command<'a>, AllocError>
-    ensures { IfOk result (described.IsCommand described.served) }
-{
-    placed(
+    let served = placed(
         alloc,
         "serve",
         texts::SERVE_ABOUT,
         texts::SERVE_AFTER_HELP,
         "Where it listens for the other host, as 127.0.0.1:7001",
-    )?
+    )
     .arg(text(
         alloc,
         "side",
         "SIDE",
         "Whether it sends or receives: `send` or `receive`",
-    ))?
+    ))
     .arg(text(
         alloc,
         "door",
         "ADDR",
         "Where programs ask it over HTTP, as 127.0.0.1:7003",
-    ))?
+    ))
     .arg(optional_text(
         alloc,
         "token-file",
         "FILE",
         "The token that each request has to bring stands there",
     ))
+    .arg(tick(alloc))
+    .arg(flag(
+        alloc,
+        "batch",
+        "Sends the messages that wait on a stream together, up to four",
+    ))
+    .arg(flag(
+        alloc,
+        "sync",
+        "Puts the journal on its disk before answers and packets leave",
+    ));
+    limited(alloc, served)
 }
 
-/// `call` with what is asked, and where.
-fn called<'a>(alloc: Global) -> Result<Command<'a>, AllocError>
-    ensures { IfOk result (described.IsCommand described.called) }
+fn call<'a>(alloc: Global) -> Description<'a>
+    ensures { described.Describes described.call result.command }
 {
     with_texts(alloc, "call", texts::CALL_ABOUT, texts::CALL_AFTER_HELP)
         .arg(needed(
             alloc,
             "CALL",
             "What is asked: `put`, `get`, `done`, `status` or `watch`",
-        ))?
+        ))
         .arg(offered(
             alloc,
             "MESSAGE",
             "The message to put; standard input has it if absent",
-        ))?
+        ))
         .arg(text(
             alloc,
             "door",
             "ADDR",
             "Where the host is asked, as 127.0.0.1:7003",
         ))
-}
-
-fn call<'a>(alloc: Global) -> Result<Command<'a>, AllocError>
-    ensures { IfOk result (described.IsCommand described.call) }
-{
-    called(alloc)?
-        .arg(stream(alloc))?
+        .arg(stream(alloc))
         .arg(optional_text(
             alloc,
             "state",
             "FILE",
             "Keeps the call, so that it is made once; of `put`, `get` and `done`",
-        ))?
+        ))
         .arg(optional_text(
             alloc,
             "token-file",
             "FILE",
             "The token that the door wants stands there",
-        ))?
+        ))
         .arg(optional_number(
             alloc,
             "wait",
@@ -304,7 +263,7 @@ fn call<'a>(alloc: Global) -> Result<Command<'a>, AllocError>
             0,
             WAIT,
             "How long it is tried again where it does not come about, 0 to 1000000",
-        ))?
+        ))
         .arg(optional_number(
             alloc,
             "after",
@@ -312,7 +271,7 @@ fn call<'a>(alloc: Global) -> Result<Command<'a>, AllocError>
             0,
             u64::MAX,
             "Watches from behind this line of the journal on",
-        ))?
+        ))
         .arg(flag(
             alloc,
             "hex",
@@ -326,8 +285,8 @@ fn host<'a>(
     name: &'static str,
     about: &'static str,
     after_help: &'static str,
-) -> Result<Command<'a>, AllocError>
-    ensures { IfOk result (described.IsCommand (described.host name.entry.now)) }
+) -> Description<'a>
+    ensures { described.Describes (described.host name.entry.now) result.command }
 {
     let timed = placed(
         alloc,
@@ -335,8 +294,8 @@ fn host<'a>(
         about,
         after_help,
         "Where it listens, as 127.0.0.1:7001",
-    )?
-    .arg(tick(alloc))?
+    )
+    .arg(tick(alloc))
     .arg(optional_number(
         alloc,
         "tick-most",
@@ -344,14 +303,14 @@ fn host<'a>(
         1,
         TICK_MOST,
         "How long it waits at most before it is sent once more, 1 to 3600000000; 64 ticks if absent",
-    ))?
-    .arg(flag(alloc, "json", "Prints each line as a JSON object"))?
+    ))
+    .arg(flag(alloc, "json", "Prints each line as a JSON object"))
     .arg(flag(
         alloc,
         "sync",
         "Puts the journal on its disk before packets leave",
-    ))?;
-    limited(alloc, timed)?.arg(optional_number(
+    ));
+    limited(alloc, timed).arg(optional_number(
         alloc,
         "stats",
         "SECONDS",
@@ -369,19 +328,19 @@ fn placed<'a>(
     about: &'static str,
     after_help: &'static str,
     listen: &'static str,
-) -> Result<Command<'a>, AllocError>
-    ensures { IfOk result (described.IsCommand (described.placed name.entry.now)) }
+) -> Description<'a>
+    ensures { described.Describes (described.placed name.entry.now) result.command }
 {
     with_texts(alloc, name, about, after_help)
-        .arg(text(alloc, "listen", "ADDR", listen))?
-        .arg(text(alloc, "peer", "ADDR", "Where the other host listens"))?
+        .arg(text(alloc, "listen", "ADDR", listen))
+        .arg(text(alloc, "peer", "ADDR", "Where the other host listens"))
         .arg(number(
             alloc,
             "streams",
             1,
             STREAMS,
             "The number of streams, 1 to 256",
-        ))?
+        ))
         .arg(text(
             alloc,
             "journal",
@@ -391,10 +350,10 @@ fn placed<'a>(
 }
 
 /// This command with how long a host waits at its end, and how long a piece of its journal is.
-fn limited<'a>(alloc: Global, command: Command<'a>) -> Result<Command<'a>, AllocError>
-    ensures { IfOk result (λ limited. (app : App) → described.IsCommand app command.entry → described.IsCommand (described.limited app) limited) }
+fn limited<'a>(alloc: Global, description: Description<'a>) -> Description<'a>
+    ensures { (app : App) → described.Describes app description.entry.command → described.Describes (described.limited app) result.command }
 {
-    command
+    description
         .arg(optional_number(
             alloc,
             "wait",
@@ -402,7 +361,7 @@ fn limited<'a>(alloc: Global, command: Command<'a>) -> Result<Command<'a>, Alloc
             0,
             WAIT,
             "How long it waits at its end for what is on its way, 0 to 1000000",
-        ))?
+        ))
         .arg(optional_number(
             alloc,
             "piece",
@@ -413,8 +372,8 @@ fn limited<'a>(alloc: Global, command: Command<'a>) -> Result<Command<'a>, Alloc
         ))
 }
 
-fn stop<'a>(alloc: Global) -> Result<Command<'a>, AllocError>
-    ensures { IfOk result (described.IsCommand described.stop) }
+fn stop<'a>(alloc: Global) -> Description<'a>
+    ensures { described.Describes described.stop result.command }
 {
     with_texts(alloc, "stop", texts::STOP_ABOUT, texts::STOP_AFTER_HELP).arg(file(
         alloc,
@@ -422,16 +381,16 @@ fn stop<'a>(alloc: Global) -> Result<Command<'a>, AllocError>
     ))
 }
 
-fn audit<'a>(alloc: Global) -> Result<Command<'a>, AllocError>
-    ensures { IfOk result (described.IsCommand described.audit) }
+fn audit<'a>(alloc: Global) -> Description<'a>
+    ensures { described.Describes described.audit result.command }
 {
     with_texts(alloc, "audit", texts::AUDIT_ABOUT, texts::AUDIT_AFTER_HELP)
-        .arg(file(alloc, "The journal"))?
+        .arg(file(alloc, "The journal"))
         .arg(second_file(alloc))
 }
 
-fn explain<'a>(alloc: Global) -> Result<Command<'a>, AllocError>
-    ensures { IfOk result (described.IsCommand described.explain) }
+fn explain<'a>(alloc: Global) -> Description<'a>
+    ensures { described.Describes described.explain result.command }
 {
     with_texts(
         alloc,
@@ -439,12 +398,12 @@ fn explain<'a>(alloc: Global) -> Result<Command<'a>, AllocError>
         texts::EXPLAIN_ABOUT,
         texts::EXPLAIN_AFTER_HELP,
     )
-    .arg(file(alloc, "The journal"))?
+    .arg(file(alloc, "The journal"))
     .arg(second_file(alloc))
 }
 
-fn outcomes<'a>(alloc: Global) -> Result<Command<'a>, AllocError>
-    ensures { IfOk result (described.IsCommand described.outcomes) }
+fn outcomes<'a>(alloc: Global) -> Description<'a>
+    ensures { described.Describes described.outcomes result.command }
 {
     with_texts(
         alloc,
@@ -452,18 +411,18 @@ fn outcomes<'a>(alloc: Global) -> Result<Command<'a>, AllocError>
         texts::OUTCOMES_ABOUT,
         texts::OUTCOMES_AFTER_HELP,
     )
-    .arg(file(alloc, "The journal of a sender, or of one side of two"))?
-    .arg(second_file(alloc))?
-    .arg(flag(alloc, "open", "Shows the puts that are open"))?
-    .arg(flag(alloc, "gone", "Shows the puts that are gone"))?
+    .arg(file(alloc, "The journal of a sender, or of one side of two"))
+    .arg(second_file(alloc))
+    .arg(flag(alloc, "open", "Shows the puts that are open"))
+    .arg(flag(alloc, "gone", "Shows the puts that are gone"))
     .arg(flag(alloc, "json", "Prints each line as a JSON object"))
 }
 
-fn got<'a>(alloc: Global) -> Result<Command<'a>, AllocError>
-    ensures { IfOk result (described.IsCommand described.got) }
+fn got<'a>(alloc: Global) -> Description<'a>
+    ensures { described.Describes described.got result.command }
 {
     with_texts(alloc, "got", texts::GOT_ABOUT, texts::GOT_AFTER_HELP)
-        .arg(file(alloc, "The receiver's journal"))?
+        .arg(file(alloc, "The receiver's journal"))
         .arg(optional_number(
             alloc,
             "after",
@@ -471,23 +430,23 @@ fn got<'a>(alloc: Global) -> Result<Command<'a>, AllocError>
             0,
             u64::MAX,
             "Shows lines of greater numbers than N",
-        ))?
+        ))
         .arg(flag(
             alloc,
             "follow",
             "Goes on with what is got as the journal grows",
-        ))?
+        ))
         .arg(flag(alloc, "json", "Prints each line as a JSON object"))
 }
 
-fn manual<'a>(alloc: Global) -> Command<'a>
-    ensures { described.IsCommand described.manual result }
+fn manual<'a>(alloc: Global) -> Description<'a>
+    ensures { described.Describes described.manual result.command }
 {
     with_texts(alloc, "man", texts::MANUAL_ABOUT, texts::MANUAL_AFTER_HELP)
 }
 
-fn completions<'a>(alloc: Global) -> Result<Command<'a>, AllocError>
-    ensures { IfOk result described.IsCompletions }
+fn completions<'a>(alloc: Global) -> Description<'a>
+    ensures { described.IsCompletions result.command }
 {
     with_texts(
         alloc,
@@ -504,12 +463,15 @@ fn with_texts<'a>(
     name: &'static str,
     about: &'static str,
     after_help: &'static str,
-) -> Command<'a>
-    ensures { described.IsCommand (new_app name.entry.now) result }
+) -> Description<'a>
+    ensures { described.Describes (new_app name.entry.now) result.command }
 {
-    Command::new(alloc, name)
+    let command = Command::new(alloc, name)
         .about(about)
-        .after_help(after_help)
+        .after_help(after_help);
+    Description {
+        command: Ok(command),
+    }
 }
 
 /// The argument that names a command's file.

@@ -7,6 +7,7 @@
 
 mod arguments;
 mod commands;
+mod description;
 mod fault;
 mod refusal;
 mod texts;

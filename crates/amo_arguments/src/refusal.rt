@@ -114,7 +114,7 @@ fn contradiction(alloc: Global, message: &str) -> ArgumentsFault
 
 /// The command `send`, under the name by which its usage is told.
 fn sender<'a>(alloc: Global) -> Result<Command<'a>, AllocError> {
-    send(alloc)?.bin_name("amo send")
+    send(alloc).into_command()?.bin_name("amo send")
 }
 
 /// The fault of this kind with this message, in `clap`'s words on this command.

@@ -331,12 +331,12 @@ Status:
   0   done; of a put: `put` or `got`
   2   arguments that do not parse, or no message; FILE keeps another call, or none
   4   no answer came: make the same call again; or memory, a file or standard output failed
-  5   --wait is over: the stream had no room, and the message was not put yet; or no message came
+  5   --wait is over: the door puts it off, and the message was not put yet; or no message came
   6   `gone`
   7   `open`
-  8   `unknown`; of a get: another program takes from the stream
+  8   `unknown`, also where the door refuses to tell; of a get: another program takes from the stream
   9   `settled`
-  10  the door refuses it: `amo: the door refuses it: 401 token` on standard error, and so on
+  10  the door refuses it, and nothing was put: `amo: the door refuses it: 401 token`, and so on
 
 Example:
   amo call put --door 127.0.0.1:7003 --stream 3 --state order-17.call 'pay Ann 100'

@@ -8,11 +8,16 @@ use std::alloc::{AllocError, Global};
 /// The page.
 pub fn page(alloc: Global) -> Result<String, AllocError> {
     let whole = whole(alloc)?;
+    page_of(alloc, &whole)
+}
+
+/// The page of the whole program.
+fn page_of(alloc: Global, whole: &Command<'_>) -> Result<String, AllocError> {
     let help = help(alloc, &[NAME, "--help"])?;
     let mut page = String::new(alloc);
-    push_head(&mut page, &whole, help.as_str())?;
+    push_head(&mut page, whole, help.as_str())?;
     page.push_str(".SH OPTIONS\n")?;
-    push_arguments(alloc, &mut page, &whole)?;
+    push_arguments(alloc, &mut page, whole)?;
     page.push_str(".SH COMMANDS\n")?;
     for command in whole.get_subcommands() {
         push_command(alloc, &mut page, command)?;

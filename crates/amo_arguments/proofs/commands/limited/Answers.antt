@@ -1,5 +1,4 @@
 use Rattle.std.proofs.Common.{◌≡◌, codes, rules}
-use Rattle.std.proofs.lemmas.Result.{IfOk-weaker}
 use Rattle.clap.specs.Words.{rule_of}
 use Rattle.amo_arguments.specs.Commands.{optional_number}
 use Rattle.amo_arguments.proofs.Described.{with_argument}
@@ -9,4 +8,4 @@ pub returns : goal.returns
 returns c =
     let wait : rule_of c.optional_number.result ≡ optional_number (codes "wait") 0 1000000 = search rules in
     let piece : rule_of c.optional_number-2.result ≡ optional_number (codes "piece") 1024 1000000000000 = search rules in
-    IfOk-weaker c.arg-2.result _ _ (λ m h app is. with_argument h piece c.optional_number-2.ensures.local (with_argument c.in_ok-arg.ensures wait c.optional_number.ensures.local is)) c.arg-2.ensures
+    λ app is. with_argument _ _ _ _ _ c.arg-2.ensures piece c.optional_number-2.ensures.local (with_argument _ _ _ _ _ c.arg.ensures wait c.optional_number.ensures.local is)

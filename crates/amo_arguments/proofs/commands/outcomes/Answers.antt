@@ -1,7 +1,6 @@
 use Rattle.std.proofs.Common.{◌≡◌, codes, rules}
-use Rattle.std.proofs.lemmas.Result.{IfOk-weaker}
-use Rattle.clap.specs.Words.{new_app, rule_of}
-use Rattle.amo_arguments.specs.Commands.{IsCommand, flag}
+use Rattle.clap.specs.Words.{rule_of}
+use Rattle.amo_arguments.specs.Commands.{flag}
 use Rattle.amo_arguments.proofs.Described.{with_argument}
 use Rattle.amo_arguments.proofs.commands.outcomes.Goals as goal
 
@@ -10,9 +9,8 @@ returns c =
     let open_is : rule_of c.flag.result ≡ flag (codes "open") = search rules in
     let gone : rule_of c.flag-2.result ≡ flag (codes "gone") = search rules in
     let json : rule_of c.flag-3.result ≡ flag (codes "json") = search rules in
-    let none : IsCommand (new_app (codes "outcomes")) c.with_texts.result = c.with_texts.ensures in
-    let one = with_argument c.in_ok-arg.ensures c.file.ensures.rule c.file.ensures.local none in
-    let two = with_argument c.in_ok-arg-2.ensures c.second_file.ensures.rule c.second_file.ensures.local one in
-    let three = with_argument c.in_ok-arg-3.ensures open_is c.flag.ensures.local two in
-    let four = with_argument c.in_ok-arg-4.ensures gone c.flag-2.ensures.local three in
-    IfOk-weaker c.arg-5.result _ _ (λ m h. with_argument h json c.flag-3.ensures.local four) c.arg-5.ensures
+    let one = with_argument _ _ _ _ _ c.arg.ensures c.file.ensures.rule c.file.ensures.local c.with_texts.ensures in
+    let two = with_argument _ _ _ _ _ c.arg-2.ensures c.second_file.ensures.rule c.second_file.ensures.local one in
+    let three = with_argument _ _ _ _ _ c.arg-3.ensures open_is c.flag.ensures.local two in
+    let four = with_argument _ _ _ _ _ c.arg-4.ensures gone c.flag-2.ensures.local three in
+    with_argument _ _ _ _ _ c.arg-5.ensures json c.flag-3.ensures.local four
