@@ -3,23 +3,18 @@
 //! and audits and explains journals, and tells by them what became of messages.
 //!
 //! `amo_arguments` reads the program's arguments, and answers as `amo_settings` what they choose. `amo_offline` does what needs no other process, and
-//! `amo_client` asks a door. `live` has a host for lines, `serving` one for programs, and `stopping` asks a host to come to its end. `marking` keeps, while a
-//! sender is at work, from where its next start is to tell, and `failure` is why the program cannot do what it was asked for.
+//! `amo_client` asks a door. `amo_process` is a host for lines, and asks a host to come to its end; `serving` is one for programs. `failure` is why the program
+//! cannot do what it was asked for.
 #![tactic(auto)]
 
 ghost use Rattle.std.specs.Prelude.{IfOk};
 ghost use Rattle.amo_settings.specs.Limits.{IsWithin};
 
 mod failure;
-mod live;
-mod marking;
 mod serving;
-mod stopping;
 
 use crate::failure::Failure;
-use crate::live::{receive_lines, send_lines};
 use crate::serving::serve_programs;
-use crate::stopping::stop_host;
 use amo_arguments::{ArgumentsFault, not_text, settings};
 use amo_client::call_door;
 use amo_manual::{page, script};
@@ -27,6 +22,7 @@ use amo_offline::{
     OfflineFault, audit_files, explain_files, replay_file, run_to_file, tell_or_follow_got,
     tell_outcomes_of,
 };
+use amo_process::{HostFailure, receive_lines, send_lines, stop_host};
 use amo_settings::Settings;
 use std::alloc::AllocError;
 use std::env;
@@ -115,9 +111,9 @@ fn carry_out<
         )),
         Settings::Outcomes(settings) => alone(tell_outcomes_of(rt, settings, errors)),
         Settings::Got(settings) => alone(tell_or_follow_got(rt, settings, output)),
-        Settings::Send(settings) => send_lines(rt, settings, input, output),
-        Settings::Receive(settings) => receive_lines(rt, settings, input, output),
-        Settings::Stop(file) => stop_host(rt, file.as_str()),
+        Settings::Send(settings) => hosted(send_lines(rt, settings, input, output)),
+        Settings::Receive(settings) => hosted(receive_lines(rt, settings, input, output)),
+        Settings::Stop(file) => hosted(stop_host(rt, file.as_str())),
         Settings::Serve(settings) => serve_programs(rt, settings),
         Settings::Call(settings) => call_door(rt, settings, input, output).map_err(Failure::from),
         Settings::Manual => show_page(rt, page(rt.alloc())),
@@ -127,6 +123,11 @@ fn carry_out<
 
 /// What a command came to that needs no other process.
 fn alone(done: Result<u8, OfflineFault>) -> Result<u8, Failure> {
+    done.map_err(Failure::from)
+}
+
+/// What a host came to that has no door, or that was asked to come to its end.
+fn hosted(done: Result<u8, HostFailure>) -> Result<u8, Failure> {
     done.map_err(Failure::from)
 }
 

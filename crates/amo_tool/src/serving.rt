@@ -3,11 +3,6 @@ ghost use Rattle.std.specs.Prelude.{◌≡◌, ◌<◌, ◌≤◌};
 ghost use Rattle.amo_settings.specs.Limits.{IsSideWithin};
 
 use crate::failure::Failure;
-use crate::live::{
-    ON_ITS_WAY, Prepared, hold_numbers, host_of, open_lives, open_socket, path_of_lives,
-    tell_of_start, tell_of_zeros,
-};
-use crate::stopping::hang_bell;
 use amo_archive::Archive;
 use amo_arguments::VERSION;
 use amo_client::{check_address, read_token};
@@ -17,6 +12,10 @@ use amo_live::{Durable, Ended, HostLives, LiveFault, LivesOpenFault, Plan, Socke
 use amo_lives::Lives;
 use amo_object::End;
 use amo_offline::boot_id;
+use amo_process::{
+    HostFailure, ON_ITS_WAY, Prepared, hang_bell, hold_numbers, host_of, open_lives, open_socket,
+    path_of_lives, tell_of_start, tell_of_zeros,
+};
 use amo_serve::{Door, DoorFault, Identity, run_door};
 use amo_settings::{HostSettings, ServeSettings, ServedSide};
 use amo_text::push_hex;
@@ -157,7 +156,7 @@ fn serve_opened<
     let opened = open::<R, M>(rt, alloc, path, &plan.wanted(), &cause, lines);
     let Opened { disk, start, zeros } = match opened {
         Ok(opened) => opened,
-        Err(fault) => return Err(Failure::of_journal(alloc, path, fault)),
+        Err(fault) => return Err(Failure::Host(HostFailure::of_journal(alloc, path, fault))),
     };
     tell_of_zeros(rt, path, zeros);
     let ran = serve_noted::<R, L, _, N>(
@@ -346,11 +345,17 @@ fn read_lives<R: AllocGlobal + Files<File = File>>(
     let alloc = rt.alloc();
     let bytes = match fs::read(rt, file) {
         Ok(bytes) => bytes,
-        Err(error) => return Err(Failure::of_disk(alloc, file, Cause::from(error))),
+        Err(error) => {
+            return Err(Failure::Host(HostFailure::of_disk(alloc, file, Cause::from(error))));
+        }
     };
     match Lives::read(alloc, side, bytes.as_slice()) {
         Ok(read) => Ok(read.lives),
-        Err(fault) => Err(Failure::of_lives(alloc, file, LivesOpenFault::from(fault))),
+        Err(fault) => Err(Failure::Host(HostFailure::of_lives(
+            alloc,
+            file,
+            LivesOpenFault::from(fault),
+        ))),
     }
 }
 

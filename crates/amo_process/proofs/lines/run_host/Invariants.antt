@@ -1,4 +1,4 @@
-use Rattle.amo_tool.proofs.live.run_host.Given as goal
+use Rattle.amo_process.proofs.lines.run_host.Given as goal
 
 -- the counts of failures are the blanks' ledgers
 abbrev pub ghosts-run_opened-L-Ledger : goal.ghosts-run_opened-L-Ledger

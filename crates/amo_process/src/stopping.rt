@@ -1,5 +1,5 @@
 //! A host is asked to come to its end: the bell beside its journal, and who rings it.
-use crate::failure::Failure;
+use crate::failure::HostFailure;
 use amo_disk::Cause;
 use amo_live::Bell;
 use std::alloc::{AllocError, Global};
@@ -22,7 +22,7 @@ type Identity = (u64, u64, Option<SystemTime>);
 
 /// Where the bell of a host hangs.
 #[derive(Drop)]
-pub(crate) struct Nail {
+pub struct Nail {
     path: String,
     /// Which socket it is; none where no bell hangs.
     identity: Option<Identity>,
@@ -30,7 +30,7 @@ pub(crate) struct Nail {
 
 impl Nail {
     /// Takes down the bell of a host that has come to its end, unless something else is there.
-    pub(crate) fn take_down<R: Files>(&self, rt: &R) {
+    pub fn take_down<R: Files>(&self, rt: &R) {
         let path = self.path.as_str();
         if self.identity.is_some() && identity_of(rt, path) == self.identity {
             let _ = fs::remove_file(rt, path);
@@ -49,7 +49,7 @@ fn identity_of<R: Files>(rt: &R, path: &str) -> Option<Identity> {
 }
 
 /// The bell of a host with this journal, and where it hangs. Where it cannot be hung that is told, and the host cannot be asked.
-pub(crate) fn hang_bell<R: AllocGlobal + Eprint + Files + Net>(
+pub fn hang_bell<R: AllocGlobal + Eprint + Files + Net>(
     rt: &R,
     journal: &str,
 ) -> Result<(Bell, Nail), AllocError> {
@@ -80,19 +80,19 @@ fn tell_of_no_bell<R: Eprint>(rt: &R, path: &str, cause: Cause) {
 }
 
 /// Has the host of this journal come to its end, and waits until it has. Answers its status.
-pub(crate) fn stop_host<R: AllocGlobal + Net>(rt: &R, journal: &str) -> Result<u8, Failure> {
+pub fn stop_host<R: AllocGlobal + Net>(rt: &R, journal: &str) -> Result<u8, HostFailure> {
     let alloc = rt.alloc();
     let path = path_of_bell(alloc, journal)?;
     let mut host = match UnixStream::connect(rt, path.as_str()) {
         Ok(host) => host,
-        Err(error) => return Err(Failure::of_bell(alloc, journal, path.as_str(), error)),
+        Err(error) => return Err(HostFailure::of_bell(alloc, journal, path.as_str(), error)),
     };
     match last_byte(&mut host) {
         Ok(Some(b'0')) => Ok(0),
         Ok(Some(status)) if status.is_ascii_digit() => Ok(status.saturating_sub(b'0')),
-        Ok(_) => Err(Failure::Ended),
-        Err(error) if error.kind() == ErrorKind::ConnectionReset => Err(Failure::Ended),
-        Err(error) => Err(Failure::of_disk(alloc, path.as_str(), Cause::from(error))),
+        Ok(_) => Err(HostFailure::Ended),
+        Err(error) if error.kind() == ErrorKind::ConnectionReset => Err(HostFailure::Ended),
+        Err(error) => Err(HostFailure::of_disk(alloc, path.as_str(), Cause::from(error))),
     }
 }
 

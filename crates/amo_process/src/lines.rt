@@ -1,22 +1,23 @@
-//! One host of the service in this process: over a socket, with a journal of its own, for clients at these streams.
+//! A host for lines: over a socket, with a journal of its own, for clients at standard input and output.
 ghost use Rattle.std.specs.Prelude.{◌≡◌, ◌<◌, ◌≤◌};
 ghost use Rattle.amo_settings.specs.Limits.{IsHostWithin};
 
-use crate::failure::Failure;
+use crate::failure::HostFailure;
 use crate::marking::Marker;
-use crate::stopping::{Nail, hang_bell};
+use crate::opening::{
+    Prepared, hold_numbers, open_lives, open_socket, path_of_lives, tell_of_start, tell_of_zeros,
+};
+use crate::stopping::hang_bell;
 use amo_client::check_address;
 use amo_desk::{ProcessFault, run_process};
 use amo_disk::{Cause, Disk, Opened, Start, open};
-use amo_live::{Bell, Durable, Ended, HostLives, Lineage, LiveFault, OpenedLives, Plan, Socket};
+use amo_live::{Bell, Durable, Ended, HostLives, Lineage, LiveFault, Plan, Socket};
 use amo_object::End;
 use amo_offline::{Manner, Retold, tell_untold};
 use amo_settings::{HostSettings, ReceiveSettings, SendSettings};
-use std::alloc::Global;
 use std::cell::Cell;
-use std::fs;
 use std::fs::File;
-use std::io::{ErrorKind, Read, Write};
+use std::io::{Read, Write};
 use std::marker::Brand;
 use std::net::Net;
 use std::os::fd::AsRawFd;
@@ -25,40 +26,28 @@ use std::rt::{Clock, Files};
 use std::sync::ledger::{Blank, Ledger};
 
 /// The status where something was still on its way at the end.
-pub(crate) const ON_ITS_WAY: u8 = 5;
+pub const ON_ITS_WAY: u8 = 5;
 
 /// The status where the last line of standard input had no end, and was not put.
 const TORN: u8 = 2;
 
-/// The number of standard input.
-const STANDARD_INPUT: i32 = 0;
-
-/// The number of standard output.
-const STANDARD_OUTPUT: i32 = 1;
-
-/// What the name of a file of lives has behind that of its journal.
-const LIVES: &str = ".lives";
-
-/// A file that is there, and has nothing.
-const NOTHING: &str = "/dev/null";
-
 /// Puts the messages that come, and tells what became of each. Answers the status to end with.
-pub(crate) fn send_lines<
+pub fn send_lines<
     R: AllocGlobal + Clock + Eprint + Files<File = File> + Net + RandomSource,
     I: Read + AsRawFd + Drop,
     O: Write + AsRawFd + Drop,
->(rt: &R, settings: &SendSettings, input: I, output: O) -> Result<u8, Failure>
+>(rt: &R, settings: &SendSettings, input: I, output: O) -> Result<u8, HostFailure>
     requires { IsHostWithin settings.now.host }
 {
     run_host(rt, &settings.host, Plan::to_send(settings), input, output)
 }
 
 /// Gets the messages that come, and shows them. Answers the status to end with.
-pub(crate) fn receive_lines<
+pub fn receive_lines<
     R: AllocGlobal + Clock + Eprint + Files<File = File> + Net + RandomSource,
     I: Read + AsRawFd + Drop,
     O: Write + AsRawFd + Drop,
->(rt: &R, settings: &ReceiveSettings, input: I, output: O) -> Result<u8, Failure>
+>(rt: &R, settings: &ReceiveSettings, input: I, output: O) -> Result<u8, HostFailure>
     requires { IsHostWithin settings.now.host }
 {
     run_host(
@@ -75,7 +64,7 @@ fn run_host<
     R: AllocGlobal + Clock + Eprint + Files<File = File> + Net + RandomSource,
     I: Read + AsRawFd + Drop,
     O: Write + AsRawFd + Drop,
->(rt: &R, host: &HostSettings, plan: Plan, input: I, output: O) -> Result<u8, Failure>
+>(rt: &R, host: &HostSettings, plan: Plan, input: I, output: O) -> Result<u8, HostFailure>
     requires streams { (1 ≤ plan.setup.streams) × (plan.setup.streams ≤ 256) }
     requires piece { 1024 ≤ plan.piece }
 {
@@ -99,34 +88,6 @@ fn run_host<
     }
 }
 
-/// Opens two files, to be held open. What is opened behind them has the number of no standard stream: where one is closed, a socket or a
-/// journal could have its number, and would get what is meant for a client. Refused where standard output is closed, or standard input at a
-/// host that reads it.
-pub(crate) fn hold_numbers<R: AllocGlobal + Files<File = File>>(
-    rt: &R,
-    side: End,
-) -> Result<(File, File), Failure> {
-    let held = (open_nothing(rt)?, open_nothing(rt)?);
-    let numbers = [held.0.as_raw_fd(), held.1.as_raw_fd()];
-    let lacks_input = side == End::Sender && numbers[0] == STANDARD_INPUT;
-    if lacks_input {
-        return Err(Failure::InputClosed);
-    }
-    if numbers[0] == STANDARD_OUTPUT || numbers[1] == STANDARD_OUTPUT {
-        return Err(Failure::OutputClosed);
-    }
-    Ok(held)
-}
-
-/// Opens a file that has nothing.
-fn open_nothing<R: AllocGlobal + Files<File = File>>(rt: &R) -> Result<File, Failure> {
-    match fs::open(rt, NOTHING) {
-        Ok(file) => Ok(file),
-        Err(error) if error.kind() == ErrorKind::OutOfMemory => Err(Failure::NoMemory),
-        Err(error) => Err(Failure::of_disk(rt.alloc(), NOTHING, Cause::from(error))),
-    }
-}
-
 /// Opens the socket, then the journal, and runs the host with them and the file of lives. The blanks become the ledgers in which contracts count their
 /// failures.
 fn run_opened<
@@ -145,7 +106,7 @@ fn run_opened<
     link: Blank,
     lines: Blank,
     lives: Blank,
-) -> Result<Ended, Failure>
+) -> Result<Ended, HostFailure>
     requires link { (link.name ≡ L.name) × (link.parts ≡ L.parts) × (0 < L.parts) }
     requires lines { (lines.name ≡ M.name) × (lines.parts ≡ M.parts) × (0 < M.parts) }
     requires lives { (lives.name ≡ N.name) × (lives.parts ≡ N.parts) × (0 < N.parts) }
@@ -159,7 +120,7 @@ fn run_opened<
     let opened = open::<R, M>(rt, alloc, path, &plan.wanted(), &cause, lines);
     let Opened { disk, start, zeros } = match opened {
         Ok(opened) => opened,
-        Err(fault) => return Err(Failure::of_journal(alloc, path, fault)),
+        Err(fault) => return Err(HostFailure::of_journal(alloc, path, fault)),
     };
     tell_of_zeros(rt, path, zeros);
     let ran = run_noted::<R, I, O, L, _, N>(
@@ -167,7 +128,7 @@ fn run_opened<
     )?;
     match ran {
         Ok(ended) => Ok(ended),
-        Err(fault) => Err(Failure::of_host(alloc, path, fault, cause.get())),
+        Err(fault) => Err(HostFailure::of_host(alloc, path, fault, cause.get())),
     }
 }
 
@@ -191,7 +152,7 @@ fn run_noted<
     disk: S,
     start: Start,
     lives: Blank,
-) -> Result<Result<Ended, ProcessFault>, Failure>
+) -> Result<Result<Ended, ProcessFault>, HostFailure>
     requires lives { (lives.name ≡ N.name) × (lives.parts ≡ N.parts) × (0 < N.parts) }
     requires streams { (1 ≤ plan.setup.streams) × (plan.setup.streams ≤ 256) }
 {
@@ -211,23 +172,10 @@ fn run_noted<
     nail.take_down(rt);
     match ran? {
         Err(fault) if fault == ProcessFault::from(LiveFault::Lives) => {
-            Err(Failure::of_host(alloc, file.as_str(), fault, why.get()))
+            Err(HostFailure::of_host(alloc, file.as_str(), fault, why.get()))
         }
         ran => Ok(ran),
     }
-}
-
-/// What a host has, beside its socket and its journal, before it tells that it is there: whoever reads that may ask it to come to its end.
-#[derive(Drop)]
-pub(crate) struct Prepared<W> {
-    /// The path of its file of lives.
-    pub(crate) file: String,
-    /// Where its words come from; of a host with a door what is told of its life, too.
-    pub(crate) words: W,
-    /// Where it is asked to come to its end.
-    pub(crate) bell: Bell,
-    /// Where that hangs.
-    pub(crate) nail: Nail,
 }
 
 /// Opens the file of lives beside the journal at this path, which has so many lines, and hangs the bell.
@@ -238,7 +186,7 @@ fn prepare<'a, R: AllocGlobal + Eprint + Files<File = File> + Net + RandomSource
     lines: u64,
     why: &'a Cell<Option<Cause>>,
     blank: Blank,
-) -> Result<Prepared<HostLives<Disk<'a, File, N>>>, Failure>
+) -> Result<Prepared<HostLives<Disk<'a, File, N>>>, HostFailure>
     requires { (blank.name ≡ N.name) × (blank.parts ≡ N.parts) × (0 < N.parts) }
 {
     let file = path_of_lives(rt.alloc(), path)?;
@@ -271,7 +219,7 @@ fn tell_and_run<
     start: Start,
     words: W,
     bell: Bell,
-) -> Result<Result<Ended, ProcessFault>, Failure>
+) -> Result<Result<Ended, ProcessFault>, HostFailure>
     requires { (1 ≤ plan.setup.streams) × (plan.setup.streams ≤ 256) }
 {
     let mut output = output;
@@ -301,7 +249,7 @@ fn tell_earlier<R: AllocGlobal + Eprint + Files<File = File>, O: Write>(
     lines: u64,
     plan: &Plan,
     output: &mut O,
-) -> Result<Retold, Failure> {
+) -> Result<Retold, HostFailure> {
     if plan.setup.side == End::Receiver {
         return Ok(Retold {
             in_doubt: Vec::new(rt.alloc()),
@@ -314,103 +262,6 @@ fn tell_earlier<R: AllocGlobal + Eprint + Files<File = File>, O: Write>(
     };
     match tell_untold(rt, path, lines, manner, output) {
         Ok(retold) => Ok(retold),
-        Err(fault) => Err(Failure::of_retelling(fault)),
-    }
-}
-
-/// The path of the file of lives beside the journal at this path.
-pub(crate) fn path_of_lives(alloc: Global, journal: &str) -> Result<String, Failure> {
-    let mut path = String::from_str(alloc, journal)?;
-    path.push_str(LIVES)?;
-    Ok(path)
-}
-
-/// Opens the file of lives at this path, beside a journal of so many lines.
-pub(crate) fn open_lives<
-    'a,
-    R: AllocGlobal + Eprint + Files<File = File> + RandomSource,
-    N: Ledger,
->(
-    rt: &R,
-    path: &str,
-    plan: &Plan,
-    lines: u64,
-    cause: &'a Cell<Option<Cause>>,
-    blank: Blank,
-) -> Result<HostLives<Disk<'a, File, N>>, Failure>
-    requires { (blank.name ≡ N.name) × (blank.parts ≡ N.parts) × (0 < N.parts) }
-{
-    let alloc = rt.alloc();
-    let opened = match OpenedLives::open(rt, alloc, path, plan.setup.side) {
-        Ok(opened) => opened,
-        Err(fault) => return Err(Failure::of_lives(alloc, path, fault)),
-    };
-    if opened.is_new() && lines > 0 {
-        tell_of_new_lives(rt, path);
-    }
-    if opened.has_lives() && lines == 0 {
-        tell_of_lost_journal(rt, path);
-    }
-    match opened.go_on(rt, alloc, path, lines, plan.limits.sync, cause, blank) {
-        Ok(lives) => Ok(lives),
-        Err(fault) => Err(Failure::of_lives(alloc, path, fault)),
-    }
-}
-
-/// Tells that a journal goes on, and that the key of its words is not known any more.
-fn tell_of_new_lives<R: Eprint>(rt: &R, path: &str) {
-    let _ = eprintln!(rt; "amo: {path}: it is begun with a new key, beside a journal that goes on");
-}
-
-/// Tells that a journal has no line, and that an earlier host had it.
-fn tell_of_lost_journal<R: Eprint>(rt: &R, path: &str) {
-    let _ = eprintln!(rt;
-        "amo: {path}: it tells of an earlier life, and the journal has no line: was it moved away?"
-    );
-}
-
-/// Opens the socket. Answers its port, too.
-pub(crate) fn open_socket<R: AllocGlobal + Net, L: Ledger>(
-    rt: &R,
-    host: &HostSettings,
-    blank: Blank,
-) -> Result<(Socket<L>, u16), Failure>
-    requires { (blank.name ≡ L.name) × (blank.parts ≡ L.parts) × (0 < L.parts) }
-{
-    let (listen, peer) = (host.listen.as_str(), host.peer.as_str());
-    let fault = match Socket::<L>::open(rt, listen, peer, blank) {
-        Ok(socket) => {
-            let address = socket.address();
-            match address {
-                Ok(address) => return Ok((socket, address.port())),
-                Err(fault) => fault,
-            }
-        }
-        Err(fault) => fault,
-    };
-    Err(Failure::of_socket(rt.alloc(), listen, peer, fault))
-}
-
-/// Tells that so many zeros were cut off at the end of a journal, if there were any.
-pub(crate) fn tell_of_zeros<R: Eprint>(rt: &R, path: &str, zeros: u64) {
-    if zeros > 0 {
-        let _ = eprintln!(rt;
-            "amo: {path}: {zeros} zeros at its end were cut off, as a loss of power leaves them"
-        );
-    }
-}
-
-/// Tells where a host listens, with the port that it has got, and how many lines of events came back of its journal. Of a socket that has a
-/// peer the system tells the one address that leads there, also where it listens on each that this machine has.
-pub(crate) fn tell_of_start<R: Eprint>(rt: &R, listen: &str, port: u16, journal: &str, lines: u64) {
-    let host = host_of(listen);
-    let _ = eprintln!(rt; "amo: listens on {host}:{port}, behind {lines} lines of {journal}");
-}
-
-/// What stands in front of the port of an address.
-pub(crate) fn host_of(address: &str) -> &str {
-    match address.rsplit_once(':') {
-        Some((host, _port)) => host,
-        None => address,
+        Err(fault) => Err(HostFailure::of_retelling(fault)),
     }
 }
