@@ -28,7 +28,7 @@ is_current() {
 # Ends unless rt is on the PATH.
 need_rt() {
     command -v rt >/dev/null && return
-    say "to build it the toolchain rattle-kit-13f is needed, and no rt is on the PATH; README.md, 'The toolchain', tells how to get it"
+    say "to build it the toolchain rattle-kit-13 is needed, and no rt is on the PATH; README.md, 'The toolchain', tells how to get it"
     exit 127
 }
 
