@@ -12,6 +12,12 @@ use thiserror::Error;
 /// Where Linux shows the id of the machine's start.
 const BOOT_ID: &str = "/proc/sys/kernel/random/boot_id";
 
+/// All lines.
+pub(crate) const EVERY_LINE: &[Span] = &[Span {
+    first: 0,
+    end: u64::MAX,
+}];
+
 /// The lines of a journal on which a loss of power makes puts doubtful.
 #[derive(Drop)]
 pub(crate) struct Doubts {
@@ -39,6 +45,9 @@ impl Doubts {
         let file = format!(in rt.alloc(); "{journal}.lives")?;
         let bytes = match fs::read(rt, file.as_str()) {
             Ok(bytes) => bytes,
+            Err(error) if error.kind() == ErrorKind::OutOfMemory => {
+                return Err(OfflineFault::NoMemory);
+            }
             Err(error) => return Doubts::lacking(rt, file, Lack::of(error)),
         };
         match read_lives(rt, bytes.as_slice()) {
@@ -52,13 +61,22 @@ impl Doubts {
         }
     }
 
-    /// Nothing is doubtful, since nothing is known.
+    /// Nothing is known. Where there is a file of lives that could not be read, each line is doubtful; where there is none, nothing is.
     fn lacking<R: AllocGlobal>(rt: &R, file: String, lack: Lack) -> Result<Doubts, OfflineFault> {
+        let mut spans = Vec::new(rt.alloc());
+        if matches!(lack, Lack::Failed(_)) {
+            spans.extend_from_slice(EVERY_LINE)?;
+        }
         Ok(Doubts {
             file,
-            spans: Vec::new(rt.alloc()),
+            spans,
             lack: Some(lack),
         })
+    }
+
+    /// Whether the file of lives was read.
+    pub(crate) fn are_known(&self) -> bool {
+        self.lack.is_none()
     }
 
     /// These lines, in the order of time.
@@ -117,7 +135,7 @@ pub fn boot_id<R: Files<File = File>>(rt: &R) -> Option<BootId> {
 enum Told<'a> {
     #[error("amo: {0}: it is missing: a loss of power is not told")]
     Missing(&'a str),
-    #[error("amo: {0}: {1}: a loss of power is not told")]
+    #[error("amo: {0}: {1}: what a loss of power took is not known, so nothing is told to be gone")]
     Failed(&'a str, Cause),
     #[error("amo: {0}: {1}: a loss of power is not told")]
     None(&'a str, LivesFault),

@@ -2,7 +2,7 @@
 ghost use Rattle.std.specs.Prelude.{◌≤◌, IfOk, length};
 
 use crate::fault::OfflineFault;
-use crate::identity::{Identity, identity_of, open_file};
+use crate::identity::{Identity, identity_of, open_file, put_on_disk};
 use crate::names::{numbers_of, piece_name};
 use amo_journal::Version;
 use amo_text::{cut, read_decimal};
@@ -107,6 +107,18 @@ impl Followed {
         match piece.fill(room) {
             Ok(count) => Ok(count),
             Err(error) => Err(OfflineFault::of_file(self.alloc, piece.name.as_str(), error)),
+        }
+    }
+
+    /// Puts what the piece has on its disk, where a host may still write it. A host that syncs takes lines back whose sync failed, and a loss of power takes
+    /// others: who was told of one would not find it any more.
+    pub(crate) fn keep(&self) -> Result<(), OfflineFault> {
+        match self.piece.as_ref() {
+            Some(piece) if !piece.is_closed => match put_on_disk(&piece.file) {
+                Ok(()) => Ok(()),
+                Err(error) => Err(OfflineFault::of_file(self.alloc, piece.name.as_str(), error)),
+            },
+            _ => Ok(()),
         }
     }
 

@@ -47,7 +47,7 @@ fn follow_got<R: AllocGlobal + Eprint + Files<File = File>, O: Write + AsRawFd>(
 }
 
 /// What a look at a journal brought.
-#[derive(Clone, Copy, Debug)]
+#[derive(Clone, Copy)]
 enum Look {
     /// There may be more to be read at once.
     More,
@@ -147,8 +147,9 @@ impl Following {
         &room[..count.min(room.len())]
     }
 
-    /// Reads lines of the piece, which have so many bytes.
+    /// Reads lines of the piece, which have so many bytes, once they are on its disk.
     fn read(&mut self, length: usize) -> Result<Look, OfflineFault> {
+        self.journal.keep()?;
         let room = self.room.as_slice();
         let bytes = &room[..length.min(room.len())];
         let is_beginning = self.journal.is_at_beginning();

@@ -3,6 +3,7 @@ ghost use Rattle.std.specs.Prelude.{IfOk};
 ghost use Rattle.amo_offline.specs.Statuses.{IsOfReading};
 
 use crate::fault::OfflineFault;
+use crate::identity::put_on_disk;
 use crate::names::{Names, open_piece};
 use crate::pieces::tell_line;
 use amo_journal::{Lines, Version, open};
@@ -10,7 +11,7 @@ use amo_settings::GotSettings;
 use amo_telling::{Gets, Reading, whole_lines};
 use std::alloc::{AllocError, Global};
 use std::fs::File;
-use std::io::{self, ErrorKind, Read, Write};
+use std::io::{self, ErrorKind, Read, Take, Write};
 use std::rt::Files;
 use thiserror::Error;
 
@@ -241,7 +242,11 @@ impl Telling {
             let name = names[place].as_str();
             let is_last = place + 1 >= names.len();
             let file = open_piece(rt, name, is_last, &mut newest)?;
-            if let Some(reading) = self.read_piece(rt.alloc(), name, file, output)? {
+            let most = match length_on_disk(&file, is_last) {
+                Ok(most) => most,
+                Err(error) => return Err(OfflineFault::of_file(rt.alloc(), name, error)),
+            };
+            if let Some(reading) = self.read_piece(rt.alloc(), name, file.take(most), output)? {
                 let reading = if is_last {
                     reading
                 } else {
@@ -258,7 +263,7 @@ impl Telling {
         &mut self,
         alloc: Global,
         name: &str,
-        file: File,
+        file: Take<File>,
         output: &mut O,
     ) -> Result<Option<Reading>, OfflineFault> {
         let mut file = file;
@@ -284,7 +289,7 @@ impl Telling {
     }
 
     /// Reads more of a file into the room that is left. Answers how many bytes.
-    fn fill(&mut self, file: &mut File) -> io::Result<usize> {
+    fn fill(&mut self, file: &mut Take<File>) -> io::Result<usize> {
         let room = self.room.as_mut_slice();
         let filled = self.filled.min(room.len());
         let count = file.read(&mut room[filled..])?;
@@ -315,6 +320,17 @@ impl Telling {
             _ => Ok(Some(reading)),
         }
     }
+}
+
+/// How many bytes of a piece are on its disk, and may be told of: all, but for the last one, which a host may be writing, those that it has now. A host that
+/// syncs takes lines back whose sync failed, and a loss of power takes others. Of what is no file, as a pipe, all is told.
+fn length_on_disk(file: &File, is_last: bool) -> io::Result<u64> {
+    let found = file.metadata()?;
+    if !is_last || !found.is_file() {
+        return Ok(u64::MAX);
+    }
+    put_on_disk(file)?;
+    Ok(found.len())
 }
 
 /// Opens the files of these names one by one, so that one that is not there is told before all else. Answers the last one, which may be open.

@@ -1,4 +1,4 @@
-//! Which file it is that has a name.
+//! Which file it is that has a name, and that it is on its disk.
 use crate::fault::OfflineFault;
 use std::fs::{self, File};
 use std::io::{self, ErrorKind};
@@ -13,6 +13,16 @@ pub(crate) fn open_file<R: Files<File = File>>(rt: &R, name: &str) -> io::Result
     let file = fs::open(rt, name)?;
     let found = file.metadata()?;
     Ok((file, (found.dev(), found.ino())))
+}
+
+/// Puts what a file has on its disk. Where that takes nothing, as on a disk that is only read, nothing is to be done.
+pub(crate) fn put_on_disk(file: &File) -> io::Result<()> {
+    match file.sync_data() {
+        Err(error)
+            if error.kind() == ErrorKind::InvalidInput
+                || error.kind() == ErrorKind::ReadOnlyFilesystem => { Ok(()) }
+        done => done,
+    }
 }
 
 /// Which file has this name, if one has it.

@@ -33,7 +33,7 @@ pub use fault::OfflineFault;
 pub use following::tell_or_follow_got;
 pub use judging::{audit_files, explain_files};
 pub use replaying::replay_file;
-pub use retelling::{Manner, Retold, numbered_line, tell_untold};
+pub use retelling::{Retold, numbered_line, tell_untold};
 pub use running::run_to_file;
 pub use telling::tell_outcomes_of;
 pub use told_file::{push_told, write_told};

@@ -1,5 +1,5 @@
 //! Tells, where a sender starts again, what became of the messages of its earlier lives that had no answer.
-use crate::doubts::Doubts;
+use crate::doubts::{Doubts, EVERY_LINE};
 use crate::fault::OfflineFault;
 use crate::followed::Followed;
 use crate::got::ROOM;
@@ -14,15 +14,6 @@ use std::fs::File;
 use std::io::Write;
 use std::rt::Files;
 use thiserror::Error;
-
-/// How a sender's start tells.
-#[derive(Clone, Copy)]
-pub struct Manner {
-    /// Each line is a JSON object.
-    pub json: bool,
-    /// What it keeps is to be on the disk.
-    pub sync: bool,
-}
 
 /// What a start told of a sender's earlier lives.
 #[derive(Drop)]
@@ -39,7 +30,7 @@ pub fn tell_untold<R: AllocGlobal + Eprint + Files<File = File>, O: Write>(
     rt: &R,
     journal: &str,
     lines: u64,
-    manner: Manner,
+    json: bool,
     output: &mut O,
 ) -> Result<Retold, OfflineFault> {
     tell_power(rt, journal, lines)?;
@@ -64,14 +55,14 @@ pub fn tell_untold<R: AllocGlobal + Eprint + Files<File = File>, O: Write>(
                 is_whole: false,
             });
         }
-        retelling.show(rt, manner.json, &mut told, output)?;
+        retelling.show(rt, json, &mut told, output)?;
         last = Some(retelling.last);
     }
     let last = match last.as_ref() {
         Some(line) => line.as_slice(),
         None => &[],
     };
-    told.keep(rt, journal, lines, last, manner.sync)?;
+    told.keep(rt, journal, lines, last)?;
     Ok(Retold {
         in_doubt: told.into_in_doubt(),
         is_whole: true,
@@ -256,7 +247,7 @@ impl<'a> Retelling<'a> {
     }
 
     /// Shows what became of the messages that were not answered, and what is settled of those that were told before. From then on, that is told. Of what
-    /// stands in front of missing lines nothing is `gone`, since these may have it sent.
+    /// stands in front of missing lines nothing is `gone`, since these may have it sent; nor is anything where the file of lives cannot be read right now.
     fn show<R: AllocGlobal + Files<File = File>, O: Write>(
         &self,
         rt: &R,
@@ -265,7 +256,7 @@ impl<'a> Retelling<'a> {
         output: &mut O,
     ) -> Result<(), OfflineFault> {
         let doubts = Doubts::read(rt, self.found.name)?;
-        let spans = if told.lacks_lines() {
+        let spans = if told.lacks_lines() || !doubts.are_known() {
             EVERY_LINE
         } else {
             doubts.spans()
@@ -279,12 +270,6 @@ impl<'a> Retelling<'a> {
         }
     }
 }
-
-/// All lines.
-const EVERY_LINE: &[Span] = &[Span {
-    first: 0,
-    end: u64::MAX,
-}];
 
 /// Shows what is known of messages, where these lines are doubtful.
 fn show_known<O: Write>(

@@ -1,7 +1,7 @@
 //! Tells, by journals, what became of messages.
 ghost use Rattle.std.specs.Prelude.{◌≡◌, ◌<◌};
 
-use crate::doubts::Doubts;
+use crate::doubts::{Doubts, EVERY_LINE};
 use crate::fault::OfflineFault;
 use crate::judging::{line_of, tell_found};
 use crate::pieces::Journal;
@@ -61,12 +61,6 @@ pub fn tell_outcomes_of<R: AllocGlobal + Eprint + Files<File = File> + Print, E:
     }
 }
 
-/// All lines.
-const ALL_LINES: &[Span] = &[Span {
-    first: 0,
-    end: u64::MAX,
-}];
-
 /// One of two journals.
 #[derive(Clone, Copy)]
 struct Side<'a> {
@@ -82,7 +76,7 @@ impl<'a> Side<'a> {
         let spans = if others.spans().is_empty() {
             doubts.spans()
         } else {
-            ALL_LINES
+            EVERY_LINE
         };
         Side {
             journal,

@@ -9,6 +9,7 @@ use std::alloc::{AllocError, Global};
 use std::fs::{self, File, OpenOptions};
 use std::io::{self, ErrorKind, Read, Write};
 use std::os::unix::fs::OpenOptionsExt;
+use std::path::Path;
 use std::rt::Files;
 use thiserror::Error;
 
@@ -46,7 +47,7 @@ pub(crate) struct ToldFile {
 }
 
 /// What the file says.
-#[derive(Clone, Copy, Debug)]
+#[derive(Clone, Copy)]
 enum Said {
     /// There is none.
     Nothing,
@@ -189,7 +190,6 @@ impl ToldFile {
         journal: &str,
         lines: u64,
         last: &[u8],
-        sync: bool,
     ) -> Result<(), OfflineFault> {
         match self.said {
             Said::Nothing if lines == 0 => return Ok(()),
@@ -198,7 +198,7 @@ impl ToldFile {
         }
         let mut text = Vec::new(rt.alloc());
         push_told(&mut text, lines, self.in_doubt())?;
-        write_told(rt, journal, text, last, sync)
+        write_told(rt, journal, text, last)
     }
 }
 
@@ -208,13 +208,13 @@ fn path_of(alloc: Global, journal: &str) -> Result<String, AllocError> {
 }
 
 /// Makes the file beside this journal anew, of this text and its seal: it tells of lines of which this is the last. It is made beside first, so that it is
-/// there whole, as it was or as it is to be. The journal's lines are put on the disk before, so that a loss of power takes none that it counts.
+/// there whole, as it was or as it is to be. The journal's lines are put on the disk before, so that a loss of power takes none that it counts; and it is on
+/// the disk itself, with its name: were an older one back behind a loss of power, what was told would be told again.
 pub fn write_told<R: AllocGlobal + Files<File = File>>(
     rt: &R,
     journal: &str,
     text: Vec<u8>,
     last: &[u8],
-    sync: bool,
 ) -> Result<(), OfflineFault> {
     let mut text = text;
     push_seal(&mut text, last)?;
@@ -222,7 +222,7 @@ pub fn write_told<R: AllocGlobal + Files<File = File>>(
         return Err(OfflineFault::of_disk(rt.alloc(), journal, Cause::from(error)));
     }
     let path = path_of(rt.alloc(), journal)?;
-    replace(rt, path.as_str(), text.as_slice(), sync)
+    replace(rt, path.as_str(), text.as_slice())
 }
 
 /// Makes the file of this path anew, of this text, which is made beside it first.
@@ -230,21 +230,34 @@ fn replace<R: AllocGlobal + Files<File = File>>(
     rt: &R,
     path: &str,
     text: &[u8],
-    sync: bool,
 ) -> Result<(), OfflineFault> {
     let beside = format!(in rt.alloc(); "{path}.new")?;
     let beside = beside.as_str();
-    if let Err(error) = write_beside(rt, beside, text, sync) {
+    if let Err(error) = write_beside(rt, beside, text) {
         let _ = fs::remove_file(rt, beside);
         return Err(OfflineFault::of_disk(rt.alloc(), beside, Cause::from(error)));
     }
-    match fs::rename(rt, beside, path) {
+    match rename_on_disk(rt, beside, path) {
         Ok(()) => Ok(()),
         Err(error) => Err(OfflineFault::of_disk(rt.alloc(), path, Cause::from(error))),
     }
 }
 
-/// Puts the file of this path on its disk.
+/// Gives the file of one path another one in the same directory, and puts that on the disk.
+fn rename_on_disk<R: Files<File = File>>(rt: &R, from: &str, to: &str) -> io::Result<()> {
+    fs::rename(rt, from, to)?;
+    put_on_disk(rt, directory_of(to))
+}
+
+/// The directory in which the file of this path stands.
+fn directory_of(path: &str) -> &str {
+    match Path::new(path).parent() {
+        Some(parent) if !parent.as_str().is_empty() => parent.as_str(),
+        _ => ".",
+    }
+}
+
+/// Puts the file or the directory of this path on its disk.
 fn put_on_disk<R: Files<File = File>>(rt: &R, path: &str) -> io::Result<()> {
     fs::open(rt, path)?.sync_all()
 }
@@ -349,12 +362,7 @@ fn read_front<R: Files<File = File>>(rt: &R, path: &str, bytes: &mut Vec<u8>) ->
 }
 
 /// Makes the file of this path anew, which then replaces the one that it stands beside. What a start left there that was killed is removed.
-fn write_beside<R: Files<File = File>>(
-    rt: &R,
-    beside: &str,
-    text: &[u8],
-    sync: bool,
-) -> io::Result<()> {
+fn write_beside<R: Files<File = File>>(rt: &R, beside: &str, text: &[u8]) -> io::Result<()> {
     match fs::remove_file(rt, beside) {
         Err(error) if error.kind() != ErrorKind::NotFound => return Err(error),
         _ => {}
@@ -365,10 +373,7 @@ fn write_beside<R: Files<File = File>>(
         .mode(MODE)
         .open(rt, beside)?;
     file.write_all(text)?;
-    if sync {
-        file.sync_all()?;
-    }
-    Ok(())
+    file.sync_all()
 }
 
 /// What is told of such a file, on a line of its own.

@@ -13,7 +13,7 @@ use amo_desk::{ProcessFault, run_process};
 use amo_disk::{Cause, Disk, Opened, Start, open};
 use amo_live::{Bell, Durable, Ended, HostLives, Lineage, LiveFault, Plan, Socket};
 use amo_object::End;
-use amo_offline::{Manner, Retold, tell_untold};
+use amo_offline::{Retold, tell_untold};
 use amo_settings::{HostSettings, ReceiveSettings, SendSettings};
 use std::cell::Cell;
 use std::fs::File;
@@ -256,11 +256,7 @@ fn tell_earlier<R: AllocGlobal + Eprint + Files<File = File>, O: Write>(
             is_whole: true,
         });
     }
-    let manner = Manner {
-        json: plan.setup.spelling.json,
-        sync: plan.limits.sync,
-    };
-    match tell_untold(rt, path, lines, manner, output) {
+    match tell_untold(rt, path, lines, plan.setup.spelling.json, output) {
         Ok(retold) => Ok(retold),
         Err(fault) => Err(HostFailure::of_retelling(fault)),
     }

@@ -16,7 +16,6 @@ pub(crate) struct Marker<'r, R> {
     rt: &'r R,
     journal: &'r str,
     piece: u64,
-    sync: bool,
     /// The streams in doubt that the host has not.
     beyond: Vec<u32>,
     /// How many bytes the host has to have written, and more, for the next step; none at a host that tells nothing at its start.
@@ -44,7 +43,6 @@ impl<'r, R: AllocGlobal + Files<File = File>> Marker<'r, R> {
             rt,
             journal,
             piece: plan.piece,
-            sync: plan.limits.sync,
             beyond,
             next: match plan.setup.side {
                 End::Sender if retold.is_whole => {
@@ -84,9 +82,10 @@ fn length_of<R: Files<File = File>>(rt: &R, path: &str) -> u64 {
 
 impl<L: Link, S: Sink, W: Lineage, R: AllocGlobal + Eprint + Files<File = File>> Keeper<L, S, W>
     for Marker<'_, R> {
-    /// Where the file cannot be written, that is told: the host goes on, and its next start reads more.
+    /// Where the file cannot be written, that is told: the host goes on, and its next start reads more. What is still to be shown may settle a stream, and that
+    /// is not told before it is.
     fn look(&mut self, service: &Service<L, S, W>) -> Result<(), ServeFault> {
-        if !self.has_begun(service.host.journal_bytes()) {
+        if !service.shown().is_empty() || !self.has_begun(service.host.journal_bytes()) {
             return Ok(());
         }
         if let Err(failure) = self.mark(service) {
@@ -107,7 +106,7 @@ impl<R: AllocGlobal + Files<File = File>> Marker<'_, R> {
             return Ok(());
         };
         let text = told_by(self.rt.alloc(), service, self.beyond.as_slice())?;
-        write_told(self.rt, self.journal, text, last.as_slice(), self.sync)
+        write_told(self.rt, self.journal, text, last.as_slice())
     }
 }
 
