@@ -6,7 +6,7 @@ use crate::lists::push;
 use std::alloc::{AllocError, Global};
 
 /// Who put a message.
-#[derive(Clone, Copy, Debug)]
+#[derive(Clone, Copy)]
 pub(crate) struct Owner {
     /// The place of its life among the lives; none where no life is known.
     pub(crate) life: Option<usize>,
@@ -15,7 +15,7 @@ pub(crate) struct Owner {
 }
 
 /// Puts one behind the other, of one owner.
-#[derive(Clone, Copy, Debug)]
+#[derive(Clone, Copy)]
 struct Section {
     owner: Owner,
     count: usize,

@@ -74,7 +74,7 @@ struct Part {
 }
 
 /// Why lines cannot be read.
-#[derive(Clone, Copy, Debug, PartialEq, Eq)]
+#[derive(Clone, Copy, PartialEq, Eq)]
 enum ReadFault {
     /// A piece was taken away while it was looked for.
     Moved,

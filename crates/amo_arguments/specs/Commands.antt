@@ -177,3 +177,7 @@ HasOneMore before argument after = IfOk after (λ new. (old : Command) × (befor
 -- one command more under it, where there was memory for both
 abbrev pub HasOneUnder : {E : Type 0} → Result Command E → Result Command E → Result Command E → Type 0
 HasOneUnder before under after = IfOk after (λ new. (old sub : Command) × (before ≡ Ok old) × (under ≡ Ok sub) × AddsSubcommand old sub new)
+
+-- an argument of this rule is added to whichever command was described, where there was memory for both
+abbrev pub IsGivenOne : {E : Type 0} → Rule → Result Command E → Result Command E → Type 0
+IsGivenOne rule before after = (app : App) → Describes app before → Describes (with_rule app rule) after

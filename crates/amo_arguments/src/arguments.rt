@@ -1,16 +1,16 @@
 //! Reads the program's arguments.
-ghost use Rattle.std.specs.Prelude.{◌≡◌, ◌≤◌, codes, None, IfErr, IfNone, IfOk, IfSome, IsErrOf, MatchResult, map, option_map, string_bytes};
+ghost use Rattle.std.specs.Prelude.{◌≡◌, ◌≤◌, ◌&&◌, ◌||◌, codes, false, if◌then◌else◌, None, Some, IfErr, IfNone, IfOk, IfSome, IsErrOf, MatchResult, OnOk, map, option_map, string_bytes};
 ghost use Rattle.clap.specs.Words.{first_of, found_of, rows_of, subcommand_rows_of};
 ghost use Rattle.amo_text.specs.Hexadecimal.{hex};
 ghost use Rattle.amo_settings.specs.Limits.{IsWithin};
 ghost use Rattle.amo_arguments.specs.Arguments.{AreTaken, IsRefusalOf, IsToldOf};
-ghost use Rattle.amo_arguments.specs.Chosen.{Chooses, ChoosesBy, ChoosesRun, HasAddress, HasCall, HasDoorCall, HasFlag, HasGot, HasHost, HasJournal, HasNoSeed, HasNumber, HasNumberOrNone, HasOutcomes, HasReceive, HasSend, HasServe, HasServedHost, HasSide, HasState, HasStream, HasText, HasTextOrNone, LacksSeed, Matches, MeetsSeedless, link_name, shell_name};
+ghost use Rattle.amo_arguments.specs.Chosen.{Chooses, ChoosesBy, ChoosesRun, HasAddress, HasDoorCall, HasFlag, HasHost, HasJournal, HasNoSeed, HasNumber, HasNumberOrNone, HasServedHost, HasSide, HasState, HasStream, HasText, HasTextOrNone, LacksSeed, Matches, MeetsSeedless, link_name, shell_name};
 
 use crate::ArgumentsFault;
 use crate::commands::{
     CLIENTS, CRASHES, LEAST_PIECE, PIECE, PUMPS, STATS, STREAMS, TICK, TICK_MOST, WAIT, command,
 };
-use crate::refusal::{Refusal, Unfit, told};
+use crate::refusal::{Refusal, Unfit, blamed, told};
 use crate::values::{check_address, check_apart, check_ceiling, number_in};
 use amo_settings::{
     CallSettings, DoorCall, GotSettings, HostSettings, LinkKind, OutcomesSettings, ReceiveSettings,
@@ -58,74 +58,49 @@ fn parse(alloc: Global, matches: &ArgMatches<'_>) -> Result<Option<Settings>, Un
     ensures chosen { IfOk result (λ chosen. IfSome chosen (ChoosesBy (subcommand_rows_of matches.now))) }
     ensures seed { IfOk result (λ chosen. IfNone chosen (MeetsSeedless (subcommand_rows_of matches.now))) }
 {
-    if let Some(run) = matches.subcommand_matches("run") {
-        return parse_run(alloc, run);
+    let Some((name, own)) = met_of(matches) else {
+        return Err(Unfit::Absent);
+    };
+    if name == "run" {
+        return parse_run(alloc, own);
     }
-    if let Some(settings) = parse_of_hosts(alloc, matches)? {
-        return Ok(Some(settings));
-    }
-    match parse_of_files(alloc, matches)? {
-        Some(settings) => Ok(Some(settings)),
-        None => Ok(Some(parse_of_texts(alloc, matches)?)),
-    }
-}
-
-/// The settings that a match chooses of a command that is or asks a host, if it is of one.
-fn parse_of_hosts(alloc: Global, matches: &ArgMatches<'_>) -> Result<Option<Settings>, Unfit>
-    ensures { IfOk result (λ chosen. IfSome chosen (ChoosesBy (subcommand_rows_of matches.now))) }
-{
-    if let Some(send) = matches.subcommand_matches("send") {
-        return Ok(Some(Settings::Send(parse_send(alloc, send)?)));
-    }
-    if let Some(receive) = matches.subcommand_matches("receive") {
-        return Ok(Some(Settings::Receive(parse_receive(alloc, receive)?)));
-    }
-    if let Some(stop) = matches.subcommand_matches("stop") {
-        return Ok(Some(Settings::Stop(text_of(alloc, stop, "FILE")?)));
-    }
-    if let Some(serve) = matches.subcommand_matches("serve") {
-        return Ok(Some(Settings::Serve(parse_serve(alloc, serve)?)));
-    }
-    match matches.subcommand_matches("call") {
-        Some(call) => Ok(Some(Settings::Call(parse_call(alloc, call)?))),
-        None => Ok(None),
+    match parse_met(alloc, name, own) {
+        Ok(settings) => Ok(Some(settings)),
+        Err(unfit) => Err(unfit),
     }
 }
 
-/// The settings that a match chooses of a command that reads a schedule or journals, if it is of one.
-fn parse_of_files(alloc: Global, matches: &ArgMatches<'_>) -> Result<Option<Settings>, Unfit>
-    ensures { IfOk result (λ chosen. IfSome chosen (ChoosesBy (subcommand_rows_of matches.now))) }
+/// The command that a match has, with the matches of its own.
+fn met_of<'a, 'm>(matches: &'m ArgMatches<'a>) -> Option<(&'a str, &'m ArgMatches<'a>)>
+    ensures { option_map (λ met. (met.0.now, rows_of (found_of met.1.now))) result ≡ subcommand_rows_of matches.now }
 {
-    if let Some(replay) = matches.subcommand_matches("replay") {
-        return Ok(Some(Settings::Replay(text_of(alloc, replay, "FILE")?)));
-    }
-    if let Some(audit) = matches.subcommand_matches("audit") {
-        let file = text_of(alloc, audit, "FILE")?;
-        return Ok(Some(Settings::Audit(file, second_file_of(alloc, audit)?)));
-    }
-    if let Some(explain) = matches.subcommand_matches("explain") {
-        let file = text_of(alloc, explain, "FILE")?;
-        return Ok(Some(Settings::Explain(file, second_file_of(alloc, explain)?)));
-    }
-    if let Some(outcomes) = matches.subcommand_matches("outcomes") {
-        return Ok(Some(Settings::Outcomes(parse_outcomes(alloc, outcomes)?)));
-    }
-    match matches.subcommand_matches("got") {
-        Some(got) => Ok(Some(Settings::Got(parse_got(alloc, got)?))),
-        None => Ok(None),
-    }
+    matches.subcommand()
 }
 
-/// The settings that a match chooses of a command that prints what the program has to say of itself.
-fn parse_of_texts(alloc: Global, matches: &ArgMatches<'_>) -> Result<Settings, Unfit>
-    ensures { IfOk result (ChoosesBy (subcommand_rows_of matches.now)) }
+/// The settings that the arguments of the command of this name choose, which is another one than `run`.
+fn parse_met(alloc: Global, name: &str, matches: &ArgMatches<'_>) -> Result<Settings, Unfit>
+    ensures { IfOk result (ChoosesBy (Some (name.now, rows_of (found_of matches.now)))) }
 {
-    if let Some(_manual) = matches.subcommand_matches("man") {
-        return Ok(Settings::Manual);
-    }
-    match matches.subcommand_matches("completions") {
-        Some(completions) => Ok(Settings::Completions(shell_of(alloc, completions)?)),
-        None => Err(Unfit::Absent),
+    match name {
+        "send" => parse_send(alloc, matches),
+        "receive" => parse_receive(alloc, matches),
+        "stop" => Ok(Settings::Stop(text_of(alloc, matches, "FILE")?)),
+        "serve" => parse_serve(alloc, matches),
+        "call" => parse_call(alloc, matches),
+        "replay" => Ok(Settings::Replay(text_of(alloc, matches, "FILE")?)),
+        "audit" => {
+            let (file, second) = files_of(alloc, matches)?;
+            Ok(Settings::Audit(file, second))
+        }
+        "explain" => {
+            let (file, second) = files_of(alloc, matches)?;
+            Ok(Settings::Explain(file, second))
+        }
+        "outcomes" => parse_outcomes(alloc, matches),
+        "got" => parse_got(alloc, matches),
+        "man" => Ok(Settings::Manual),
+        "completions" => Ok(Settings::Completions(shell_of(alloc, matches)?)),
+        _ => Err(Unfit::Absent),
     }
 }
 
@@ -170,74 +145,109 @@ fn parse_run(alloc: Global, matches: &ArgMatches<'_>) -> Result<Option<Settings>
         split,
         batch,
     };
+    let journal = String::from_str(alloc, journal)?;
     Ok(Some(Settings::Run(settings, journal)))
 }
 
 /// The settings that the arguments of `send` choose.
-fn parse_send(alloc: Global, matches: &ArgMatches<'_>) -> Result<SendSettings, Unfit>
-    ensures { IfOk result (HasSend (rows_of (found_of matches.now))) }
+fn parse_send(alloc: Global, matches: &ArgMatches<'_>) -> Result<Settings, Unfit>
+    ensures { IfOk result (ChoosesBy (Some (codes "send", rows_of (found_of matches.now)))) }
 {
-    let host = parse_host(alloc, matches)?;
     let each = flag_of(alloc, matches, "each")?;
     let many = flag_of(alloc, matches, "many")?;
     let batch = flag_of(alloc, matches, "batch")?;
     let hex = flag_of(alloc, matches, "hex")?;
+    let host = parse_host(alloc, matches)?;
+    check_each(each, many, batch)?;
+    Ok(Settings::Send(SendSettings {
+        host,
+        each: !many && !batch,
+        batch,
+        hex,
+    }))
+}
+
+/// Refuses flags of `send` that contradict each other.
+fn check_each(each: bool, many: bool, batch: bool) -> Result<(), Unfit>
+    ensures { OnOk result ((each && (many || batch)) ≡ false) }
+{
     if each && batch {
         return Err(Unfit::EachAndBatch);
     }
     if each && many {
         return Err(Unfit::EachAndMany);
     }
-    Ok(SendSettings {
-        host,
-        each: !many && !batch,
-        batch,
-        hex,
-    })
+    Ok(())
 }
 
 /// The settings that the arguments of `receive` choose.
-fn parse_receive(alloc: Global, matches: &ArgMatches<'_>) -> Result<ReceiveSettings, Unfit>
-    ensures { IfOk result (HasReceive (rows_of (found_of matches.now))) }
+fn parse_receive(alloc: Global, matches: &ArgMatches<'_>) -> Result<Settings, Unfit>
+    ensures { IfOk result (ChoosesBy (Some (codes "receive", rows_of (found_of matches.now)))) }
 {
     let host = parse_host(alloc, matches)?;
     let count = number_or_none_of(alloc, matches, "count", 1, u64::MAX)?;
-    Ok(ReceiveSettings { host, count })
+    Ok(Settings::Receive(ReceiveSettings { host, count }))
 }
 
 /// The settings that the arguments of `serve` choose.
-fn parse_serve(alloc: Global, matches: &ArgMatches<'_>) -> Result<ServeSettings, Unfit>
-    ensures { IfOk result (HasServe (rows_of (found_of matches.now))) }
+fn parse_serve(alloc: Global, matches: &ArgMatches<'_>) -> Result<Settings, Unfit>
+    ensures { IfOk result (ChoosesBy (Some (codes "serve", rows_of (found_of matches.now)))) }
 {
     let side = parse_side(alloc, matches)?;
-    let door = address_of(alloc, matches, "door", "127.0.0.1", 0)?;
-    let token_file = text_or_none_of(alloc, matches, "token-file")?;
-    Ok(ServeSettings {
+    let (door, token_file) = door_of(alloc, matches, 0)?;
+    Ok(Settings::Serve(ServeSettings {
         side,
         door,
         token_file,
-    })
+    }))
+}
+
+/// The address of a door, with a port of `least` at least, and the name of its token's file, if it has one.
+fn door_of(
+    alloc: Global,
+    matches: &ArgMatches<'_>,
+    least: u64,
+) -> Result<(String, Option<String>), Unfit>
+    ensures address { IfOk result (λ door. HasAddress (rows_of (found_of matches.now)) (codes "door") least (string_bytes door.0)) }
+    ensures token { IfOk result (λ door. HasTextOrNone (rows_of (found_of matches.now)) (codes "token-file") (option_map string_bytes door.1)) }
+{
+    let address = address_of(alloc, matches, "door", "127.0.0.1", least)?;
+    let door = String::from_str(alloc, address)?;
+    let token_file = text_or_none_of(alloc, matches, "token-file")?;
+    Ok((door, token_file))
 }
 
 /// The side that the arguments of `serve` choose, with what its host is told.
 fn parse_side(alloc: Global, matches: &ArgMatches<'_>) -> Result<ServedSide, Unfit>
     ensures { IfOk result (HasSide (rows_of (found_of matches.now))) }
 {
-    let host = parse_served_host(alloc, matches)?;
     let batch = flag_of(alloc, matches, "batch")?;
-    match matches.get_str("side") {
-        Some("send") => Ok(ServedSide::Send(SendSettings {
+    let host = parse_served_host(alloc, matches)?;
+    if is_sender(alloc, matches, batch)? {
+        Ok(ServedSide::Send(SendSettings {
             host,
             each: false,
             batch,
             hex: false,
-        })),
-        Some("receive") if !batch => Ok(ServedSide::Receive(ReceiveSettings { host, count: None })),
-        Some("receive") => Err(Unfit::Value(String::from_str(
+        }))
+    } else {
+        Ok(ServedSide::Receive(ReceiveSettings { host, count: None }))
+    }
+}
+
+/// Whether a host with a door sends, and does not receive, which goes without `--batch`.
+fn is_sender(alloc: Global, matches: &ArgMatches<'_>, batch: bool) -> Result<bool, Unfit>
+    ensures side { IfOk result (λ sends. HasText (rows_of (found_of matches.now)) (codes "side") (if sends then codes "send" else codes "receive")) }
+    ensures plain { IfOk result (λ sends. (sends ≡ false) → (batch ≡ false)) }
+{
+    match matches.get_str("side") {
+        Some("send") => Ok(true),
+        Some("receive") if !batch => Ok(false),
+        Some("receive") => Err(blamed(String::from_str(
             alloc,
             "--batch is of a host that sends: one that receives takes batches as they come",
-        )?)),
-        Some(side) => Err(Unfit::Value(format!(in alloc; "--side {side}: give send or receive")?)),
+        ))),
+        Some(side) => Err(blamed(format!(in alloc; "--side {side}: give send or receive"))),
         None => Err(Unfit::Absent),
     }
 }
@@ -248,7 +258,7 @@ fn parse_served_host(alloc: Global, matches: &ArgMatches<'_>) -> Result<HostSett
 {
     let listen = address_of(alloc, matches, "listen", "0.0.0.0", 0)?;
     let peer = address_of(alloc, matches, "peer", "127.0.0.1", 1)?;
-    check_apart(alloc, listen.as_str(), peer.as_str())?;
+    check_apart(alloc, listen, peer)?;
     let streams = number_of(alloc, matches, "streams", 1, STREAMS)?;
     let journal = journal_of(alloc, matches)?;
     let tick = number_of(alloc, matches, "tick", 1, TICK)?;
@@ -256,10 +266,10 @@ fn parse_served_host(alloc: Global, matches: &ArgMatches<'_>) -> Result<HostSett
     let wait = number_or_none_of(alloc, matches, "wait", 0, WAIT)?;
     let piece = number_or_none_of(alloc, matches, "piece", LEAST_PIECE, PIECE)?;
     Ok(HostSettings {
-        listen,
-        peer,
+        listen: String::from_str(alloc, listen)?,
+        peer: String::from_str(alloc, peer)?,
         streams,
-        journal,
+        journal: String::from_str(alloc, journal)?,
         tick,
         tick_most: None,
         json: false,
@@ -271,46 +281,61 @@ fn parse_served_host(alloc: Global, matches: &ArgMatches<'_>) -> Result<HostSett
 }
 
 /// The settings that the arguments of `call` choose.
-fn parse_call(alloc: Global, matches: &ArgMatches<'_>) -> Result<CallSettings, Unfit>
-    ensures { IfOk result (HasCall (rows_of (found_of matches.now))) }
+fn parse_call(alloc: Global, matches: &ArgMatches<'_>) -> Result<Settings, Unfit>
+    ensures { IfOk result (ChoosesBy (Some (codes "call", rows_of (found_of matches.now)))) }
 {
-    Ok(CallSettings {
-        call: parse_door_call(alloc, matches)?,
-        door: address_of(alloc, matches, "door", "127.0.0.1", 1)?,
-        token_file: text_or_none_of(alloc, matches, "token-file")?,
-        wait: number_or_none_of(alloc, matches, "wait", 0, WAIT)?,
-        hex: flag_of(alloc, matches, "hex")?,
-    })
+    let hex = flag_of(alloc, matches, "hex")?;
+    let call = parse_door_call(alloc, matches)?;
+    let (door, token_file) = door_of(alloc, matches, 1)?;
+    let wait = number_or_none_of(alloc, matches, "wait", 0, WAIT)?;
+    Ok(Settings::Call(CallSettings {
+        call,
+        door,
+        token_file,
+        wait,
+        hex,
+    }))
 }
 
 /// The call of a door that the arguments of `call` choose.
 fn parse_door_call(alloc: Global, matches: &ArgMatches<'_>) -> Result<DoorCall, Unfit>
     ensures { IfOk result (HasDoorCall (rows_of (found_of matches.now))) }
 {
-    match matches.get_str("CALL") {
-        Some("put") => Ok(DoorCall::Put {
-            stream: stream_of(alloc, matches)?,
-            state: state_of(alloc, matches)?,
-            message: text_or_none_of(alloc, matches, "MESSAGE")?,
-        }),
-        Some("get") => Ok(DoorCall::Get {
-            stream: stream_of(alloc, matches)?,
-            state: state_of(alloc, matches)?,
-        }),
-        Some("done") => Ok(DoorCall::Done {
-            stream: stream_of(alloc, matches)?,
-            state: state_of(alloc, matches)?,
-        }),
-        Some("status") => Ok(DoorCall::Status {
-            stream: stream_of(alloc, matches)?,
-        }),
-        Some("watch") => Ok(DoorCall::Watch {
-            after: number_or_none_of(alloc, matches, "after", 0, u64::MAX)?,
-        }),
-        Some(call) => Err(Unfit::Value(format!(in alloc;
-            "call {call}: give put, get, done, status or watch"
-        )?)),
-        None => Err(Unfit::Absent),
+    let Some(call) = value_of(matches, "CALL") else {
+        return Err(Unfit::Absent);
+    };
+    match call {
+        "put" | "get" | "done" => parse_kept_call(alloc, matches, call),
+        "status" => match stream_of(alloc, matches) {
+            Ok(stream) => Ok(DoorCall::Status { stream }),
+            Err(unfit) => Err(unfit),
+        },
+        "watch" => match number_or_none_of(alloc, matches, "after", 0, u64::MAX) {
+            Ok(after) => Ok(DoorCall::Watch { after }),
+            Err(unfit) => Err(unfit),
+        },
+        _ => Err(blamed(format!(in alloc; "call {call}: give put, get, done, status or watch"))),
+    }
+}
+
+/// The call of this name, `put`, `get` or `done`, which a file keeps.
+fn parse_kept_call(alloc: Global, matches: &ArgMatches<'_>, call: &str) -> Result<DoorCall, Unfit>
+    ensures { HasText (rows_of (found_of matches.now)) (codes "CALL") call.now → IfOk result (HasDoorCall (rows_of (found_of matches.now))) }
+{
+    let stream = stream_of(alloc, matches)?;
+    let state = String::from_str(alloc, state_of(alloc, matches)?)?;
+    match call {
+        "put" => match text_or_none_of(alloc, matches, "MESSAGE") {
+            Ok(message) => Ok(DoorCall::Put {
+                stream,
+                state,
+                message,
+            }),
+            Err(unfit) => Err(unfit),
+        },
+        "get" => Ok(DoorCall::Get { stream, state }),
+        "done" => Ok(DoorCall::Done { stream, state }),
+        _ => Err(Unfit::Absent),
     }
 }
 
@@ -319,68 +344,90 @@ fn stream_of(alloc: Global, matches: &ArgMatches<'_>) -> Result<u32, Unfit>
     ensures { IfOk result (HasStream (rows_of (found_of matches.now))) }
 {
     if value_of(matches, "stream").is_none() {
-        let advice = String::from_str(
+        return Err(blamed(String::from_str(
             alloc,
             "--stream is not there: give the number of the stream",
-        )?;
-        return Err(Unfit::Value(advice));
+        )));
     }
     number_of(alloc, matches, "stream", 1, STREAMS)
 }
 
 /// The name of the file that keeps a call of a door.
-fn state_of(alloc: Global, matches: &ArgMatches<'_>) -> Result<String, Unfit>
-    ensures { IfOk result (λ file. HasState (rows_of (found_of matches.now)) (string_bytes file)) }
+fn state_of<'a>(alloc: Global, matches: &ArgMatches<'a>) -> Result<&'a str, Unfit>
+    ensures { IfOk result (λ file. HasState (rows_of (found_of matches.now)) file.now) }
 {
-    match text_or_none_of(alloc, matches, "state")? {
-        Some(file) if !file.as_str().is_empty() => Ok(file),
-        _ => Err(Unfit::Value(String::from_str(
+    match value_of(matches, "state") {
+        Some(file) if !file.is_empty() => Ok(file),
+        _ => Err(blamed(String::from_str(
             alloc,
             "--state has no text: give the name of a file that keeps the call",
-        )?)),
+        ))),
     }
 }
 
 /// The settings that the arguments of `outcomes` choose.
-fn parse_outcomes(alloc: Global, matches: &ArgMatches<'_>) -> Result<OutcomesSettings, Unfit>
-    ensures { IfOk result (HasOutcomes (rows_of (found_of matches.now))) }
+fn parse_outcomes(alloc: Global, matches: &ArgMatches<'_>) -> Result<Settings, Unfit>
+    ensures { IfOk result (ChoosesBy (Some (codes "outcomes", rows_of (found_of matches.now)))) }
 {
-    Ok(OutcomesSettings {
-        first: text_of(alloc, matches, "FILE")?,
-        second: second_file_of(alloc, matches)?,
-        open: flag_of(alloc, matches, "open")?,
-        gone: flag_of(alloc, matches, "gone")?,
-        json: flag_of(alloc, matches, "json")?,
-    })
+    let open = flag_of(alloc, matches, "open")?;
+    let gone = flag_of(alloc, matches, "gone")?;
+    let json = flag_of(alloc, matches, "json")?;
+    let (first, second) = files_of(alloc, matches)?;
+    Ok(Settings::Outcomes(OutcomesSettings {
+        first,
+        second,
+        open,
+        gone,
+        json,
+    }))
 }
 
 /// The settings that the arguments of `got` choose.
-fn parse_got(alloc: Global, matches: &ArgMatches<'_>) -> Result<GotSettings, Unfit>
-    ensures { IfOk result (HasGot (rows_of (found_of matches.now))) }
+fn parse_got(alloc: Global, matches: &ArgMatches<'_>) -> Result<Settings, Unfit>
+    ensures { IfOk result (ChoosesBy (Some (codes "got", rows_of (found_of matches.now)))) }
 {
-    Ok(GotSettings {
-        file: text_of(alloc, matches, "FILE")?,
-        after: number_or_none_of(alloc, matches, "after", 0, u64::MAX)?,
-        follow: flag_of(alloc, matches, "follow")?,
-        json: flag_of(alloc, matches, "json")?,
-    })
+    let after = number_or_none_of(alloc, matches, "after", 0, u64::MAX)?;
+    let follow = flag_of(alloc, matches, "follow")?;
+    let json = flag_of(alloc, matches, "json")?;
+    let file = text_of(alloc, matches, "FILE")?;
+    Ok(Settings::Got(GotSettings {
+        file,
+        after,
+        follow,
+        json,
+    }))
 }
 
 /// The settings that the options choose which a host has on either side.
 fn parse_host(alloc: Global, matches: &ArgMatches<'_>) -> Result<HostSettings, Unfit>
     ensures { IfOk result (HasHost (rows_of (found_of matches.now))) }
 {
-    let plain = parse_served_host(alloc, matches)?;
-    let tick_most = number_or_none_of(alloc, matches, "tick-most", 1, TICK_MOST)?;
-    check_ceiling(alloc, plain.tick, tick_most)?;
     let json = flag_of(alloc, matches, "json")?;
-    let stats = number_or_none_of(alloc, matches, "stats", 1, STATS)?;
+    let plain = parse_served_host(alloc, matches)?;
+    let (tick_most, stats) = times_of(alloc, matches, plain.tick)?;
     Ok(HostSettings {
         tick_most,
         json,
         stats,
         ..plain
     })
+}
+
+/// The longest interval of a host whose first one is `tick`, and the seconds between its figures.
+fn times_of(
+    alloc: Global,
+    matches: &ArgMatches<'_>,
+    tick: u32,
+) -> Result<(Option<u64>, Option<u64>), Unfit>
+    ensures ceiling { IfOk result (λ times. HasNumberOrNone (rows_of (found_of matches.now)) (codes "tick-most") times.0) }
+    ensures fits { IfOk result (λ times. IfSome times.0 (λ most. (1 ≤ most) × (most ≤ 3600000000) × (tick ≤ most))) }
+    ensures stats { IfOk result (λ times. HasNumberOrNone (rows_of (found_of matches.now)) (codes "stats") times.1) }
+    ensures often { IfOk result (λ times. IfSome times.1 (λ stats. (1 ≤ stats) × (stats ≤ 1000000))) }
+{
+    let most = number_or_none_of(alloc, matches, "tick-most", 1, TICK_MOST)?;
+    check_ceiling(alloc, tick, most)?;
+    let stats = number_or_none_of(alloc, matches, "stats", 1, STATS)?;
+    Ok((most, stats))
 }
 
 /// The text of an argument of a command.
@@ -394,40 +441,46 @@ fn text_of(alloc: Global, matches: &ArgMatches<'_>, name: &str) -> Result<String
 }
 
 /// The text of an argument that is an address, HOST:PORT, with a port of `least` at least. Where it lacks its host, `host` may be given.
-fn address_of(
+fn address_of<'a>(
     alloc: Global,
-    matches: &ArgMatches<'_>,
+    matches: &ArgMatches<'a>,
     name: &str,
     host: &str,
     least: u64,
-) -> Result<String, Unfit>
-    ensures { IfOk result (λ text. HasAddress (rows_of (found_of matches.now)) name.now least (string_bytes text)) }
+) -> Result<&'a str, Unfit>
+    ensures { IfOk result (λ text. HasAddress (rows_of (found_of matches.now)) name.now least text.now) }
 {
-    let text = text_of(alloc, matches, name)?;
-    check_address(alloc, name, text.as_str(), host, least)?;
+    let Some(text) = value_of(matches, name) else {
+        return Err(Unfit::Absent);
+    };
+    check_address(alloc, name, text, host, least)?;
     Ok(text)
 }
 
 /// The name of the journal's file.
-fn journal_of(alloc: Global, matches: &ArgMatches<'_>) -> Result<String, Unfit>
-    ensures { IfOk result (λ file. HasJournal (rows_of (found_of matches.now)) (string_bytes file)) }
+fn journal_of<'a>(alloc: Global, matches: &ArgMatches<'a>) -> Result<&'a str, Unfit>
+    ensures { IfOk result (λ file. HasJournal (rows_of (found_of matches.now)) file.now) }
 {
-    let file = text_of(alloc, matches, "journal")?;
-    if file.as_str().is_empty() {
-        let advice = String::from_str(alloc, "--journal has no text: give the name of a file")?;
-        return Err(Unfit::Value(advice));
+    let Some(file) = value_of(matches, "journal") else {
+        return Err(Unfit::Absent);
+    };
+    if file.is_empty() {
+        return Err(blamed(String::from_str(
+            alloc,
+            "--journal has no text: give the name of a file",
+        )));
     }
     Ok(file)
 }
 
-/// The second file, where there is one.
-fn second_file_of(alloc: Global, matches: &ArgMatches<'_>) -> Result<Option<String>, Unfit>
-    ensures { IfOk result (λ file. HasTextOrNone (rows_of (found_of matches.now)) (codes "SECOND") (option_map string_bytes file)) }
+/// The name of a command's file, and of the second one, where there is one.
+fn files_of(alloc: Global, matches: &ArgMatches<'_>) -> Result<(String, Option<String>), Unfit>
+    ensures first { IfOk result (λ files. HasText (rows_of (found_of matches.now)) (codes "FILE") (string_bytes files.0)) }
+    ensures second { IfOk result (λ files. HasTextOrNone (rows_of (found_of matches.now)) (codes "SECOND") (option_map string_bytes files.1)) }
 {
-    match matches.get_str("SECOND") {
-        Some(file) => Ok(Some(String::from_str(alloc, file)?)),
-        None => Ok(None),
-    }
+    let first = text_of(alloc, matches, "FILE")?;
+    let second = text_or_none_of(alloc, matches, "SECOND")?;
+    Ok((first, second))
 }
 
 /// The text of an option that may be absent.

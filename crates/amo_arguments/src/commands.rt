@@ -114,51 +114,51 @@ fn run<'a>(alloc: Global) -> Description<'a>
             CRASHES,
             "The number of crashes, 0 to 1000",
         ))
-        .arg(text(
+        .text(
             alloc,
             "seed",
             "HEX",
             "What identifiers and losses are drawn from, 64 digits",
-        ))
+        )
         .arg(link(alloc))
-        .arg(text(alloc, "journal", "FILE", "Where the journal goes"))
+        .text(alloc, "journal", "FILE", "Where the journal goes")
         .arg(pumps(alloc))
-        .arg(flag(
+        .flag(
             alloc,
             "split",
             "Gives each host a book and a journal of its own, FILE.s and FILE.r",
-        ))
-        .arg(flag(
+        )
+        .flag(
             alloc,
             "batch",
             "Sends the messages that wait on a stream together, up to four",
-        ))
+        )
 }
 
 pub(crate) fn send<'a>(alloc: Global) -> Description<'a>
     ensures { described.Describes described.send result.command }
 {
     host(alloc, "send", texts::SEND_ABOUT, texts::SEND_AFTER_HELP)
-        .arg(flag(
+        .flag(
             alloc,
             "each",
             "Puts a stream's next message once the last one's answer came, as without it",
-        ))
-        .arg(flag(
+        )
+        .flag(
             alloc,
             "many",
             "Puts it while the last ones have no answer yet, and up to 16 wait",
-        ))
-        .arg(flag(
+        )
+        .flag(
             alloc,
             "batch",
             "The same, and sends those that wait on a stream together, up to four",
-        ))
-        .arg(flag(
+        )
+        .flag(
             alloc,
             "hex",
             "Reads messages in lower-case hexadecimal, `-` for no bytes",
-        ))
+        )
 }
 
 fn receive<'a>(alloc: Global) -> Description<'a>
@@ -170,7 +170,7 @@ fn receive<'a>(alloc: Global) -> Description<'a>
         texts::RECEIVE_ABOUT,
         texts::RECEIVE_AFTER_HELP,
     )
-    .arg(optional_number(
+    .optional_number(
         alloc,
         "count",
         "N",
@@ -178,7 +178,7 @@ fn receive<'a>(alloc: Global) -> Description<'a>
         0,
         u64::MAX,
         "Ends once it got N messages, and the rest of their batch",
-    ))
+    )
 }
 
 fn serve<'a>(alloc: Global) -> Description<'a>
@@ -191,18 +191,18 @@ fn serve<'a>(alloc: Global) -> Description<'a>
         texts::SERVE_AFTER_HELP,
         "Where it listens for the other host, as 127.0.0.1:7001",
     )
-    .arg(text(
+    .text(
         alloc,
         "side",
         "SIDE",
         "Whether it sends or receives: `send` or `receive`",
-    ))
-    .arg(text(
+    )
+    .text(
         alloc,
         "door",
         "ADDR",
         "Where programs ask it over HTTP, as 127.0.0.1:7003",
-    ))
+    )
     .arg(optional_text(
         alloc,
         "token-file",
@@ -210,16 +210,16 @@ fn serve<'a>(alloc: Global) -> Description<'a>
         "The token that each request has to bring stands there",
     ))
     .arg(tick(alloc))
-    .arg(flag(
+    .flag(
         alloc,
         "batch",
         "Sends the messages that wait on a stream together, up to four",
-    ))
-    .arg(flag(
+    )
+    .flag(
         alloc,
         "sync",
         "Puts the journal on its disk before answers and packets leave",
-    ));
+    );
     limited(alloc, served)
 }
 
@@ -237,12 +237,12 @@ fn call<'a>(alloc: Global) -> Description<'a>
             "MESSAGE",
             "The message to put; standard input has it if absent",
         ))
-        .arg(text(
+        .text(
             alloc,
             "door",
             "ADDR",
             "Where the host is asked, as 127.0.0.1:7003",
-        ))
+        )
         .arg(stream(alloc))
         .arg(optional_text(
             alloc,
@@ -256,27 +256,27 @@ fn call<'a>(alloc: Global) -> Description<'a>
             "FILE",
             "The token that the door wants stands there",
         ))
-        .arg(optional_number(
+        .optional_number(
             alloc,
             "wait",
             "SECONDS",
             0,
             WAIT,
             "How long it is tried again where it does not come about, 0 to 1000000",
-        ))
-        .arg(optional_number(
+        )
+        .optional_number(
             alloc,
             "after",
             "LINE",
             0,
             u64::MAX,
             "Watches from behind this line of the journal on",
-        ))
-        .arg(flag(
+        )
+        .flag(
             alloc,
             "hex",
             "Reads and shows messages in lower-case hexadecimal, `-` for no bytes",
-        ))
+        )
 }
 
 /// The command of this name with the options that a host has on either side, and what help says of it.
@@ -296,28 +296,28 @@ fn host<'a>(
         "Where it listens, as 127.0.0.1:7001",
     )
     .arg(tick(alloc))
-    .arg(optional_number(
+    .optional_number(
         alloc,
         "tick-most",
         "MICROSECONDS",
         1,
         TICK_MOST,
         "How long it waits at most before it is sent once more, 1 to 3600000000; 64 ticks if absent",
-    ))
-    .arg(flag(alloc, "json", "Prints each line as a JSON object"))
-    .arg(flag(
+    )
+    .flag(alloc, "json", "Prints each line as a JSON object")
+    .flag(
         alloc,
         "sync",
         "Puts the journal on its disk before packets leave",
-    ));
-    limited(alloc, timed).arg(optional_number(
+    );
+    limited(alloc, timed).optional_number(
         alloc,
         "stats",
         "SECONDS",
         1,
         STATS,
         "Tells its figures on standard error as often, and at its end, 1 to 1000000",
-    ))
+    )
 }
 
 /// The command of this name with what each host of a pair is told: where it listens, of which help says this, where the other one does, how many streams there
@@ -332,8 +332,8 @@ fn placed<'a>(
     ensures { described.Describes (described.placed name.entry.now) result.command }
 {
     with_texts(alloc, name, about, after_help)
-        .arg(text(alloc, "listen", "ADDR", listen))
-        .arg(text(alloc, "peer", "ADDR", "Where the other host listens"))
+        .text(alloc, "listen", "ADDR", listen)
+        .text(alloc, "peer", "ADDR", "Where the other host listens")
         .arg(number(
             alloc,
             "streams",
@@ -341,12 +341,12 @@ fn placed<'a>(
             STREAMS,
             "The number of streams, 1 to 256",
         ))
-        .arg(text(
+        .text(
             alloc,
             "journal",
             "FILE",
             "Its journal, which is begun, or gone on with",
-        ))
+        )
 }
 
 /// This command with how long a host waits at its end, and how long a piece of its journal is.
@@ -354,22 +354,22 @@ fn limited<'a>(alloc: Global, description: Description<'a>) -> Description<'a>
     ensures { (app : App) → described.Describes app description.entry.command → described.Describes (described.limited app) result.command }
 {
     description
-        .arg(optional_number(
+        .optional_number(
             alloc,
             "wait",
             "SECONDS",
             0,
             WAIT,
             "How long it waits at its end for what is on its way, 0 to 1000000",
-        ))
-        .arg(optional_number(
+        )
+        .optional_number(
             alloc,
             "piece",
             "BYTES",
             LEAST_PIECE,
             PIECE,
             "How long its journal is when it begins a new piece, 1024 to 1000000000000",
-        ))
+        )
 }
 
 fn stop<'a>(alloc: Global) -> Description<'a>
@@ -413,9 +413,9 @@ fn outcomes<'a>(alloc: Global) -> Description<'a>
     )
     .arg(file(alloc, "The journal of a sender, or of one side of two"))
     .arg(second_file(alloc))
-    .arg(flag(alloc, "open", "Shows the puts that are open"))
-    .arg(flag(alloc, "gone", "Shows the puts that are gone"))
-    .arg(flag(alloc, "json", "Prints each line as a JSON object"))
+    .flag(alloc, "open", "Shows the puts that are open")
+    .flag(alloc, "gone", "Shows the puts that are gone")
+    .flag(alloc, "json", "Prints each line as a JSON object")
 }
 
 fn got<'a>(alloc: Global) -> Description<'a>
@@ -423,20 +423,20 @@ fn got<'a>(alloc: Global) -> Description<'a>
 {
     with_texts(alloc, "got", texts::GOT_ABOUT, texts::GOT_AFTER_HELP)
         .arg(file(alloc, "The receiver's journal"))
-        .arg(optional_number(
+        .optional_number(
             alloc,
             "after",
             "N",
             0,
             u64::MAX,
             "Shows lines of greater numbers than N",
-        ))
-        .arg(flag(
+        )
+        .flag(
             alloc,
             "follow",
             "Goes on with what is got as the journal grows",
-        ))
-        .arg(flag(alloc, "json", "Prints each line as a JSON object"))
+        )
+        .flag(alloc, "json", "Prints each line as a JSON object")
 }
 
 fn manual<'a>(alloc: Global) -> Description<'a>
@@ -474,15 +474,49 @@ fn with_texts<'a>(
     }
 }
 
+impl<'a> Description<'a> {
+    /// With an option whose value is any text.
+    fn text(
+        self,
+        alloc: Global,
+        name: &'static str,
+        value: &'static str,
+        help: &'static str,
+    ) -> Description<'a>
+        ensures { described.IsGivenOne (described.text name.entry.now) self.entry.command result.command }
+    {
+        self.arg(text(alloc, name, value, help))
+    }
+
+    /// With an option that may be absent, whose value is a number from `low` to `high`.
+    fn optional_number(
+        self,
+        alloc: Global,
+        name: &'static str,
+        value: &'static str,
+        low: u64,
+        high: u64,
+        help: &'static str,
+    ) -> Description<'a>
+        ensures { described.IsGivenOne (described.optional_number name.entry.now low high) self.entry.command result.command }
+    {
+        self.arg(optional_number(alloc, name, value, low, high, help))
+    }
+
+    /// With a flag.
+    fn flag(self, alloc: Global, name: &'static str, help: &'static str) -> Description<'a>
+        ensures { described.IsGivenOne (described.flag name.entry.now) self.entry.command result.command }
+    {
+        self.arg(flag(alloc, name, help))
+    }
+}
+
 /// The argument that names a command's file.
 fn file<'a>(alloc: Global, help: &'static str) -> Arg<'a>
     ensures rule { rule_of result ≡ described.file }
     ensures local { result.global ≡ false }
 {
-    Arg::new(alloc, "FILE")
-        .help(help)
-        .required(true)
-        .action(ArgAction::Set)
+    needed(alloc, "FILE", help)
 }
 
 /// The argument that names the file of a second journal.
@@ -490,10 +524,7 @@ fn second_file<'a>(alloc: Global) -> Arg<'a>
     ensures rule { rule_of result ≡ described.second_file }
     ensures local { result.global ≡ false }
 {
-    Arg::new(alloc, "SECOND")
-        .value_name("FILE")
-        .help("The journal of a second process")
-        .action(ArgAction::Set)
+    offered(alloc, "SECOND", "The journal of a second process").value_name("FILE")
 }
 
 /// The argument of this name, which is any text, and has to be there.
@@ -501,10 +532,7 @@ fn needed<'a>(alloc: Global, name: &'static str, help: &'static str) -> Arg<'a>
     ensures rule { rule_of result ≡ described.needed name.entry.now }
     ensures local { result.global ≡ false }
 {
-    Arg::new(alloc, name)
-        .help(help)
-        .required(true)
-        .action(ArgAction::Set)
+    offered(alloc, name, help).required(true)
 }
 
 /// The argument of this name, which is any text, and may be absent.
@@ -520,11 +548,7 @@ fn shell<'a>(alloc: Global) -> Arg<'a>
     ensures rule { described.IsShell (rule_of result) }
     ensures local { result.global ≡ false }
 {
-    Arg::new(alloc, "SHELL")
-        .help("The shell")
-        .required(true)
-        .action(ArgAction::Set)
-        .value_parser(ValueParser::Names(SHELLS.as_slice()))
+    needed(alloc, "SHELL", "The shell").value_parser(ValueParser::Names(SHELLS.as_slice()))
 }
 
 /// The option of this name, whose value is a number from `low` to `high`.
@@ -532,13 +556,10 @@ fn number<'a>(alloc: Global, name: &'static str, low: u32, high: u32, help: &'st
     ensures rule { rule_of result ≡ described.number name.entry.now low high }
     ensures local { result.global ≡ false }
 {
-    Arg::new(alloc, name)
-        .long(name)
-        .value_name("N")
-        .help(help)
-        .required(true)
-        .action(ArgAction::Set)
-        .value_parser(ValueParser::unsigned(u64::from(low), u64::from(high)))
+    text(alloc, name, "N", help).value_parser(ValueParser::unsigned(
+        u64::from(low),
+        u64::from(high),
+    ))
 }
 
 /// The option of this name, whose value is any text.
@@ -546,12 +567,7 @@ fn text<'a>(alloc: Global, name: &'static str, value: &'static str, help: &'stat
     ensures rule { rule_of result ≡ described.text name.entry.now }
     ensures local { result.global ≡ false }
 {
-    Arg::new(alloc, name)
-        .long(name)
-        .value_name(value)
-        .help(help)
-        .required(true)
-        .action(ArgAction::Set)
+    optional_text(alloc, name, value, help).required(true)
 }
 
 /// The option that names what carries the packets.
@@ -559,13 +575,9 @@ fn link<'a>(alloc: Global) -> Arg<'a>
     ensures rule { described.IsLink (rule_of result) }
     ensures local { result.global ≡ false }
 {
-    Arg::new(alloc, "link")
-        .long("link")
-        .value_name("LINK")
-        .help("What carries the packets")
-        .required(true)
-        .action(ArgAction::Set)
-        .value_parser(ValueParser::Names(LINKS.as_slice()))
+    text(alloc, "link", "LINK", "What carries the packets").value_parser(ValueParser::Names(
+        LINKS.as_slice(),
+    ))
 }
 
 /// The option that tells how many pumps a host has.
@@ -573,13 +585,15 @@ fn pumps<'a>(alloc: Global) -> Arg<'a>
     ensures rule { rule_of result ≡ described.pumps }
     ensures local { result.global ≡ false }
 {
-    Arg::new(alloc, "pumps")
-        .long("pumps")
-        .value_name("N")
-        .help("The number of pumps of each host, 1 to 4")
-        .default_value("1")
-        .action(ArgAction::Set)
-        .value_parser(ValueParser::unsigned(1, u64::from(PUMPS)))
+    optional_number(
+        alloc,
+        "pumps",
+        "N",
+        1,
+        u64::from(PUMPS),
+        "The number of pumps of each host, 1 to 4",
+    )
+    .default_value("1")
 }
 
 /// The option that tells how long a packet waits for its answer.
@@ -625,12 +639,7 @@ fn optional_number<'a>(
     ensures rule { rule_of result ≡ described.optional_number name.entry.now low high }
     ensures local { result.global ≡ false }
 {
-    Arg::new(alloc, name)
-        .long(name)
-        .value_name(value)
-        .help(help)
-        .action(ArgAction::Set)
-        .value_parser(ValueParser::unsigned(low, high))
+    optional_text(alloc, name, value, help).value_parser(ValueParser::unsigned(low, high))
 }
 
 /// The option of this name that may be absent, whose value is any text.
@@ -643,11 +652,7 @@ fn optional_text<'a>(
     ensures rule { rule_of result ≡ described.optional_text name.entry.now }
     ensures local { result.global ≡ false }
 {
-    Arg::new(alloc, name)
-        .long(name)
-        .value_name(value)
-        .help(help)
-        .action(ArgAction::Set)
+    offered(alloc, name, help).long(name).value_name(value)
 }
 
 /// The flag of this name.

@@ -1,7 +1,7 @@
 //! Why arguments choose nothing, and what is told of it.
 ghost use Rattle.std.specs.Prelude.{◌≡◌};
 ghost use Rattle.amo_arguments.specs.Arguments as arguments;
-ghost use Rattle.amo_arguments.specs.Arguments.{IsMistake, IsTextWith, IsToldAs};
+ghost use Rattle.amo_arguments.specs.Arguments.{BlamesIf, IsMistake, IsTextWith, IsToldAs};
 
 use crate::ArgumentsFault;
 use crate::commands::{command, send};
@@ -47,6 +47,16 @@ impl From<AllocError> for Unfit {
     }
 }
 
+/// That a value does not do, with this advice, unless there was no memory for it.
+pub(crate) fn blamed(advice: Result<String, AllocError>) -> Unfit
+    ensures { BlamesIf (Unit {0}) result }
+{
+    match advice {
+        Ok(advice) => Unfit::Value(advice),
+        Err(AllocError) => Unfit::NoMemory,
+    }
+}
+
 /// What is told of arguments that choose nothing.
 pub(crate) fn told(alloc: Global, refusal: &Refusal) -> ArgumentsFault
     ensures { IsToldAs refusal.now result }
@@ -81,35 +91,26 @@ pub fn not_text(alloc: Global) -> ArgumentsFault
 fn unfit_value(alloc: Global, message: &str) -> ArgumentsFault
     ensures mistake { IsMistake result }
 {
-    match command(alloc) {
-        Ok(command) => mistake(alloc, command, ErrorKind::ValueValidation, message),
-        Err(AllocError) => ArgumentsFault::NoMemory,
-    }
+    mistake(alloc, command(alloc), ErrorKind::ValueValidation, message)
 }
 
 /// The fault of a match that `clap` does not give: it has a command, and each argument's value is what it has to be.
 fn absent(alloc: Global) -> ArgumentsFault
     ensures mistake { IsMistake result }
 {
-    match command(alloc) {
-        Ok(command) => mistake(
-            alloc,
-            command,
-            ErrorKind::MissingRequiredArgument,
-            "a command or one of its arguments is missing",
-        ),
-        Err(AllocError) => ArgumentsFault::NoMemory,
-    }
+    mistake(
+        alloc,
+        command(alloc),
+        ErrorKind::MissingRequiredArgument,
+        "a command or one of its arguments is missing",
+    )
 }
 
 /// The fault of `send` with two flags that contradict each other, with this message.
 fn contradiction(alloc: Global, message: &str) -> ArgumentsFault
     ensures mistake { IsMistake result }
 {
-    match sender(alloc) {
-        Ok(sender) => mistake(alloc, sender, ErrorKind::ArgumentConflict, message),
-        Err(AllocError) => ArgumentsFault::NoMemory,
-    }
+    mistake(alloc, sender(alloc), ErrorKind::ArgumentConflict, message)
 }
 
 /// The command `send`, under the name by which its usage is told.
@@ -117,19 +118,28 @@ fn sender<'a>(alloc: Global) -> Result<Command<'a>, AllocError> {
     send(alloc).into_command()?.bin_name("amo send")
 }
 
-/// The fault of this kind with this message, in `clap`'s words on this command.
+/// The fault of this kind with this message, in `clap`'s words on this command, unless there was no memory for one of them.
 fn mistake(
     alloc: Global,
-    mut command: Command<'_>,
+    command: Result<Command<'_>, AllocError>,
     kind: ErrorKind,
     message: &str,
 ) -> ArgumentsFault
     ensures mistake { IsMistake result }
 {
-    match command.error(kind, message) {
+    match error_of(command, kind, message) {
         Ok(error) => text(alloc, &error, MISTAKE),
         Err(AllocError) => ArgumentsFault::NoMemory,
     }
+}
+
+/// The error of this kind with this message, in `clap`'s words on this command.
+fn error_of(
+    command: Result<Command<'_>, AllocError>,
+    kind: ErrorKind,
+    message: &str,
+) -> Result<Error, AllocError> {
+    command?.error(kind, message)
 }
 
 /// The text of an error, with this status.

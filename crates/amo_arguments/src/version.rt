@@ -2,4 +2,4 @@
 //! this file says so.
 
 /// The version, the toolchain that the program is built with, and whether it is proved.
-pub const VERSION: &str = "0.2.0 (rattle-kit-13f, proved)";
+pub const VERSION: &str = "0.2.0 (rattle-kit-13, proved)";

@@ -9,7 +9,7 @@ use amo_world::{Event, NoMemory, World, WorldFault};
 use std::alloc::{AllocError, Global};
 
 /// The first thing found that stands against the events so far.
-#[derive(Debug, Drop)]
+#[derive(Drop)]
 pub(crate) enum Finding {
     Nothing,
     /// This event, counted from 1, has this fault.

@@ -6,7 +6,7 @@ use crate::Verdict;
 use amo_journal::Version;
 
 /// What is found of one journal, or of two.
-#[derive(Clone, Copy, Debug, PartialEq, Eq)]
+#[derive(Clone, Copy, PartialEq, Eq)]
 pub enum Judgement {
     /// Of the one journal, or of the events of both, merged.
     Whole(Verdict),

@@ -62,8 +62,8 @@ impl LoneSide {
         ensures { IfOk result (λ _. (automaton : Automaton) (words : List ℕ) → IsLone self.old automaton words
             → IsLone self.new (row automaton act.now).state (option_to_list word ++ words)) }
     {
-        let copy = copy_of(act)?;
         self.note(word)?;
+        let copy = copy_of(act)?;
         self.automaton.advance(copy);
         Ok(())
     }

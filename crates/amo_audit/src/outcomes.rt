@@ -1,6 +1,8 @@
 //! What became of each put of two journals, as far as they merge.
-ghost use Rattle.std.specs.Prelude.{◌≡◌, ◌≢◌, List, IfErr, IfOk, OnOk, map, reverse};
+ghost use Rattle.std.specs.Prelude.{◌≡◌, ◌≢◌, ◌∷◌, List, IfErr, IfOk, OnOk, map, reverse};
 ghost use Rattle.amo_world.specs.declared.event.Event.{Event};
+ghost use Rattle.amo_world.specs.Stream.{IsStream};
+ghost use Rattle.amo_outcomes.specs.Followers.{HaveFollowed};
 ghost use Rattle.amo_outcomes.specs.Told.{StreamsTold};
 ghost use Rattle.amo_journal.specs.Lines.{Tell};
 ghost use Rattle.amo_audit.specs.Alone.{IsSoundAlone};
@@ -22,7 +24,7 @@ use amo_world::{Event, NoMemory, World, WorldFault};
 use std::alloc::{AllocError, Global};
 
 /// What became of the puts of two journals.
-#[derive(Debug, Drop)]
+#[derive(Drop)]
 pub struct PutOutcomes {
     /// That of each put that was judged: those of stream 1 first, and of each stream in their order.
     pub all: Vec<Vec<Outcome>>,
@@ -238,10 +240,18 @@ impl TakeEvents for Audited {
     ghost HasTaken = { λ taker past. Finds taker.auditor.world taker.auditor.finding past × FollowsIfSound taker.followers past };
 
     fn take(&mut self, before: usize, event: Event) -> Result<(), AllocError> {
-        let Ok(copy) = event.copy() else {
-            return Err(AllocError);
-        };
-        self.followers.follow(copy)?;
+        follow_copy(&mut self.followers, &event)?;
         self.auditor.take(before, event)
     }
+}
+
+/// Has a copy of an event followed.
+fn follow_copy(followers: &mut Followers, event: &Event) -> Result<(), AllocError>
+    requires { IsStream event.now.stream }
+    ensures { OnOk result ((past : List Event) → IsSound (event.now ∷ past) → HaveFollowed followers.old past → HaveFollowed followers.new (event.now ∷ past)) }
+{
+    let Ok(copy) = event.copy() else {
+        return Err(AllocError);
+    };
+    followers.follow(copy)
 }

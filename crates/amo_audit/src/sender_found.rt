@@ -5,7 +5,7 @@ use crate::Verdict;
 use amo_journal::Version;
 
 /// What is found of one journal that is to be a sender's.
-#[derive(Clone, Copy, Debug, PartialEq, Eq)]
+#[derive(Clone, Copy, PartialEq, Eq)]
 pub enum SenderFound {
     /// It is a sender's, each reply is right, and no word is used twice.
     Good,

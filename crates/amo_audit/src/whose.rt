@@ -7,7 +7,7 @@ use amo_object::End;
 use amo_world::Event;
 
 /// Whose events a journal has.
-#[derive(Clone, Copy, Debug, PartialEq, Eq)]
+#[derive(Clone, Copy, PartialEq, Eq)]
 pub enum Whose {
     /// A sender's alone, or none.
     Sender,

@@ -1,12 +1,15 @@
 -- Lists that are filled one by one.
 use Rattle.std.proofs.Common.{◌≡◌, ℕ, zero, suc, ◌+◌, ◌<◌, List, [], ◌∷◌, ◌++◌, length, get_or, map, replicate, inl, inr, ◌⊎◌, ⊎_elim, slice_get, Some, refl, sym, ap, ◌∙◌, subst, arith, length-append}
-use Rattle.std.proofs.lemmas.Option.{slice_get_within}
+use Rattle.std.proofs.lemmas.Option.{same_Some, slice_get_within}
 use mathlib.Core.Option.{some, some-injective, some-ne-none}
 use mathlib.Core.Logic.{dite}
 use native.Mathlib.Decide.{ℕ_discrete}
 use lib.ListN.{get_elem?}
+use Rattle.atomic_table.specs.Seated.{TableId}
+use Rattle.amo_object.specs.declared.step.End.{End}
 use Rattle.amo_world.proofs.Lists.{slice_get-end, slice_get-longer}
-use Rattle.amo_book.specs.Book.{Each, Lists}
+use Rattle.amo_book.specs.Book.{Each, Lists, first_charge}
+use Rattle.amo_book.specs.Charge.{ChargeState}
 use Rattle.amo_book.specs.Rule.{Slot, Spaced, stride, slot_of}
 
 module _ {A : Type 0} where
@@ -49,6 +52,16 @@ module _ {A : Type 0} where
   pub lists-each : (P : A → Type 0) (f : ℕ → A) (n : ℕ) (l : List A) → ((k : ℕ) → P (f k)) → Lists f n l → Each P l
   lists-each P f n l all h = each-from P l
       (λ k x e. let lt = slice_get_within l k x e in let long = h.0 in let same = h.1 k (omega arith) in let is : f k ≡ x = cc in subst P is (all k))
+
+-- one more side has its charge
+pub charges-more : (id : TableId) (sides : List (End × ℕ)) (n : ℕ) (l : List ChargeState) (x : ChargeState) (side : End) (stream : ℕ)
+    → slice_get sides n ≡ Some (side, stream) → x ≡ first_charge id n side stream → length l ≡ n
+    → ((k : ℕ) (s : End) (t : ℕ) → k < n → slice_get sides k ≡ Some (s, t) → slice_get l k ≡ Some (first_charge id k s t))
+    → (k : ℕ) (s : End) (t : ℕ) → k < n + 1 → slice_get sides k ≡ Some (s, t) → slice_get (l ++ x ∷ []) k ≡ Some (first_charge id k s t)
+charges-more id sides n l x side stream here is long before k s t lt there = dite (ℕ_discrete k n)
+    (λ e. let same : (side, stream) ≡ (s, t) = same_Some _ _ (sym here ∙ (ap (slice_get sides) (sym e) ∙ there)) in
+    ap (slice_get (l ++ x ∷ [])) (e ∙ sym long) ∙ (get-push-here l x ∙ ap Some (is ∙ (λ i. first_charge id (sym e i) (same i).0 (same i).1))))
+    (λ ne. get-push-before l x k (omega arith) ∙ before k s t (omega arith) there)
 
 pub spaced-none : (f : ℕ → Slot) → Spaced f 0 []
 spaced-none f = (refl, λ k h. absurd (omega arith))

@@ -68,12 +68,12 @@ impl Called {
     }
 
     /// As a get_ack answers it.
-    fn into_ack(self) -> Result<(bool, u64), AckFault>
-        requires { IsAckReply self.reply }
-        ensures answer { ack_answer result ≡ Some (self.reply, self.position) }
+    fn as_ack(&self) -> Result<(bool, u64), AckFault>
+        requires { IsAckReply self.now.reply }
+        ensures answer { ack_answer result ≡ Some (self.now.reply, self.now.position) }
     {
         let position = self.position;
-        match self.reply {
+        match &self.reply {
             Reply::Yes => Ok((true, position)),
             Reply::No => Ok((false, position)),
             Reply::NotYet => Err(AckFault::NotYet(position)),
@@ -158,7 +158,7 @@ impl Book {
             stream,
         };
         match self.call(pass, site, Act::Ack) {
-            Ok(called) => called.into_ack(),
+            Ok(called) => called.as_ack(),
             Err(_) => Err(AckFault::Busy),
         }
     }

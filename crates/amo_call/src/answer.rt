@@ -13,7 +13,7 @@ use crate::scan::{behind, behind_number, number_before, quoted_in_front, word_be
 use amo_door::{Claim, EventPlace, Fate, Word};
 
 /// What a door answers.
-#[derive(Debug, Drop)]
+#[derive(Drop)]
 pub struct Response {
     /// The status (RFC 9110, section 15).
     pub status: u16,
@@ -24,7 +24,7 @@ pub struct Response {
 }
 
 /// How a stream is: the host's life, and the number of the last message that was put or taken in it.
-#[derive(Debug, Drop)]
+#[derive(Drop)]
 pub struct StreamState {
     pub life: Word,
     pub last: u64,

@@ -152,7 +152,7 @@ fn push<'a>(
 }
 
 /// What came of an answer.
-#[derive(Clone, Copy, Debug, PartialEq, Eq)]
+#[derive(Clone, Copy, PartialEq, Eq)]
 pub(crate) enum Came {
     /// More is to come.
     More,

@@ -6,7 +6,7 @@ use std::alloc::{AllocError, Global};
 use std::io::{self, Read, Write};
 
 /// How following ended.
-#[derive(Debug, Drop)]
+#[derive(Drop)]
 pub enum Followed {
     /// The door was closed, or there was none.
     Ended,

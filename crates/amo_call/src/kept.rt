@@ -47,7 +47,7 @@ enum Step {
 }
 
 /// A call, as its file keeps it.
-#[derive(Debug, Drop)]
+#[derive(Drop)]
 pub struct Kept {
     /// What it names.
     pub claim: Claim,

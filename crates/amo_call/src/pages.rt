@@ -17,7 +17,7 @@ const NEXT_LINE: &[u8] = b"amo_journal_next_line ";
 const NO_LINES: &[u8] = b"],\"from\":null,\"next\":null,\"more\":false}";
 
 /// A page of what was got of a stream, as far as it is of use to who wants the first message of it.
-#[derive(Debug, Drop)]
+#[derive(Drop)]
 pub struct Page {
     /// The first message.
     pub first: Option<GotMessage>,
@@ -26,7 +26,7 @@ pub struct Page {
 }
 
 /// The lines that a page tells of.
-#[derive(Clone, Copy, Debug, PartialEq, Eq)]
+#[derive(Clone, Copy, PartialEq, Eq)]
 pub struct PageLines {
     /// The number of the first one that was read.
     pub from: u64,

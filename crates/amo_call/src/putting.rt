@@ -13,7 +13,7 @@ use amo_packet::Message;
 use std::alloc::Global;
 
 /// A message that is to be put once.
-#[derive(Debug, Drop)]
+#[derive(Drop)]
 pub struct Order {
     /// The stream.
     pub stream: u32,
@@ -24,7 +24,7 @@ pub struct Order {
 }
 
 /// What is told of a message that was to be put.
-#[derive(Debug, Drop)]
+#[derive(Drop)]
 pub enum PutTold {
     /// It was put for this claim, by this line of the host's journal.
     Put { claim: Claim, line: u64 },

@@ -10,7 +10,7 @@ use amo_text::push_decimal;
 use std::alloc::{AllocError, Global};
 
 /// A request, before it is spelt for a connection.
-#[derive(Debug, Drop)]
+#[derive(Drop)]
 pub struct Request {
     /// How it asks.
     pub method: Method,

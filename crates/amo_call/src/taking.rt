@@ -15,7 +15,7 @@ use amo_packet::Message;
 use std::alloc::Global;
 
 /// What is told of the next message of a stream.
-#[derive(Debug, Drop)]
+#[derive(Drop)]
 pub enum TakeTold {
     /// It was taken for this claim, by this line of the host's journal, and is not done.
     Taken {

@@ -108,7 +108,7 @@ pub(crate) fn unfit<R: Files<File = File>>(rt: &R, path: &str) -> Option<&'stati
 }
 
 /// What the file of a call has: what was read from there, or written there, whole and on its disk; or nothing, where it is not there.
-#[derive(Debug, Drop)]
+#[derive(Drop)]
 pub(crate) struct FileText {
     bytes: Vec<u8>,
 }

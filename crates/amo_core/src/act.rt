@@ -2,7 +2,7 @@
 use amo_packet::{Message, OwnedPacket};
 
 /// What happens at a side: a client's call, or an act of its host.
-#[derive(Clone, Debug, PartialEq, Eq, Drop)]
+#[derive(Clone, PartialEq, Eq, Drop)]
 pub enum Act {
     /// The client puts a message. A sender's.
     Put(Message),

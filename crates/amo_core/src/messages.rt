@@ -8,7 +8,7 @@ use arrayvec::ArrayVec;
 use std::marker::Model;
 
 /// One to [`MAX_BATCH`] messages, in order, which take no memory beside their own. Contracts see a list that is never empty.
-#[derive(Debug, Drop)]
+#[derive(Drop)]
 pub struct Messages {
     items: ArrayVec<Message, MAX_BATCH>,
 }

@@ -9,7 +9,7 @@ use crate::Reply;
 use amo_packet::{MAX_PACKET, Message, Packet, write};
 
 /// What an act replies and hands back.
-#[derive(Debug, Drop)]
+#[derive(Drop)]
 pub struct Advanced {
     /// The reply, or none where the side does not have the act.
     pub reply: Option<Reply>,

@@ -8,7 +8,7 @@ use crate::Messages;
 use amo_packet::{Body, Message};
 
 /// What a sender sends in one handshake. A batch of one message is another packet than a send of it.
-#[derive(Debug, Drop)]
+#[derive(Drop)]
 pub enum Payload {
     /// A message, in a send.
     Message(Message),

@@ -15,7 +15,7 @@ use std::mem;
 use thiserror::Error;
 
 /// The mode of a receiver.
-#[derive(Debug, Drop)]
+#[derive(Drop)]
 pub enum ReceiverMode {
     /// At rest.
     Idle,

@@ -18,7 +18,7 @@ use thiserror::Error;
 pub const MAX_WAITING: usize = 16;
 
 /// The mode of a sender.
-#[derive(Debug, Drop)]
+#[derive(Drop)]
 pub enum SenderMode {
     /// At rest, with what is known of the last message sent: whether it was got.
     Quiet(bool),

@@ -20,7 +20,7 @@ const ROUNDS: u32 = 24;
 const LOOKING: u64 = 50;
 
 /// What a host waits for, by the numbers that the system has for them. A negative number is not waited for.
-#[derive(Clone, Copy, Debug)]
+#[derive(Clone, Copy)]
 pub struct Waited {
     /// Where lines come from.
     pub lines: i32,
@@ -35,7 +35,7 @@ pub struct Waited {
 }
 
 /// What there was when a host had waited.
-#[derive(Clone, Copy, Debug)]
+#[derive(Clone, Copy)]
 pub struct Ready {
     /// Lines may have come, or their end.
     pub lines: bool,

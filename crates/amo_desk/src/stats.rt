@@ -6,7 +6,7 @@ use amo_text::Sink;
 const SECOND: u64 = 1_000_000;
 
 /// When a host tells its figures.
-#[derive(Clone, Copy, Debug)]
+#[derive(Clone, Copy)]
 pub(crate) struct Stats {
     /// Each time that so many microseconds have passed; never, where it is none.
     each: Option<u64>,

@@ -46,7 +46,7 @@ fn spares_of(file: &File) -> Option<(File, File)> {
 }
 
 /// The file that was written, and how long it is, if nobody else changed it.
-#[derive(Clone, Copy, Debug)]
+#[derive(Clone, Copy)]
 struct Written {
     device: u64,
     inode: u64,

@@ -6,7 +6,7 @@ ghost use Rattle.amo_pieces.specs.Journal.{IsWhole};
 use amo_journal::Version;
 
 /// The newest piece.
-#[derive(Clone, Copy, Debug, PartialEq, Eq)]
+#[derive(Clone, Copy, PartialEq, Eq)]
 pub(crate) struct Newest {
     /// How many bytes it has.
     pub(crate) length: u64,

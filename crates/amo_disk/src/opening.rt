@@ -25,7 +25,7 @@ const BLOCK: usize = 65536;
 const FRONT: usize = 16384;
 
 /// What a host wants of a journal.
-#[derive(Clone, Copy, Debug)]
+#[derive(Clone, Copy)]
 pub struct Wanted {
     /// The side of which it is.
     pub side: End,
@@ -100,7 +100,7 @@ pub fn open<'a, 'r, R: Clock + Files<File = File>, L: Ledger>(
 }
 
 /// What the files of a journal tell.
-#[derive(Clone, Copy, Debug)]
+#[derive(Clone, Copy)]
 struct Found {
     start: Start,
     zeros: u64,

@@ -9,7 +9,7 @@ use amo_world::Event;
 const PASS: usize = 1;
 
 /// The last events are the crashes and recoveries of streams from 1 to this one, in order; and behind them may stand the crash of the next.
-#[derive(Clone, Copy, Debug, PartialEq, Eq)]
+#[derive(Clone, Copy, PartialEq, Eq)]
 pub(crate) struct Returns {
     streams: u32,
     has_crash: bool,

@@ -1,7 +1,7 @@
 //! How the pieces of a folder stand.
 
 /// How the pieces of a folder stand, as it keeps count of it: of what a loss of power leaves, and of where the next piece begins.
-#[derive(Clone, Copy, Debug, PartialEq, Eq)]
+#[derive(Clone, Copy, PartialEq, Eq)]
 pub struct Standing {
     /// Whether all their bytes are on the disk.
     pub bytes: bool,

@@ -6,7 +6,7 @@ use crate::{Ending, OpenFault};
 use amo_journal::Version;
 
 /// Where a journal goes on.
-#[derive(Clone, Copy, Debug, PartialEq, Eq)]
+#[derive(Clone, Copy, PartialEq, Eq)]
 pub struct Start {
     /// Its version. None where it has no whole line: it is new, or was torn in its first line.
     pub version: Option<Version>,

@@ -14,7 +14,7 @@ use std::alloc::{AllocError, Global};
 pub(crate) const LONGEST_LINE: usize = 2 * MAX_PACKET + 64;
 
 /// What lines at the end of a journal tell.
-#[derive(Clone, Copy, Debug, PartialEq, Eq)]
+#[derive(Clone, Copy, PartialEq, Eq)]
 pub struct Tail {
     /// The number of the next line.
     pub next: u64,
@@ -25,7 +25,7 @@ pub struct Tail {
 }
 
 /// Why bytes are no lines at the end of a journal of this side. A number is that of the first line which is at fault: the number that it should have.
-#[derive(Clone, Copy, Debug, PartialEq, Eq)]
+#[derive(Clone, Copy, PartialEq, Eq)]
 pub enum TailFault {
     /// It is none of a journal.
     Malformed(u64),
@@ -99,7 +99,7 @@ fn take_line(
 }
 
 /// What the lines so far tell of the last of them.
-#[derive(Clone, Copy, Debug)]
+#[derive(Clone, Copy)]
 struct Last {
     next: u64,
     returns: Returns,

@@ -120,10 +120,14 @@ host_body life about = codes "{" ++ life_member life ++ program_members about ++
 abbrev pub refusal_members : Refusal → List ℕ → List ℕ
 refusal_members reason sentence = codes "{\"error\":\"" ++ word_of reason ++ codes "\",\"text\":" ++ quoted sentence
 
--- an object that says why a request is refused, with more members behind
+-- such an object, with more members behind
+abbrev pub refusal_body : Refusal → List ℕ → List ℕ → List ℕ
+refusal_body reason sentence more = refusal_members reason sentence ++ more ++ codes "}"
+
+-- the same of some sentence
 pub record IsRefusal (reason : Refusal) (more body : List ℕ) : Type 0 where
   pub sentence : List ℕ
-  pub body_is : body ≡ refusal_members reason sentence ++ more ++ codes "}"
+  pub body_is : body ≡ refusal_body reason sentence more
 
 -- in how many seconds a request may come again, as the head says it
 abbrev pub retry_extra : Option ℕ → Extra

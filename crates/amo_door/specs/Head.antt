@@ -1,5 +1,5 @@
 -- What the head of a request says.
-use Rattle.std.specs.Prelude.{◌≡◌, ◌≢◌, ◌⊎◌, ℕ, ◌<◌, ◌^◌, Option, None, Some, List}
+use Rattle.std.specs.Prelude.{◌≡◌, ◌⊎◌, ℕ, ◌<◌, ◌^◌, Option, None, Some, List}
 use Rattle.std.specs.Fmt.{decimal}
 
 -- a text is the number of a line

@@ -21,9 +21,9 @@ with_read (Err error) place rows = rows
 abbrev pub with_route : List ℕ → Place → RowsOf (RouteOf Place) → RowsOf (RouteOf Place)
 with_route path place rows = with_read (parse_route path) place rows
 
--- the paths of all places
-unfoldable pub table : RowsOf (RouteOf Place)
-table =
+-- rows with the paths of all places
+unfoldable pub with_all : RowsOf (RouteOf Place) → RowsOf (RouteOf Place)
+with_all rows =
     with_route (codes "/v1/streams/{stream}/got") Got
     (with_route (codes "/v1/streams/{stream}/take") Take
     (with_route (codes "/v1/streams/{stream}/messages/{number}") Message
@@ -33,7 +33,11 @@ table =
     (with_route (codes "/v1") Host
     (with_route (codes "/metrics") Metrics
     (with_route (codes "/healthz") Health
-    (with_route (codes "/") Page [])))))))))
+    (with_route (codes "/") Page rows)))))))))
+
+-- the paths of all places
+unfoldable pub table : RowsOf (RouteOf Place)
+table = with_all []
 
 -- what the parameters of a pattern took of a path, each under its name
 abbrev pub taken : List ℕ → List ℕ → List (ℕ × ℕ) → List ℕ → List (List ℕ × List ℕ)

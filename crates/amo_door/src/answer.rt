@@ -7,8 +7,8 @@ ghost use Rattle.amo_door.specs.Answer.{IsRefusal, extra_of, got_body, host_body
 ghost use Rattle.amo_door.specs.Refusal.{status_of};
 
 use crate::json::{
-    push_got, push_got_end, push_got_front, push_host, push_life, push_place, push_receiver,
-    push_refusal, push_sender,
+    push_conflict_at_receiver, push_conflict_at_sender, push_got, push_got_end, push_got_front,
+    push_host, push_other_life, push_place, push_receiver, push_refusal, push_sender,
 };
 use crate::{EventPlace, Made, Place, Refusal, Word};
 use amo_object::End;
@@ -50,7 +50,7 @@ impl Kind {
 }
 
 /// What the head of an answer says beside its body.
-#[derive(Clone, Copy, Debug, PartialEq, Eq)]
+#[derive(Clone, Copy, PartialEq, Eq)]
 pub enum Extra {
     /// Nothing.
     None,
@@ -69,7 +69,7 @@ pub enum Extra {
 }
 
 /// An answer, before it is spelt for a connection.
-#[derive(Debug, Drop)]
+#[derive(Drop)]
 pub struct Answer {
     /// Its status (RFC 9110, section 15).
     pub status: u16,
@@ -82,7 +82,7 @@ pub struct Answer {
 }
 
 /// Whether something was made for a claim now, or before.
-#[derive(Clone, Copy, Debug, PartialEq, Eq)]
+#[derive(Clone, Copy, PartialEq, Eq)]
 pub enum When {
     /// It was made now.
     Now,
@@ -91,7 +91,7 @@ pub enum When {
 }
 
 /// What is known of the last message that was put on a stream.
-#[derive(Clone, Copy, Debug, PartialEq, Eq)]
+#[derive(Clone, Copy, PartialEq, Eq)]
 pub enum Last {
     /// None was put in this life.
     None,
@@ -104,7 +104,7 @@ pub enum Last {
 }
 
 /// How a stream of senders is.
-#[derive(Clone, Copy, Debug, PartialEq, Eq)]
+#[derive(Clone, Copy, PartialEq, Eq)]
 pub struct SenderState {
     /// The number of the last message that was put in this life, or 0.
     pub put: u64,
@@ -115,7 +115,7 @@ pub struct SenderState {
 }
 
 /// How a stream of receivers is.
-#[derive(Clone, Copy, Debug, PartialEq, Eq)]
+#[derive(Clone, Copy, PartialEq, Eq)]
 pub struct ReceiverState {
     /// The number of the last message that was taken in this life, or 0.
     pub taken: u64,
@@ -141,7 +141,7 @@ pub enum Fate {
 }
 
 /// What a host is.
-#[derive(Clone, Copy, Debug)]
+#[derive(Clone, Copy)]
 pub struct About<'a> {
     /// The version of the program.
     pub version: &'a str,
@@ -156,7 +156,7 @@ pub struct About<'a> {
 }
 
 /// A message that was got, as its receiver's journal tells it.
-#[derive(Debug, Drop)]
+#[derive(Drop)]
 pub struct GotMessage {
     /// The number of its line.
     pub line: u64,
@@ -165,7 +165,7 @@ pub struct GotMessage {
 }
 
 /// Messages that were got of a stream, as some lines of its receiver's journal tell it.
-#[derive(Debug, Drop)]
+#[derive(Drop)]
 pub struct GotPage {
     /// The messages, in the order of their lines.
     pub messages: Vec<GotMessage>,
@@ -321,8 +321,8 @@ impl Answer {
         ensures head { IfOk result (λ answer. (answer.status ≡ status_of refusal) × (answer.kind ≡ AnyKind.Json) × (answer.extra ≡ extra_of refusal)) }
         ensures body { IfOk result (λ answer. IsRefusal refusal [] answer.body.items) }
     {
+        let text = sentence_of(alloc, refusal)?;
         let mut body = Vec::new(alloc);
-        let text = format!(in alloc; "{refusal}")?;
         push_refusal(&mut body, refusal, text.as_str())?;
         body.extend_from_slice(b"}")?;
         Ok(refused(refusal, body))
@@ -333,12 +333,9 @@ impl Answer {
         ensures head { IfOk result (λ answer. (answer.status ≡ 410) × (answer.kind ≡ AnyKind.Json) × (answer.extra ≡ AnyExtra.None)) }
         ensures body { IfOk result (λ answer. IsRefusal OtherLife (codes "," ++ life_member life.now) answer.body.items) }
     {
+        let text = sentence_of(alloc, Refusal::OtherLife)?;
         let mut body = Vec::new(alloc);
-        let text = format!(in alloc; "{}", Refusal::OtherLife)?;
-        push_refusal(&mut body, Refusal::OtherLife, text.as_str())?;
-        body.extend_from_slice(b",")?;
-        push_life(&mut body, life)?;
-        body.extend_from_slice(b"}")?;
+        push_other_life(&mut body, text.as_str(), life)?;
         Ok(refused(Refusal::OtherLife, body))
     }
 
@@ -352,12 +349,9 @@ impl Answer {
         ensures head { IfOk result (λ answer. (answer.status ≡ 409) × (answer.kind ≡ AnyKind.Json) × (answer.extra ≡ AnyExtra.None)) }
         ensures body { IfOk result (λ answer. IsRefusal Conflict (codes "," ++ sender_members life.now stream state) answer.body.items) }
     {
+        let text = sentence_of(alloc, Refusal::Conflict)?;
         let mut body = Vec::new(alloc);
-        let text = format!(in alloc; "{}", Refusal::Conflict)?;
-        push_refusal(&mut body, Refusal::Conflict, text.as_str())?;
-        body.extend_from_slice(b",")?;
-        push_sender(&mut body, life, stream, state)?;
-        body.extend_from_slice(b"}")?;
+        push_conflict_at_sender(&mut body, text.as_str(), life, stream, state)?;
         Ok(refused(Refusal::Conflict, body))
     }
 
@@ -371,14 +365,16 @@ impl Answer {
         ensures head { IfOk result (λ answer. (answer.status ≡ 409) × (answer.kind ≡ AnyKind.Json) × (answer.extra ≡ AnyExtra.None)) }
         ensures body { IfOk result (λ answer. IsRefusal Conflict (codes "," ++ receiver_members life.now stream state) answer.body.items) }
     {
+        let text = sentence_of(alloc, Refusal::Conflict)?;
         let mut body = Vec::new(alloc);
-        let text = format!(in alloc; "{}", Refusal::Conflict)?;
-        push_refusal(&mut body, Refusal::Conflict, text.as_str())?;
-        body.extend_from_slice(b",")?;
-        push_receiver(&mut body, life, stream, state)?;
-        body.extend_from_slice(b"}")?;
+        push_conflict_at_receiver(&mut body, text.as_str(), life, stream, state)?;
         Ok(refused(Refusal::Conflict, body))
     }
+}
+
+/// The sentence of a refusal.
+fn sentence_of(alloc: Global, refusal: Refusal) -> Result<String, AllocError> {
+    format!(in alloc; "{refusal}")
 }
 
 /// An answer that refuses a request.

@@ -22,7 +22,7 @@ use std::str;
 pub const LONGEST_WAIT: u64 = 60;
 
 /// What a host serves, as far as it decides what can be asked of it.
-#[derive(Clone, Copy, Debug, PartialEq, Eq)]
+#[derive(Clone, Copy, PartialEq, Eq)]
 pub struct Served {
     /// Its side.
     pub side: End,
@@ -31,7 +31,7 @@ pub struct Served {
 }
 
 /// What a request asks of the host.
-#[derive(Debug, Drop)]
+#[derive(Drop)]
 pub enum Call {
     /// What the host is.
     Host,

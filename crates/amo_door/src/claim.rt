@@ -3,7 +3,7 @@ use crate::Word;
 use amo_packet::Message;
 
 /// What a call names that may be repeated: a number of a stream, of a life of the host, by a caller.
-#[derive(Debug, Drop)]
+#[derive(Drop)]
 pub struct Claim {
     /// The stream, from 1.
     pub stream: u32,
@@ -25,7 +25,7 @@ pub struct EventPlace {
 }
 
 /// What was made under a number of a stream: a put at a sender, a get at a receiver.
-#[derive(Debug, Drop)]
+#[derive(Drop)]
 pub struct Made {
     /// The number.
     pub number: u64,

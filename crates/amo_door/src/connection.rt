@@ -33,7 +33,7 @@ const MOST_THROWN: usize = 256 * 1024;
 const MOST_EVENTS: usize = 4 * MOST_INPUT;
 
 /// What a connection is at.
-#[derive(Clone, Copy, Debug, PartialEq, Eq)]
+#[derive(Clone, Copy, PartialEq, Eq)]
 enum Stage {
     /// Requests are read.
     Reading,
@@ -48,7 +48,7 @@ enum Stage {
 }
 
 /// What a connection is at, for those who bound how long that may last.
-#[derive(Clone, Copy, Debug, PartialEq, Eq)]
+#[derive(Clone, Copy, PartialEq, Eq)]
 pub enum Phase {
     /// No request has begun.
     Idle,
@@ -75,7 +75,7 @@ struct Begun {
 }
 
 /// What a connection waits for, or has.
-#[derive(Debug, Drop)]
+#[derive(Drop)]
 pub enum Step {
     /// A request that came whole, with the message that is its body. It wants an answer, and no more is read before.
     Call { call: Call, message: Message },

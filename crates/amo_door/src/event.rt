@@ -7,7 +7,7 @@ use amo_text::push_decimal;
 use std::alloc::AllocError;
 
 /// What happened.
-#[derive(Clone, Copy, Debug)]
+#[derive(Clone, Copy)]
 pub enum Happening<'a> {
     /// A message was put on a stream.
     Put(u32, &'a [u8]),

@@ -5,7 +5,7 @@ ghost use Rattle.amo_door.specs.Guard.{admits_host, admits_origin, admits_token,
 use crate::Refusal;
 
 /// By which names a door is asked, and with which token.
-#[derive(Debug, Drop)]
+#[derive(Drop)]
 pub struct Guard {
     /// The names, each with its port, as `127.0.0.1:7003`. A request that names another host is refused, and so is one that a page of another origin
     /// makes: else any page in a browser could ask at a local port.
@@ -15,7 +15,7 @@ pub struct Guard {
 }
 
 /// What the head of a request says of who asks.
-#[derive(Clone, Copy, Debug)]
+#[derive(Clone, Copy)]
 pub struct Credentials<'a> {
     /// The field `Host`, which a request of HTTP/1.0 may lack.
     pub host: Option<&'a [u8]>,

@@ -1,9 +1,10 @@
 //! The members of JSON objects, each in a fixed order and with no blank between them.
-ghost use Rattle.std.specs.Prelude.{◌≡◌, ◌++◌, OnOk};
+ghost use Rattle.std.specs.Prelude.{◌≡◌, ◌++◌, OnOk, codes};
 ghost use Rattle.std.specs.List.{flat_map, list_any};
 ghost use Rattle.std.specs.Char.{is_ascii_control};
 ghost use Rattle.std.specs.Str.{chars};
-ghost use Rattle.amo_door.specs.Answer.{count_members, fate_word, got_end, got_front, got_list, got_message, line_value, host_body, last_value, life_member, line_front, more_end, network_members, next_got, place_members, program_members, receiver_members, refusal_members, sender_members, side_member, stream_members, streams_member, truth};
+ghost use Rattle.amo_door.specs.Answer.{count_members, fate_word, got_end, got_front, got_list, got_message, line_value, host_body, last_value, life_member, line_front, more_end, network_members, next_got, place_members, program_members, receiver_members, refusal_body, refusal_members, sender_members, side_member, stream_members, streams_member, truth};
+ghost use Rattle.amo_door.specs.declared.refusal.Refusal.TheVariants.{Conflict, OtherLife};
 ghost use Rattle.amo_door.specs.Json.{escaped, is_text, message_member, quoted};
 
 use crate::{About, Fate, GotMessage, GotPage, Last, ReceiverState, Refusal, SenderState, Word};
@@ -77,7 +78,7 @@ fn push_byte(shown: &mut Vec<u8>, byte: u8) -> Result<(), AllocError>
 }
 
 /// Appends a life.
-pub(crate) fn push_life(text: &mut Vec<u8>, life: &Word) -> Result<(), AllocError>
+fn push_life(text: &mut Vec<u8>, life: &Word) -> Result<(), AllocError>
     ensures { OnOk result (text.new.items ≡ text.old.items ++ life_member life.now) }
 {
     text.extend_from_slice(b"\"life\":\"")?;
@@ -304,6 +305,52 @@ pub(crate) fn push_refusal(
     text.extend_from_slice(refusal.word().as_bytes())?;
     text.extend_from_slice(b"\",\"text\":")?;
     push_quoted(text, sentence.as_bytes())
+}
+
+/// Appends the object that refuses a claim for another life, with the life of the host.
+pub(crate) fn push_other_life(
+    text: &mut Vec<u8>,
+    sentence: &str,
+    life: &Word,
+) -> Result<(), AllocError>
+    ensures { OnOk result (text.new.items ≡ text.old.items ++ refusal_body OtherLife sentence.now (codes "," ++ life_member life.now)) }
+{
+    push_refusal(text, Refusal::OtherLife, sentence)?;
+    text.extend_from_slice(b",")?;
+    push_life(text, life)?;
+    text.extend_from_slice(b"}")
+}
+
+/// Appends the object that refuses a claim to put, with how its stream is.
+pub(crate) fn push_conflict_at_sender(
+    text: &mut Vec<u8>,
+    sentence: &str,
+    life: &Word,
+    stream: u32,
+    state: SenderState,
+) -> Result<(), AllocError>
+    ensures { OnOk result (text.new.items ≡ text.old.items ++ refusal_body Conflict sentence.now (codes "," ++ sender_members life.now stream state)) }
+{
+    push_refusal(text, Refusal::Conflict, sentence)?;
+    text.extend_from_slice(b",")?;
+    push_sender(text, life, stream, state)?;
+    text.extend_from_slice(b"}")
+}
+
+/// Appends the object that refuses a claim to take, with how its stream is.
+pub(crate) fn push_conflict_at_receiver(
+    text: &mut Vec<u8>,
+    sentence: &str,
+    life: &Word,
+    stream: u32,
+    state: ReceiverState,
+) -> Result<(), AllocError>
+    ensures { OnOk result (text.new.items ≡ text.old.items ++ refusal_body Conflict sentence.now (codes "," ++ receiver_members life.now stream state)) }
+{
+    push_refusal(text, Refusal::Conflict, sentence)?;
+    text.extend_from_slice(b",")?;
+    push_receiver(text, life, stream, state)?;
+    text.extend_from_slice(b"}")
 }
 
 /// Appends a side.

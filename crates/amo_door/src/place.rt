@@ -5,7 +5,7 @@ ghost use Rattle.amo_door.specs.Place.{method_of, methods_of, side_of, takes};
 use amo_object::End;
 
 /// A place that a request may name.
-#[derive(Clone, Copy, Debug, PartialEq, Eq)]
+#[derive(Clone, Copy, PartialEq, Eq)]
 pub enum Place {
     /// `/`: the page.
     Page,
@@ -30,7 +30,7 @@ pub enum Place {
 }
 
 /// How a request asks.
-#[derive(Clone, Copy, Debug, PartialEq, Eq)]
+#[derive(Clone, Copy, PartialEq, Eq)]
 pub enum Method {
     /// For what is there.
     Get,

@@ -6,7 +6,7 @@ ghost use Rattle.amo_door.specs.Query.{Faults, Gives, given_of, name_of, paramet
 use form_urlencoded::raw_pairs;
 
 /// What a request may say there, by its name.
-#[derive(Clone, Copy, Debug, PartialEq, Eq)]
+#[derive(Clone, Copy, PartialEq, Eq)]
 pub enum Parameter {
     /// `life`: the life of the host that is meant.
     Life,
@@ -27,14 +27,20 @@ impl Parameter {
     pub fn read(name: &[u8]) -> Option<Parameter>
         ensures { result ≡ parameter_of name.now }
     {
-        match name {
-            b"life" => Some(Parameter::Life),
-            b"by" => Some(Parameter::By),
-            b"number" => Some(Parameter::Number),
-            b"wait" => Some(Parameter::Wait),
-            b"until" => Some(Parameter::Until),
-            b"after" => Some(Parameter::After),
-            _ => None,
+        if name == b"life".as_slice() {
+            Some(Parameter::Life)
+        } else if name == b"by".as_slice() {
+            Some(Parameter::By)
+        } else if name == b"number".as_slice() {
+            Some(Parameter::Number)
+        } else if name == b"wait".as_slice() {
+            Some(Parameter::Wait)
+        } else if name == b"until".as_slice() {
+            Some(Parameter::Until)
+        } else if name == b"after".as_slice() {
+            Some(Parameter::After)
+        } else {
+            None
         }
     }
 
@@ -54,7 +60,7 @@ impl Parameter {
 }
 
 /// Why a query is none.
-#[derive(Clone, Copy, Debug, PartialEq, Eq)]
+#[derive(Clone, Copy, PartialEq, Eq)]
 pub enum QueryFault {
     /// It gives something under a name that is that of no parameter.
     Unknown,
@@ -63,7 +69,7 @@ pub enum QueryFault {
 }
 
 /// What a query gives, each as it stands there. No value that is taken needs an escape, and none is undone.
-#[derive(Clone, Copy, Debug)]
+#[derive(Clone, Copy)]
 pub struct Query<'a> {
     /// The life of the host that is meant.
     pub life: Option<&'a [u8]>,

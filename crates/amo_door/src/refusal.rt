@@ -5,94 +5,65 @@ ghost use Rattle.amo_door.specs.Refusal.{allow_of, retry_of, status_of, word_of}
 use crate::{Parameter, Place, QueryFault};
 use std::alloc::AllocError;
 use std::fmt;
-use thiserror::Error;
 
 /// Why a request is refused. Its text is a sentence for a person, and its word is for a program. Nothing was put or got by it.
-#[derive(Clone, Copy, Debug, PartialEq, Eq, Error)]
+#[derive(Clone, Copy, PartialEq, Eq)]
 pub enum Refusal {
     /// It is no request of HTTP/1.0 or 1.1.
-    #[error("this is no request of HTTP/1.1")]
     Unreadable,
     /// Its query gives something under a name that no place takes.
-    #[error("the query has a name that is not known here")]
     Unknown,
     /// Its query gives this twice.
-    #[error("the query gives `{0}` twice")]
     Repeated(Parameter),
     /// Its query does not give this, which the place needs.
-    #[error("the query lacks `{0}`")]
     Missing(Parameter),
     /// What its query gives here is none.
-    #[error("what the query gives as `{0}` is none")]
     Wrong(Parameter),
     /// Its query gives this, which the place does not take.
-    #[error("`{0}` means nothing here")]
     Stray(Parameter),
     /// It lacks the token that the host wants, or has another one.
-    #[error("the host wants its token, as `Authorization: Bearer TOKEN`")]
     Token,
     /// It comes from a page of another origin.
-    #[error("pages of another origin may not ask here")]
     Origin,
     /// It names no place of the door.
-    #[error("there is no such place")]
     NoPlace,
     /// It names a stream that the host does not have.
-    #[error("the host has no such stream")]
     NoStream,
     /// It names a message by what is no number.
-    #[error("a message is named by its number")]
     NoNumber,
     /// It names a place that hosts of the other side have.
-    #[error("that is asked of the host on the other side")]
     OtherSide,
     /// It asks this place by a method that it does not take.
-    #[error("this place takes other methods")]
     Method(Place),
     /// It did not come whole in time.
-    #[error("the request did not come in time")]
     Slow,
     /// It claims another number than the next one of its stream, or the last one for another caller or with another message.
-    #[error("another number of this stream is next")]
     Conflict,
     /// It means another life of the host.
-    #[error("the host lives another life now")]
     OtherLife,
     /// It asks what became of a message of a life that the host does not know.
-    #[error("the host knows of no such life")]
     UnknownLife,
     /// It asks what was got behind a line that the host's journal does not have.
-    #[error("the host's journal has no such line: it is not the one of which that was a line")]
     UnknownLine,
     /// Its body is longer than a message may be, or than the place takes.
-    #[error("the body is too long: a message has 1024 bytes at most")]
     TooLong,
     /// Its target is longer than any.
-    #[error("the target is too long")]
     LongTarget,
     /// It names another host than this one.
-    #[error("the request is for another host")]
     Host,
     /// Its head is longer than any.
-    #[error("the head is too long")]
     LongHead,
     /// What the host's own journal tells cannot be read.
-    #[error("the host cannot read its own journal")]
     Journal,
     /// Its body has a coding that is not known here.
-    #[error("the body has a coding that is not known here")]
     Coding,
     /// The stream has no room for one message more.
-    #[error("the stream is full: ask again")]
     Full,
     /// The host cannot do it now.
-    #[error("the host cannot do this now: ask again")]
     NotNow,
     /// The host comes to its end, and takes nothing more.
-    #[error("the host comes to its end, and takes nothing more")]
     Ending,
     /// Too many connections ask at once.
-    #[error("too many ask at once: ask again")]
     Crowded,
 }
 
@@ -162,6 +133,38 @@ impl Refusal {
         }
     }
 
+    /// Its sentence; nothing where that names a parameter.
+    fn text(self) -> &'static str {
+        match self {
+            Refusal::Unreadable => "this is no request of HTTP/1.1",
+            Refusal::Unknown => "the query has a name that is not known here",
+            Refusal::Token => "the host wants its token, as `Authorization: Bearer TOKEN`",
+            Refusal::Origin => "pages of another origin may not ask here",
+            Refusal::NoPlace => "there is no such place",
+            Refusal::NoStream => "the host has no such stream",
+            Refusal::NoNumber => "a message is named by its number",
+            Refusal::OtherSide => "that is asked of the host on the other side",
+            Refusal::Method(_) => "this place takes other methods",
+            Refusal::Slow => "the request did not come in time",
+            Refusal::Conflict => "another number of this stream is next",
+            Refusal::OtherLife => "the host lives another life now",
+            Refusal::UnknownLife => "the host knows of no such life",
+            Refusal::UnknownLine =>
+                "the host's journal has no such line: it is not the one of which that was a line",
+            Refusal::TooLong => "the body is too long: a message has 1024 bytes at most",
+            Refusal::LongTarget => "the target is too long",
+            Refusal::Host => "the request is for another host",
+            Refusal::LongHead => "the head is too long",
+            Refusal::Journal => "the host cannot read its own journal",
+            Refusal::Coding => "the body has a coding that is not known here",
+            Refusal::Full => "the stream is full: ask again",
+            Refusal::NotNow => "the host cannot do this now: ask again",
+            Refusal::Ending => "the host comes to its end, and takes nothing more",
+            Refusal::Crowded => "too many ask at once: ask again",
+            _ => "",
+        }
+    }
+
     /// The methods that the place takes, where it was asked by another one.
     pub fn allow(self) -> Option<&'static str>
         ensures { option_copied result ≡ allow_of self }
@@ -179,6 +182,18 @@ impl Refusal {
         match self {
             Refusal::Full | Refusal::NotNow | Refusal::Crowded => Some(1),
             _ => None,
+        }
+    }
+}
+
+impl fmt::Display for Refusal {
+    fn fmt<W: fmt::Write>(&self, f: &mut fmt::Formatter<W>) -> fmt::Result {
+        match self {
+            Refusal::Repeated(parameter) => write!(f, "the query gives `{parameter}` twice"),
+            Refusal::Missing(parameter) => write!(f, "the query lacks `{parameter}`"),
+            Refusal::Wrong(parameter) => write!(f, "what the query gives as `{parameter}` is none"),
+            Refusal::Stray(parameter) => write!(f, "`{parameter}` means nothing here"),
+            _ => f.write_str(self.text()),
         }
     }
 }

@@ -2,7 +2,7 @@
 ghost use Rattle.std.specs.Prelude.{◌≡◌, IfOk, IfSome, IfNone, OnOk};
 ghost use Rattle.matchit.specs.Params.{AllText};
 ghost use Rattle.matchit.specs.Seek.{first};
-ghost use Rattle.amo_door.specs.Routes.{IsFound, part_of, table, taken, with_route};
+ghost use Rattle.amo_door.specs.Routes.{IsFound, part_of, table, taken, with_all, with_route};
 
 use crate::Place;
 use matchit::{InsertError, Params, Router};
@@ -26,7 +26,7 @@ impl Model for Routes {
 }
 
 /// What a path names: a place, and what stands in it for a stream and for a number.
-#[derive(Clone, Copy, Debug)]
+#[derive(Clone, Copy)]
 pub struct Found<'a> {
     /// The place.
     pub place: Place,
@@ -42,24 +42,7 @@ impl Routes {
         ensures { IfOk result (λ routes. routes ≡ table) }
     {
         let mut router = Router::new(alloc);
-        add(&mut router, "/", Place::Page)?;
-        add(&mut router, "/healthz", Place::Health)?;
-        add(&mut router, "/metrics", Place::Metrics)?;
-        add(&mut router, "/v1", Place::Host)?;
-        add(&mut router, "/v1/events", Place::Events)?;
-        add(&mut router, "/v1/streams/{stream}", Place::Stream)?;
-        add(
-            &mut router,
-            "/v1/streams/{stream}/messages",
-            Place::Messages,
-        )?;
-        add(
-            &mut router,
-            "/v1/streams/{stream}/messages/{number}",
-            Place::Message,
-        )?;
-        add(&mut router, "/v1/streams/{stream}/take", Place::Take)?;
-        add(&mut router, "/v1/streams/{stream}/got", Place::Got)?;
+        add_all(&mut router)?;
         Ok(Routes { router })
     }
 
@@ -93,6 +76,26 @@ fn part<'a>(params: &Params<'_, 'a>, name: &str) -> &'a str
         Some(part) => part,
         None => "",
     }
+}
+
+/// The paths of all places.
+fn add_all(router: &mut Router<Place>) -> Result<(), InsertError>
+    ensures { OnOk result (router.new ≡ with_all router.old) }
+{
+    add(router, "/", Place::Page)?;
+    add(router, "/healthz", Place::Health)?;
+    add(router, "/metrics", Place::Metrics)?;
+    add(router, "/v1", Place::Host)?;
+    add(router, "/v1/events", Place::Events)?;
+    add(router, "/v1/streams/{stream}", Place::Stream)?;
+    add(router, "/v1/streams/{stream}/messages", Place::Messages)?;
+    add(
+        router,
+        "/v1/streams/{stream}/messages/{number}",
+        Place::Message,
+    )?;
+    add(router, "/v1/streams/{stream}/take", Place::Take)?;
+    add(router, "/v1/streams/{stream}/got", Place::Got)
 }
 
 /// One path more.

@@ -19,7 +19,7 @@ use std::alloc::{AllocError, Global};
 use std::marker::Model;
 
 /// A charge as a host knows it: its stream, and the mode that it answered last.
-#[derive(Clone, Copy, Debug, PartialEq, Eq)]
+#[derive(Clone, Copy, PartialEq, Eq)]
 pub struct StreamMode {
     /// The stream's number.
     pub stream: u32,
@@ -28,7 +28,7 @@ pub struct StreamMode {
 }
 
 /// What a host does next without input, to the charge in a place.
-#[derive(Clone, Copy, Debug, PartialEq, Eq)]
+#[derive(Clone, Copy, PartialEq, Eq)]
 pub enum Task {
     /// Nothing.
     Idle,

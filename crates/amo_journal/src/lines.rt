@@ -17,7 +17,7 @@ use std::alloc::{AllocError, Global};
 const FIRST_LINE: &[u8] = b"amo 2";
 
 /// The lines of a journal's events, or those that are left of them, and the version of the journal.
-#[derive(Clone, Copy, Debug)]
+#[derive(Clone, Copy)]
 pub struct Lines<'a> {
     /// The journal's version.
     pub version: Version,

@@ -2,7 +2,7 @@
 use amo_world::Event;
 
 /// A line of a journal: its number and its event.
-#[derive(Debug, Drop)]
+#[derive(Drop)]
 pub struct Numbered {
     /// How many events are before it, if the journal has no gap.
     pub number: u64,

@@ -11,7 +11,7 @@ use std::marker::Model;
 pub(crate) const LONGEST_ID: usize = 64;
 
 /// The name that a client gives to its line, if it gives one: at most 64 bytes of UTF-8. Contracts see these bytes.
-#[derive(Debug, Drop)]
+#[derive(Drop)]
 pub struct Id {
     name: Option<Vec<u8>>,
 }

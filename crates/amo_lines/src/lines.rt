@@ -14,7 +14,7 @@ use std::str;
 use thiserror::Error;
 
 /// How messages and answers are spelt.
-#[derive(Clone, Copy, Debug, PartialEq, Eq)]
+#[derive(Clone, Copy, PartialEq, Eq)]
 pub struct Spelling {
     /// A client's messages come in HEX, where its lines are no JSON objects.
     pub hex: bool,

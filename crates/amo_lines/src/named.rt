@@ -3,7 +3,7 @@ use crate::id::Id;
 use amo_packet::Message;
 
 /// A message that a client wants to be put, with the id of its line.
-#[derive(Debug, Drop)]
+#[derive(Drop)]
 pub struct NamedMessage {
     /// The message.
     pub message: Message,

@@ -7,7 +7,7 @@ const PARTS: usize = 4;
 const SPANS: usize = 256;
 
 /// What has gone through a host's link.
-#[derive(Clone, Copy, Debug, Default)]
+#[derive(Clone, Copy, Default)]
 pub struct Traffic {
     /// Packets that left, or were to leave and met a fault of the link.
     pub sent: u64,
@@ -20,7 +20,7 @@ pub struct Traffic {
 }
 
 /// Datagrams that came and did nothing, each counted in one place.
-#[derive(Clone, Copy, Debug, Default)]
+#[derive(Clone, Copy, Default)]
 pub struct Dropped {
     /// They are no packets for which the journal has lines.
     pub unread: u64,
@@ -31,7 +31,7 @@ pub struct Dropped {
 }
 
 /// How a host is, and what it has done since its start.
-#[derive(Clone, Copy, Debug, Default)]
+#[derive(Clone, Copy, Default)]
 pub struct Figures {
     /// Messages that were put.
     pub put: u64,
@@ -60,7 +60,7 @@ pub struct Figures {
 }
 
 /// How long handshakes took. Times are kept as spans, each a fourth of a power of two.
-#[derive(Clone, Copy, Debug)]
+#[derive(Clone, Copy)]
 pub struct Times {
     ended: [u64; SPANS],
     all: u64,

@@ -4,7 +4,7 @@ ghost use Rattle.std.specs.Prelude.{◌≡◌};
 use amo_word::Words;
 
 /// The word that a host gives its pump for the next event, or none: a host's words come in lives, and each is drawn as an event needs it.
-#[derive(Debug, Drop)]
+#[derive(Drop)]
 pub struct GivenWord {
     pub(crate) word: Option<u64>,
 }

@@ -1,7 +1,7 @@
 //! When a host ends, and how it did.
 
 /// When a host ends, and what it does before packets leave.
-#[derive(Clone, Copy, Debug)]
+#[derive(Clone, Copy)]
 pub struct Limits {
     /// It ends once it got as many messages.
     pub count: Option<u64>,
@@ -16,7 +16,7 @@ pub struct Limits {
 }
 
 /// How a host ended.
-#[derive(Clone, Copy, Debug, PartialEq, Eq)]
+#[derive(Clone, Copy, PartialEq, Eq)]
 pub enum Ended {
     /// Nothing was on its way.
     AtRest,

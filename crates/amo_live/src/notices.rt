@@ -10,7 +10,7 @@ use amo_text::Sink;
 const TEN_SECONDS: u64 = 10_000_000;
 
 /// Since when a peer that was to be heard is silent, in microseconds, and whether that was told.
-#[derive(Clone, Copy, Debug)]
+#[derive(Clone, Copy)]
 pub struct Silence {
     /// It was looked at first then, since it was heard or something was begun.
     pub since: Option<u64>,
@@ -67,7 +67,7 @@ fn is_long(since: Option<u64>, now: u64) -> bool
 }
 
 /// What was told.
-#[derive(Clone, Copy, Debug)]
+#[derive(Clone, Copy)]
 pub struct Notices {
     silence: Silence,
     batch: bool,

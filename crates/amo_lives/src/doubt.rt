@@ -6,7 +6,7 @@ use crate::{BootId, Life, Lives};
 use std::alloc::{AllocError, Global};
 
 /// Lines of a journal, by their numbers: from the first one up to the end, which is left out.
-#[derive(Clone, Copy, Debug, PartialEq, Eq)]
+#[derive(Clone, Copy, PartialEq, Eq)]
 pub struct Span {
     /// The number of the first one.
     pub first: u64,

@@ -38,7 +38,7 @@ impl QueueFault {
 ///
 /// A put and a get cost a constant (a put on average, since the room doubles when it is full). A `Lose` in
 /// the middle moves the messages before or after it, whichever are fewer, by one place, and not their bytes.
-#[derive(Debug, Drop)]
+#[derive(Drop)]
 pub struct Queue {
     messages: VecDeque<Bytes>,
     status: Status,

@@ -1,7 +1,7 @@
 //! What the sender's client may learn of its last message.
 
 /// What is known of the last message put.
-#[derive(Clone, Copy, Debug, PartialEq, Eq)]
+#[derive(Clone, Copy, PartialEq, Eq)]
 pub enum Status {
     /// It was got, or none was put yet.
     Yes,

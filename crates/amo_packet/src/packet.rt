@@ -33,7 +33,7 @@ pub struct OwnedPacket {
 }
 
 /// What a packet says, with its messages where they lie. The variants are those of [`OwnedBody`].
-#[derive(Clone, Copy, Debug)]
+#[derive(Clone, Copy)]
 pub enum Body<'a> {
     /// The sender needs an identifier, and names one of its own by which to know the accept.
     NeedUid(u64),
@@ -50,7 +50,7 @@ pub enum Body<'a> {
 }
 
 /// A packet whose messages lie in a datagram, or with its sender.
-#[derive(Clone, Copy, Debug)]
+#[derive(Clone, Copy)]
 pub struct Packet<'a> {
     /// The stream's number. A packet may name any.
     pub stream: u32,

@@ -8,7 +8,7 @@ use crate::{MAX_BATCH, Message};
 use byteorder::{BigEndian, ByteOrder};
 
 /// One to [`MAX_BATCH`] messages, each where it lies. It takes no memory.
-#[derive(Clone, Copy, Debug)]
+#[derive(Clone, Copy)]
 pub struct Parts<'a> {
     lent: Lent<'a>,
     ghost some: { 1 ≤ length (lent_messages lent) },
@@ -16,7 +16,7 @@ pub struct Parts<'a> {
     ghost faultless: { lent_fault lent ≡ None },
 }
 
-#[derive(Clone, Copy, Debug)]
+#[derive(Clone, Copy)]
 enum Lent<'a> {
     /// These messages.
     Held(&'a [Message]),

@@ -12,7 +12,7 @@ use std::io;
 use std::io::Read;
 
 /// The pieces of a journal, as far as they were added: the text that they spell together, and where each of them starts in it.
-#[derive(Debug, Drop)]
+#[derive(Drop)]
 pub struct Pieces {
     text: Vec<u8>,
     /// How many of the text's bytes were looked through for ends of lines: all but the last piece's, which nobody asks for before the next one comes.

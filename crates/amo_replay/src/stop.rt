@@ -5,7 +5,7 @@ use amo_text::SinkFault;
 use std::alloc::AllocError;
 
 /// Why a replay goes no further.
-#[derive(Clone, Copy, Debug)]
+#[derive(Clone, Copy)]
 pub(crate) enum Stop {
     /// A line cannot be applied. This is how the replay ended.
     Ended(Ending),

@@ -6,7 +6,7 @@ use crate::Step;
 use std::alloc::{AllocError, Global};
 
 /// A loss.
-#[derive(Clone, Copy, Debug)]
+#[derive(Clone, Copy)]
 pub(crate) enum Loss {
     /// The message at a place, counted from 0.
     Message(usize),
@@ -27,7 +27,7 @@ impl Loss {
 }
 
 /// So many calls, and then a loss.
-#[derive(Clone, Copy, Debug)]
+#[derive(Clone, Copy)]
 pub(crate) struct Mark {
     pub(crate) calls: usize,
     pub(crate) loss: Loss,

@@ -1,5 +1,5 @@
 //! Whether a history is right, honest and fresh, and what is seen of its streams.
-ghost use Rattle.std.specs.Prelude.{◌≡◌, ℕ, OnOk, IfOk, IfErr, reverse};
+ghost use Rattle.std.specs.Prelude.{◌≡◌, ℕ, ◌+◌, ◌<◌, OnOk, IfOk, IfErr, length, take, reverse};
 ghost use Rattle.std.specs.List.{All};
 ghost use Rattle.amo_world.specs.Stream.{IsStream};
 ghost use Rattle.amo_world.specs.History.{IsRight, IsHonest, IsFresh};
@@ -21,15 +21,38 @@ pub(crate) fn judge(alloc: Global, events: &[Event]) -> Result<Vec<Seen>, Resolv
 {
     let mut world = World::new(alloc)?;
     let mut streams = nothing_seen(alloc)?;
-    for (place, event) in events.iter().enumerate() {
-        match world.apply(event.copy()?) {
-            Ok(()) => {}
-            Err(WorldFault::NoMemory) => return Err(ResolveFault::NoMemory),
-            Err(WorldFault::WrongReply) => return Err(ResolveFault::WrongReply(place)),
-            Err(WorldFault::Unsent) => return Err(ResolveFault::Unsent(place)),
-            Err(WorldFault::Repeat) => return Err(ResolveFault::Repeat(place)),
-        }
-        see(alloc, &mut streams, event)?;
+    for place in 0..events.len() {
+        hand_in(alloc, &mut world, &mut streams, events, place)?;
     }
     Ok(streams)
+}
+
+/// Hands the event at a place in to a world that has taken all before it, and sees it once it is taken.
+fn hand_in(
+    alloc: Global,
+    world: &mut World,
+    streams: &mut Vec<Seen>,
+    events: &[Event],
+    place: usize,
+) -> Result<(), ResolveFault>
+    requires within { place < length events.now }
+    requires streams { All (λ e. IsStream e.stream) events.now }
+    requires history { world.old ≡ reverse (take place events.now) }
+    requires sound { IsRight world.old × IsHonest world.old × IsFresh world.old }
+    requires seen { AreSeen streams.old.items (take place events.now) }
+    ensures history { OnOk result (world.new ≡ reverse (take (place + 1) events.now)) }
+    ensures sound { OnOk result (IsRight world.new × IsHonest world.new × IsFresh world.new) }
+    ensures seen { OnOk result (AreSeen streams.new.items (take (place + 1) events.now)) }
+    ensures fault { IfErr result (λ fault. IsFault events.now fault) }
+{
+    let event = &events[place];
+    match world.apply(event.copy()?) {
+        Ok(()) => {}
+        Err(WorldFault::NoMemory) => return Err(ResolveFault::NoMemory),
+        Err(WorldFault::WrongReply) => return Err(ResolveFault::WrongReply(place)),
+        Err(WorldFault::Unsent) => return Err(ResolveFault::Unsent(place)),
+        Err(WorldFault::Repeat) => return Err(ResolveFault::Repeat(place)),
+    }
+    see(alloc, streams, event)?;
+    Ok(())
 }

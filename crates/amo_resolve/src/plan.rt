@@ -13,7 +13,7 @@ use amo_object::End;
 use std::alloc::{AllocError, Global};
 
 /// What is noted of a call.
-#[derive(Clone, Copy, Debug)]
+#[derive(Clone, Copy)]
 pub(crate) struct Note {
     /// Where a side is down: so many of the messages got from here on have to wait here.
     pub(crate) wanted: usize,
@@ -26,7 +26,7 @@ pub(crate) struct Note {
 }
 
 /// What the calls from some place on ask. Their first stretch ends with the next call that leaves a side down, or with the next yes.
-#[derive(Clone, Copy, Debug)]
+#[derive(Clone, Copy)]
 pub(crate) struct Ahead {
     /// How many messages the stretch gets.
     here: usize,

@@ -13,7 +13,7 @@ use amo_world::STREAMS;
 use std::alloc::Global;
 
 /// A run of the queue that explains the calls of a stream.
-#[derive(Debug, Drop)]
+#[derive(Drop)]
 pub struct Run {
     /// The stream.
     pub stream: u32,

@@ -10,7 +10,7 @@ pub const MOST_TAKEN: u32 = 16;
 
 /// The clock of a pump. At one moment the pump takes datagrams that have come, so many at most, and then turns without any until no stream is
 /// due. Only then the clock moves on. So neither datagrams nor the number of its streams keep one from being sent again.
-#[derive(Clone, Copy, Debug, PartialEq, Eq)]
+#[derive(Clone, Copy, PartialEq, Eq)]
 pub struct Clock {
     /// The moment, counted from 0.
     moment: u64,

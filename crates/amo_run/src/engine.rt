@@ -97,7 +97,7 @@ impl Turn {
 }
 
 /// Whom a datagram is for: the host of this side, and the streams that its pump drives.
-#[derive(Clone, Copy, Debug)]
+#[derive(Clone, Copy)]
 pub struct Address<'a> {
     pub side: End,
     pub streams: &'a [u32],

@@ -13,7 +13,7 @@ pub enum Fate {
 }
 
 /// The crashes of one host that are to come, counted by the turns of a pump.
-#[derive(Clone, Copy, Debug, PartialEq, Eq)]
+#[derive(Clone, Copy, PartialEq, Eq)]
 pub struct Plan {
     crashes: u32,
     over: u32,

@@ -4,7 +4,7 @@ use amo_packet::Message;
 use amo_world::NoMemory;
 
 /// A call of a book.
-#[derive(Debug, Drop)]
+#[derive(Drop)]
 pub enum ClientCall {
     /// A put of a message on a stream.
     Put(u32, Message),
@@ -15,7 +15,7 @@ pub enum ClientCall {
 }
 
 /// What the book answered: the result of the call.
-#[derive(Debug, Drop)]
+#[derive(Drop)]
 pub enum ClientReply {
     Put(Result<u64, PutFault>),
     Get(Result<(Message, u64), GetFault>),

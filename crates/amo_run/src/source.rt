@@ -3,7 +3,7 @@ use amo_object::End;
 use amo_word::ChaChaWords;
 
 /// One host's place among all that draw words from the seed of a run.
-#[derive(Clone, Copy, Debug)]
+#[derive(Clone, Copy)]
 pub struct Source {
     pub seed: [u8; 32],
     pub side: End,

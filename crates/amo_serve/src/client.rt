@@ -37,7 +37,7 @@ const SLOW: &[u8] =
 const NOTHING: &[u8] = b":\n\n";
 
 /// What a client's socket is at.
-#[derive(Clone, Copy, Debug, PartialEq, Eq)]
+#[derive(Clone, Copy, PartialEq, Eq)]
 enum Stage {
     /// It carries requests and answers.
     Open,

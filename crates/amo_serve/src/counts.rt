@@ -8,7 +8,7 @@ use amo_text::{Sink, push_decimal};
 use std::alloc::AllocError;
 
 /// What was counted since the start of the host.
-#[derive(Clone, Copy, Debug)]
+#[derive(Clone, Copy)]
 pub(crate) struct Counts {
     /// Requests that came whole and were right.
     pub(crate) requests: u64,

@@ -47,7 +47,7 @@ pub(crate) struct Waiter {
 }
 
 /// Where a client is that waits.
-#[derive(Clone, Copy, Debug, PartialEq, Eq)]
+#[derive(Clone, Copy, PartialEq, Eq)]
 enum Presence {
     /// It waits still.
     There,

@@ -2,7 +2,7 @@
 use crate::RunSettings;
 
 /// What the program is to do.
-#[derive(Debug, Drop)]
+#[derive(Drop)]
 pub enum Settings {
     /// Replay the schedule in this file.
     Replay(String),
@@ -33,7 +33,7 @@ pub enum Settings {
 }
 
 /// What a host in a process of its own is told, whichever its side.
-#[derive(Debug, Drop)]
+#[derive(Drop)]
 pub struct HostSettings {
     /// The address that it listens at.
     pub listen: String,
@@ -60,7 +60,7 @@ pub struct HostSettings {
 }
 
 /// What a host that sends is told.
-#[derive(Debug, Drop)]
+#[derive(Drop)]
 pub struct SendSettings {
     pub host: HostSettings,
     /// Whether a stream's next message is put only once the last one's answer came: otherwise several wait on it.
@@ -72,7 +72,7 @@ pub struct SendSettings {
 }
 
 /// What a host that receives is told.
-#[derive(Debug, Drop)]
+#[derive(Drop)]
 pub struct ReceiveSettings {
     pub host: HostSettings,
     /// It ends once it got as many messages, 1 at least.
@@ -80,7 +80,7 @@ pub struct ReceiveSettings {
 }
 
 /// The side of a host with a door, with what it is told. Nothing is shown.
-#[derive(Debug, Drop)]
+#[derive(Drop)]
 pub enum ServedSide {
     /// It sends.
     Send(SendSettings),
@@ -89,7 +89,7 @@ pub enum ServedSide {
 }
 
 /// What a host with a door is told.
-#[derive(Debug, Drop)]
+#[derive(Drop)]
 pub struct ServeSettings {
     pub side: ServedSide,
     /// The address of its door.
@@ -99,7 +99,7 @@ pub struct ServeSettings {
 }
 
 /// What is asked of a door.
-#[derive(Debug, Drop)]
+#[derive(Drop)]
 pub enum DoorCall {
     /// That a message is put on a stream, once. The file of this name keeps the call. Where no message is given, standard input has it.
     Put {
@@ -128,7 +128,7 @@ pub enum DoorCall {
 }
 
 /// How a call of a door is made.
-#[derive(Debug, Drop)]
+#[derive(Drop)]
 pub struct CallSettings {
     pub call: DoorCall,
     /// The address of the door.
@@ -142,7 +142,7 @@ pub struct CallSettings {
 }
 
 /// Which outcomes are told, and how. Where neither `open` nor `gone` is chosen, all are.
-#[derive(Debug, Drop)]
+#[derive(Drop)]
 pub struct OutcomesSettings {
     /// The file of a journal.
     pub first: String,
@@ -157,7 +157,7 @@ pub struct OutcomesSettings {
 }
 
 /// Which messages that were got are told, and how.
-#[derive(Debug, Drop)]
+#[derive(Drop)]
 pub struct GotSettings {
     /// The file of the journal.
     pub file: String,
@@ -170,7 +170,7 @@ pub struct GotSettings {
 }
 
 /// A shell that completes words.
-#[derive(Clone, Copy, Debug, PartialEq, Eq)]
+#[derive(Clone, Copy, PartialEq, Eq)]
 pub enum Shell {
     Bash,
     Zsh,

@@ -5,7 +5,7 @@ use crate::put_outcome::PutOutcome;
 use amo_outcomes::{Outcome, SenderOutcome};
 
 /// Which outcomes are told, and how. Where neither `open` nor `gone` is chosen, all are told.
-#[derive(Clone, Copy, Debug, PartialEq, Eq)]
+#[derive(Clone, Copy, PartialEq, Eq)]
 pub struct Choice {
     /// Those of puts that are open.
     pub open: bool,

@@ -20,7 +20,7 @@ const MOST: usize = usize::MAX - 2;
 
 /// A reader of a receiver's journal, which tells which messages were got, and goes on as the journal grows. Of what it has read it keeps two
 /// counts, and no line.
-#[derive(Clone, Copy, Debug)]
+#[derive(Clone, Copy)]
 pub struct Gets {
     /// Only lines of greater numbers are told, if there is one.
     after: Option<u64>,

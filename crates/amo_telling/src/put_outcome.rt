@@ -7,7 +7,7 @@ use amo_lives::Span;
 use amo_outcomes::{Outcome, SenderOutcome};
 
 /// What is told of a put, by the journals of both sides, or by its sender's alone.
-#[derive(Clone, Copy, Debug, PartialEq, Eq)]
+#[derive(Clone, Copy, PartialEq, Eq)]
 pub(crate) enum PutOutcome {
     ByBoth(Outcome),
     BySender(SenderOutcome),

@@ -1,7 +1,7 @@
 //! How far a receiver's journal was read.
 
 /// How far a receiver's journal was read. Lines count from 1.
-#[derive(Clone, Copy, Debug, PartialEq, Eq)]
+#[derive(Clone, Copy, PartialEq, Eq)]
 pub enum Reading {
     /// To its end, but for a last line that has no end yet.
     Whole,

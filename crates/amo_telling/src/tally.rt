@@ -7,7 +7,7 @@ use crate::unanswered::{Told, is_sent, is_settled};
 use amo_outcomes::SenderOutcome;
 
 /// What is known of those puts of a stream that no ack answered.
-#[derive(Clone, Copy, Debug)]
+#[derive(Clone, Copy)]
 pub(crate) struct Tally {
     /// One was sent.
     pub(crate) is_sent: bool,

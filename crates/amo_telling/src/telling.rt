@@ -2,7 +2,7 @@
 use amo_audit::{Judgement, Reach};
 
 /// What was told of two journals.
-#[derive(Clone, Copy, Debug, PartialEq, Eq)]
+#[derive(Clone, Copy, PartialEq, Eq)]
 pub enum Telling {
     /// What became of each put in as much of both.
     Told(Reach),

@@ -25,7 +25,7 @@ pub enum Progress {
 }
 
 /// What is told of a put of an earlier life that was not answered.
-#[derive(Clone, Copy, Debug, PartialEq, Eq)]
+#[derive(Clone, Copy, PartialEq, Eq)]
 pub(crate) enum Told {
     Gone,
     Unknown,

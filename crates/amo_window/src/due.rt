@@ -9,7 +9,7 @@ use std::marker::Model;
 /// The streams whose time is set and has come, in their order. Contracts see the list of those that are left.
 ///
 /// It goes over the timers once at most, as far as it is asked, and takes no memory.
-#[derive(Debug, Drop)]
+#[derive(Drop)]
 pub struct Due<'a> {
     pub(crate) timers: &'a [Timer],
     pub(crate) time: u64,

@@ -3,7 +3,7 @@ ghost use Rattle.std.specs.Prelude.{◌≡◌};
 
 /// The intervals between one sending and the next, in the unit in which its caller counts time: the first, and the one up to which each is twice
 /// as long as the one before.
-#[derive(Clone, Copy, Debug, PartialEq, Eq)]
+#[derive(Clone, Copy, PartialEq, Eq)]
 pub struct Pace {
     /// The first interval.
     pub first: u64,

@@ -12,7 +12,7 @@ use std::marker::Model;
 pub const MAX_TIMERS: usize = 256;
 
 /// When a stream is due, if a time is set, and the interval that its next sending sets.
-#[derive(Clone, Copy, Debug)]
+#[derive(Clone, Copy)]
 pub(crate) struct Timer {
     pub stream: u32,
     pub next: Option<u64>,
@@ -70,7 +70,7 @@ impl Timer {
 ///
 /// The room is made once, by [`Timers::new`] or [`Timers::paced`]; no other call takes memory. [`Timers::sent`] and [`Timers::stop`] find
 /// their stream by a binary search, and [`Timers::due`] goes over the streams once.
-#[derive(Debug, Drop)]
+#[derive(Drop)]
 pub struct Timers {
     timers: Vec<Timer>,
 }

@@ -15,7 +15,6 @@ pub const MAX_PERMITS: usize = 64;
 ///
 /// It is no `Copy` and no `Drop`, and only a [`Window`] makes one: whoever has it must give it back, by
 /// [`Window::close`].
-#[derive(Debug)]
 pub struct Permit {
     key: usize,
     stream: u32,
@@ -49,7 +48,7 @@ impl Permit {
 /// is out under its key.
 ///
 /// The room is made once, by [`Window::new`]; no other call takes memory. Each call takes a constant time.
-#[derive(Debug, Drop)]
+#[derive(Drop)]
 pub struct Window {
     // The stream of each permit that is out, under the permit's key.
     permits: Slab<u32>,

@@ -16,7 +16,7 @@ use std::marker::Model;
 ///
 /// Four blocks of the key stream are made ahead, within the value itself: it has some 300 bytes, and no call takes
 /// memory. A contract sees the key, the stream number and which word comes next.
-#[derive(Debug, Drop)]
+#[derive(Drop)]
 pub struct ChaChaWords {
     generator: ChaCha20Rng,
 }

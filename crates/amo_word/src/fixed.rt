@@ -8,7 +8,7 @@ use std::vec;
 /// The words of a list, and then none for ever. A contract sees the list of those still to come.
 ///
 /// They lie in the vector that was handed in, and no call takes memory.
-#[derive(Debug, Drop)]
+#[derive(Drop)]
 pub struct FixedWords {
     rest: vec::IntoIter<u64>,
 }

@@ -3,14 +3,14 @@ use amo_object::End;
 use amo_packet::OwnedPacket;
 
 /// A packet that was emitted, and the side that emitted it.
-#[derive(Debug, Drop)]
+#[derive(Drop)]
 pub(crate) struct Emission {
     pub(crate) side: End,
     pub(crate) packet: OwnedPacket,
 }
 
 /// What an act emitted.
-#[derive(Debug, Drop)]
+#[derive(Drop)]
 pub(crate) enum Emitted {
     /// No packet.
     Nothing,

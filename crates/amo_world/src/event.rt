@@ -8,7 +8,7 @@ use amo_object::End;
 use std::alloc::AllocError;
 
 /// What happened at one side of a stream, and the reply.
-#[derive(Clone, Debug, PartialEq, Eq, Drop)]
+#[derive(Clone, PartialEq, Eq, Drop)]
 pub struct Event {
     /// The number of the pass, a caller's token, under which it happened. In a replay it is 0.
     pub pass: usize,

@@ -6,7 +6,7 @@ ghost use Rattle.amo_world.specs.Key.{key_of};
 use amo_packet::Body;
 
 /// The kind of a packet, with what an ack says.
-#[derive(Clone, Copy, Debug, Default, PartialEq, Eq, PartialOrd, Ord)]
+#[derive(Clone, Copy, Default, PartialEq, Eq, PartialOrd, Ord)]
 pub(crate) enum PacketKind {
     #[default]
     NeedUid,
@@ -20,7 +20,7 @@ pub(crate) enum PacketKind {
 /// One identifier of a packet, with the packet's kind. An accept is told by the identifier that it brings, since each is
 /// accepted for one needuid; a send or a batch by its identifier, since what is sent under each is one. What a side says in one
 /// handshake mostly has one identifier, so it stands side by side in an index.
-#[derive(Clone, Copy, Debug, Default, PartialEq, Eq, PartialOrd, Ord)]
+#[derive(Clone, Copy, Default, PartialEq, Eq, PartialOrd, Ord)]
 pub(crate) struct Key {
     pub(crate) identifier: u64,
     pub(crate) kind: PacketKind,

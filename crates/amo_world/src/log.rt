@@ -112,10 +112,10 @@ impl Log {
             Emitted::Again(place) => place,
             Emitted::First(packet) => {
                 let place = self.stored.len();
-                let _ = self.stored.push(Emission { side, packet });
+                self.stored.push_reserved(Emission { side, packet });
                 place
             }
         };
-        let _ = self.order.push(place);
+        self.order.push_reserved(place);
     }
 }

@@ -11,7 +11,7 @@ use std::alloc::{AllocError, Global};
 const ROW: usize = 8;
 
 /// A key, and the place that stands under it.
-#[derive(Clone, Copy, Debug, Default)]
+#[derive(Clone, Copy, Default)]
 pub(crate) struct Found {
     pub(crate) key: Key,
     pub(crate) place: usize,

@@ -46,9 +46,7 @@ impl World {
     {
         let mut streams = Vec::with_capacity(alloc, STREAMS as usize)?;
         for number in 1..=STREAMS {
-            let Ok(()) = streams.push(KeptStream::new(alloc, number)) else {
-                return Err(NoMemory);
-            };
+            streams.push_reserved(KeptStream::new(alloc, number));
         }
         Ok(World {
             alloc,

@@ -4,7 +4,7 @@ ghost use Rattle.amo_book.specs.Pass.{automaton_after};
 ghost use Rattle.amo_book.specs.Rule.{Slot, fresh, first_view, first_slot, share, stride, Spaced};
 ghost use Rattle.amo_book.specs.Plays.{view};
 ghost use Rattle.amo_book.specs.Steps.{IsSame};
-ghost use Rattle.amo_book.specs.Book.{Apart, AreLawful, Lists, AreFirstCharges, first_pass};
+ghost use Rattle.amo_book.specs.Book.{Apart, AreLawful, Lists, AreFirstCharges, first_mode, first_pass};
 
 use super::{Board, Chair};
 use crate::index::site_at;
@@ -26,6 +26,16 @@ fn initial(site: Site) -> Automaton
     match site.side {
         End::Sender => Automaton::Sender(Sender::new(site.stream)),
         End::Receiver => Automaton::Receiver(Receiver::new(site.stream)),
+    }
+}
+
+/// The mode of a side at which nothing happened yet.
+fn first_mode(side: End) -> Mode
+    ensures { result ≡ first_mode side }
+{
+    match side {
+        End::Sender => Mode::Quiet,
+        End::Receiver => Mode::Idle,
     }
 }
 
@@ -94,12 +104,12 @@ impl Board {
     {
         for place in 0..self.setup.sides.len() {
             let site = site_at(self.setup.sides.as_slice(), place);
-            let mode = match site.side {
-                End::Sender => Mode::Quiet,
-                End::Receiver => Mode::Idle,
-            };
             let seat = self.witness(root);
-            charges.push_reserved(Charge { site, mode, seat });
+            charges.push_reserved(Charge {
+                site,
+                mode: first_mode(site.side),
+                seat,
+            });
         }
     }
 

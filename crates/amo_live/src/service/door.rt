@@ -15,7 +15,7 @@ use amo_text::Sink;
 use std::alloc::{AllocError, AllocFailed};
 
 /// Where the event of a call stands.
-#[derive(Clone, Copy, Debug, PartialEq, Eq)]
+#[derive(Clone, Copy, PartialEq, Eq)]
 pub struct EventAt {
     /// Its position in what the host has seen in this process.
     pub position: u64,
@@ -24,7 +24,7 @@ pub struct EventAt {
 }
 
 /// How a stream of a sender is.
-#[derive(Clone, Copy, Debug, PartialEq, Eq)]
+#[derive(Clone, Copy, PartialEq, Eq)]
 pub struct SenderLane {
     /// How many messages wait for their handshake.
     pub waiting: u64,

@@ -55,3 +55,10 @@ returns-in_err-write_body-clause-outcome c =
     let end = finish_refusal (behind_body (behind_head c.args.server.now c.args.answer.now c.args.closes) sent) [] in
     goes_next _ _ c.from_residual-in_err-write_body.result (no_fault _ c.write_head.result _ c.write_head.ensures.outcome c.in_ok-write_head.was)
     (fails_first _ end c.write_body.result c.from_residual-in_err-write_body.result _ body c.in_err-write_body.was c.from_residual-in_err-write_body.ensures.1)
+
+pub returns-in_err-write_head-clause-extends : goal.returns-in_err-write_head-clause-extends
+returns-in_err-write_head-clause-extends c = extends_either c.write_head.result _ _ _ c.write_head.ensures.ok c.write_head.ensures.kept
+
+pub returns-in_err-write_body-clause-extends : goal.returns-in_err-write_body-clause-extends
+returns-in_err-write_body-clause-extends c =
+    extends_more _ _ _ (extends_either c.write_head.result _ _ _ c.write_head.ensures.ok c.write_head.ensures.kept) c.write_body.ensures.extends

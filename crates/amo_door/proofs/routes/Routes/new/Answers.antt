@@ -1,19 +1,7 @@
 use Rattle.std.proofs.Common.{◌∙◌, ap}
-use Rattle.std.specs.Prelude.{codes}
-use Rattle.amo_door.specs.declared.place.Place.TheVariants.{Page, Health, Metrics, Host, Events, Stream, Messages, Message, Take, Got}
-use Rattle.amo_door.specs.Routes.{table, with_route}
+use Rattle.amo_door.specs.Routes.{table, with_all}
 use Rattle.amo_door.proofs.routes.Routes.new.Goals as goal
 
 pub returns : goal.returns
 unfolding table
-returns c =
-    c.in_ok-add-10.ensures ∙ ap (with_route (codes "/v1/streams/{stream}/got") Got)
-    (c.in_ok-add-9.ensures ∙ ap (with_route (codes "/v1/streams/{stream}/take") Take)
-    (c.in_ok-add-8.ensures ∙ ap (with_route (codes "/v1/streams/{stream}/messages/{number}") Message)
-    (c.in_ok-add-7.ensures ∙ ap (with_route (codes "/v1/streams/{stream}/messages") Messages)
-    (c.in_ok-add-6.ensures ∙ ap (with_route (codes "/v1/streams/{stream}") Stream)
-    (c.in_ok-add-5.ensures ∙ ap (with_route (codes "/v1/events") Events)
-    (c.in_ok-add-4.ensures ∙ ap (with_route (codes "/v1") Host)
-    (c.in_ok-add-3.ensures ∙ ap (with_route (codes "/metrics") Metrics)
-    (c.in_ok-add-2.ensures ∙ ap (with_route (codes "/healthz") Health)
-    (c.in_ok-add.ensures ∙ ap (with_route (codes "/") Page) c.new-router.ensures)))))))))
+returns c = c.in_ok-add_all.ensures ∙ ap with_all c.new-router.ensures

@@ -9,7 +9,8 @@ invariant_of-result c =
 
 pub loop-number-preserved : goal.loop-number-preserved
 loop-number-preserved c =
-    let pushed : c.push.new.self.items ≡ c.loop-number.streams.items ++ c.new.result ∷ [] = search rules in record {
+    let pushed : c.push_reserved.new.self.items ≡ c.loop-number.streams.items ++ c.new.result ∷ [] = search rules in record {
+      room = search rules;
       count = rw (pushed, length_push) (ap (λ n. n + 1) c.loop-number.invariant.count);
       new = rw pushed (new_streams c.loop-number.streams.items c.new.result c.loop-number.number c.loop-number.invariant.new c.loop-number.invariant.count c.new.ensures);
     }
