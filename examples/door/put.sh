@@ -32,7 +32,7 @@ fi
 # The call is on the disk, under its name, before it leaves: else a loss of power might take it, and the next start would put the message twice.
 sync "$(dirname -- "$file")"
 target=$(cat "$file")
-until status=$(printf %s "$text" | curl -sS -m 60 -o "$file.answer" -w '%{http_code}' -X PUT --data-binary @- "$url$target") && [ "$status" != 503 ]; do
+until status=$(printf %s "$text" | curl -sS -m 60 -o "$file.answer" -w '%{http_code}' -X PUT --data-binary @- "$url$target") && [ "$status" != 503 ] && [ "$status" != 408 ]; do
     sleep 1
 done
 if [ "$status" = 410 ]; then
@@ -53,10 +53,10 @@ case $status in
     cat "$file.done"
     ;;
 *)
-    # Another program puts on the stream, or the host does not know the life of the call: whether this was put, the host's journal tells.
+    # The door refuses, as `token`; or another program puts on the stream, or the host does not know the life of the call: then its journal tells whether this was put.
     cat "$file.answer"
     rm "$file.answer"
-    echo "put.sh: see whether it was put, by amo outcomes JOURNAL; then remove $file" >&2
+    echo "put.sh: $status: mend that, and start this again with the same file; remove $file only where amo outcomes JOURNAL tells that this was not put" >&2
     exit 1
     ;;
 esac
