@@ -88,7 +88,7 @@ module _ (places passes : ℕ) (replay : ℕ → List Event → Automaton) where
   }
 
   -- a load of the count keeps the rule, and the seat sees the whole history
-  pub looks : (slots id : ℕ) (me : Sat) → Allows Rule slots id me 0 (λ n. n) (looked (step slots 0 0 0 mathlib.Core.Option.none) me)
+  pub looks : (slots id : ℕ) (me : Sat) → Allows Rule slots id me 0 (λ n. n) (looked passes (step slots 0 0 0 mathlib.Core.Option.none) me)
   looks slots id me s r _ at _ =
       let v : View = me.0 in
       let k = r.each id v at in
@@ -98,7 +98,7 @@ module _ (places passes : ℕ) (replay : ℕ → List Event → Automaton) where
         tt,
         unmoved s r id v w at refl (record { seen = itself r.log; met = k.met; owns = k.owns; holds = k.holds; named = k.named })
             (set s.words 0 (get_or s.words 0 0)) (set_same s.words 0),
-        (refl, k.seen, k.met, r.right, (λ p m h. (k.owns p m h).2), r.count),
+        ((refl, k.seen, k.met, r.right, (λ p m h. (k.owns p m h).2), r.count), r.ours),
       )
 
   -- the same of a seat that holds the side at a place: the side is as that history leaves it

@@ -12,7 +12,7 @@ use Rattle.amo_world.specs.History.{IsRight, Extends, events_of}
 use Rattle.amo_book.specs.declared.view.View.{View}
 use Rattle.amo_book.specs.declared.view.Share.{Share}
 use Rattle.amo_book.specs.Pass.{automaton_after, event}
-use Rattle.amo_book.specs.Rule.{Slot, Has, share, gate_of, slot_of}
+use Rattle.amo_book.specs.Rule.{Slot, Has, AllBelow, share, gate_of, slot_of}
 
 -- a seat: its view, and the slots that are out with it
 abbrev pub Sat : Type 0
@@ -31,9 +31,9 @@ abbrev pub Looks : Sat → Sat → ℕ → Type 0
 Looks m n r = (n ≡ (view n.0.seen m.0.met m.0.shares m.0.held, m.1)) × Extends n.0.seen m.0.seen × Extends n.0.seen m.0.met × IsRight n.0.seen
     × ((p : ℕ) (made : List Event) → Has m.0.shares p made → events_of p n.0.seen ≡ made) × (r ≡ length n.0.seen % 2 ^ 64)
 
--- the load of the count
-abbrev pub looked : Step Slot → Sat → ℕ → Sat → Type 0
-looked st m r n = Looks m n r
+-- the load of the count: each event that was seen bears the number of one of so many passes
+abbrev pub looked : ℕ → Step Slot → Sat → ℕ → Sat → Type 0
+looked passes st m r n = Looks m n r × AllBelow passes n.0.seen
 
 -- The same of a seat that holds this side of the stream: it is as the history left it that was seen.
 abbrev pub Sees : End → ℕ → Sat → Sat → ℕ → Type 0

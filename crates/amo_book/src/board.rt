@@ -6,13 +6,13 @@ ghost use Rattle.amo_core.specs.Automaton.{row, mode_of};
 ghost use Rattle.amo_object.specs.declared.step.End.TheVariants as end_of;
 ghost use Rattle.amo_world.specs.declared.event.Event.{Event};
 ghost use Rattle.amo_book.specs.Pass.{event};
-ghost use Rattle.amo_book.specs.Rule.{share, gate_of, slot_of};
+ghost use Rattle.amo_book.specs.Rule.{AllBelow, share, gate_of, slot_of};
 ghost use Rattle.amo_book.specs.Plays.{Sat, IsAtRest, Took, Looks, Sees, Counts, view, witness, joined};
 ghost use Rattle.amo_book.specs.Steps.{IsSame, IsPass, IsStateOf, Made, Studied, holding, released};
 ghost use Rattle.amo_book.specs.Book.{Apart};
 ghost use Rattle.amo_book.specs.Site.{IsSite};
 
-use crate::plays::{Count, Counted, Free, Gather, Law, Look, See, Tried, Try, Witness};
+use crate::plays::{Count, Counted, Free, Gather, Law, Look, Peopled, See, Tried, Try, Witness};
 use crate::site::Site;
 use crate::slot::Housed;
 use crate::stride::{self, COUNT};
@@ -44,12 +44,14 @@ pub struct Board {
 // The seven kinds of atomic step.
 impl Board {
     /// Loads the count: the seat has then seen all that it had met.
-    pub fn look(&self, seat: &mut Chair) -> u64
-        requires { seat.old.table_id ≡ self.now.table.shared.table_id }
+    fn load_count<E: Peopled>(&self, seat: &mut Chair) -> u64
+        requires own { seat.old.table_id ≡ self.now.table.shared.table_id }
+        requires passes { E.passes ≡ self.now.setup.passes }
         ensures same { IsSame seat.old seat.new }
         ensures looks { Looks seat.old.me seat.new.me result }
+        ensures ours { AllBelow E.passes seat.new.me.0.seen }
     {
-        self.table.shared.load::<Look>(seat, COUNT)
+        self.table.shared.load::<Look<E>>(seat, COUNT)
     }
 
     /// Loads the count while a side is held: the seat has then seen the history that left the side as it is.
@@ -144,6 +146,16 @@ impl Board {
 
 // What the calls are made of.
 impl Board {
+    /// Loads the count: the seat has then seen all that it had met, which are events of the book's passes.
+    pub fn look(&self, seat: &mut Chair) -> u64
+        requires { seat.old.table_id ≡ self.now.table.shared.table_id }
+        ensures same { IsSame seat.old seat.new }
+        ensures looks { Looks seat.old.me seat.new.me result }
+        ensures ours { AllBelow self.now.setup.passes seat.new.me.0.seen }
+    {
+        self.load_count::<Brand>(seat)
+    }
+
     /// Takes the automaton of a side, if its gate is free.
     pub fn take(&self, seat: &mut Chair, site: Site) -> Option<Housed>
         requires own { seat.old.table_id ≡ self.now.table.shared.table_id }
@@ -231,6 +243,7 @@ impl Board {
         requires { (seat.old.table_id ≡ self.now.table.shared.table_id) × (other.old.table_id ≡ self.now.table.shared.table_id) }
         ensures same { IsSame seat.old seat.new × IsSame other.old other.new × (other.new.me ≡ other.old.me) }
         ensures looks { (r : ℕ) × Looks (joined seat.old.me.0 (witness other.old.me.0), seat.old.me.1) seat.new.me r }
+        ensures ours { AllBelow self.now.setup.passes seat.new.me.0.seen }
     {
         let note = self.witness(other);
         self.join(seat, note);

@@ -1,9 +1,10 @@
 //! The book itself: how it opens, and how passes meet.
 ghost use Rattle.std.specs.Prelude.{◌≡◌, ◌↔◌, IfOk, IfSome, IfNone, IsErrOf, Some, slice_get};
-ghost use Rattle.amo_world.specs.History.{IsRight};
+ghost use Rattle.amo_world.specs.History.{Extends, IsRight};
 ghost use Rattle.amo_book.specs.Book.{Opens, IsLawful};
 ghost use Rattle.amo_book.specs.Pass.{IsSamePass, Met};
 ghost use Rattle.amo_book.specs.Calls.{HasSide};
+ghost use Rattle.amo_book.specs.Rule.{AllBelow};
 
 use crate::board::{Board, Chair};
 use crate::index::Index;
@@ -76,12 +77,15 @@ impl Book {
         Ok((Book { board, index, room }, numbered, charges))
     }
 
-    /// Lets two passes meet: afterwards both have seen one history that goes on from what each had seen.
+    /// Lets two passes meet: afterwards both have seen one history that goes on from what each had seen, and has events of the book's passes alone. The first
+    /// has seen what the second has, or more.
     pub fn meet(&self, one: &mut Pass, two: &mut Pass)
         requires book { (one.old.book ≡ self.now.id) × (two.old.book ≡ self.now.id) }
         ensures same { IsSamePass one.old one.new × IsSamePass two.old two.new }
         ensures met { Met one.old two.old one.new two.new }
         ensures right { IsRight one.new.seen × IsRight two.new.seen }
+        ensures later { Extends one.new.seen two.new.seen }
+        ensures no_others { AllBelow self.now.passes one.new.seen × AllBelow self.now.passes two.new.seen }
     {
         self.board.learn(&mut two.seat, &mut one.seat);
         self.board.learn(&mut one.seat, &mut two.seat);

@@ -17,11 +17,24 @@ impl TableRule<Option<Housed>, View, Setup> for Law {
     ghost first = { λ key. first_view key.passes };
 }
 
-/// The load of the count.
-pub struct Look;
+/// How many passes the book has.
+pub trait Peopled {
+    ghost use Rattle.std.specs.Prelude.{ℕ};
 
-impl Play<Option<Housed>, View> for Look {
-    ghost then = { looked };
+    ghost passes: { ℕ };
+}
+
+impl Peopled for Brand {
+    ghost passes = { 0 };
+}
+
+/// The load of the count.
+pub struct Look<E> {
+    passes: PhantomData<E>,
+}
+
+impl<E: Peopled> Play<Option<Housed>, View> for Look<E> {
+    ghost then = { looked E.passes };
 }
 
 /// The side of a stream whose gate is tried, or that is held.

@@ -143,7 +143,8 @@ host_called h k w side stream a None is same = record {
   few = is.few;
   sides = is.sides;
   places = is.places;
-  number = subst (λ (p : PassState). p.number < 64) (sym same) is.number;
+  number = ap (λ (p : PassState). p.number) same ∙ is.number;
+  silent = is.silent;
   emitted = subst (λ (p : PassState). AreEmitted p h.outbox) (sym same) is.emitted;
 }
 host_called h k w side stream a (Some (reply, position)) is grown = record {
@@ -153,7 +154,8 @@ host_called h k w side stream a (Some (reply, position)) is grown = record {
   few = is.few;
   sides = is.sides;
   places = is.places;
-  number = subst (λ (n : ℕ). n < 64) (sym grown.number) is.number;
+  number = grown.number ∙ is.number;
+  silent = is.silent;
   emitted = all_still h.pass w h.outbox (grown_extends h.pass w (event h.pass.number side stream a reply) grown) grown.number is.emitted;
 }
 
@@ -166,7 +168,8 @@ host_seen h w is same more = record {
   few = is.few;
   sides = is.sides;
   places = is.places;
-  number = subst (λ (n : ℕ). n < 64) (sym same.number) is.number;
+  number = same.number ∙ is.number;
+  silent = is.silent;
   emitted = all_still h.pass w h.outbox more same.number is.emitted;
 }
 
@@ -180,6 +183,7 @@ host_timed h pump is charges side station = record {
   sides = is.sides;
   places = is.places;
   number = is.number;
+  silent = is.silent;
   emitted = is.emitted;
 }
 
@@ -207,6 +211,7 @@ host_repeated h m w place bytes known is same more within again are other recent
       sides = seen.sides;
       places = ap length recent ∙ seen.places;
       number = seen.number;
+      silent = seen.silent;
       emitted = again_emitted w h.outbox m place bytes known seen.emitted within again are other recent;
     }
 

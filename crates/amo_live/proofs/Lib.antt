@@ -18,3 +18,4 @@ pub mod Doubting
 pub mod Keeping
 pub mod Listening
 pub mod Holding
+pub mod Wholeness

@@ -52,6 +52,14 @@ last_of_two f all (a ∷ []) x two is =
     let here : slice_get all 1 ≡ Some x = ap (λ l. slice_get l 1) is in let there = two.1 1 (omega arith) in cc
 last_of_two f all (a ∷ b ∷ rest) x two is = let long = two.0 in let count = ap length is in let more = long_enough rest x in absurd (omega arith)
 
+-- and the first
+pub first_of_two : {A : Type 0} (f : ℕ → A) (all rest none : List A) (x y : A) → Lists f 2 all → all ≡ rest ++ x ∷ [] → rest ≡ none ++ y ∷ [] → y ≡ f 0
+first_of_two f all [] none x y two is front = let long = two.0 in let count = ap length is in absurd (omega arith)
+first_of_two f all (a ∷ []) [] x y two is front =
+    let here : slice_get all 0 ≡ Some a = ap (λ l. slice_get l 0) is in let there = two.1 0 (omega arith) in cc
+first_of_two f all (a ∷ []) (b ∷ none) x y two is front = let count = ap length front in let more = long_enough none y in absurd (omega arith)
+first_of_two f all (a ∷ b ∷ rest) none x y two is front = let long = two.0 in let count = ap length is in let more = long_enough rest x in absurd (omega arith)
+
 -- the charges of a book that opens with these sides
 abbrev charges_of : TableId → ℕ → List (End × ℕ) → List ChargeState
 charges_of id k [] = []

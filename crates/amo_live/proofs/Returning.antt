@@ -22,14 +22,15 @@ use Rattle.amo_live.proofs.Onwards.{same_on}
 pub host_after : {L S : Type 0} (h : HostState L S) (pump : Station GivenWord) (w : PassState) (more : OutboxState) (k : JournalState S) → IsHost h → IsStation pump × BelongTogether h.book w pump → pump.host.side ≡ h.pump.host.side → w.number ≡ h.pass.number
     → AreEmitted w more × (length more.recent ≡ length h.outbox.recent) → IsHost (record h { pass = w; pump = pump; outbox = more; journal = k })
 host_after h pump w more k is (station, together) side number (emitted, places) =
-    let was = is.number in record {
+    record {
       together = together;
       station = station;
       side = side ∙ is.side;
       few = is.few;
       sides = is.sides;
       places = places ∙ is.places;
-      number = omega arith;
+      number = number ∙ is.number;
+      silent = is.silent;
       emitted = emitted;
     }
 

@@ -16,7 +16,7 @@ use Rattle.amo_core.specs.declared.reply.Reply.TheVariants.{Done, Got}
 use Rattle.amo_core.specs.Automaton.{mode_of, Writes}
 use Rattle.amo_world.specs.declared.event.Event.{Event}
 use Rattle.amo_world.specs.Stream.{emission_of}
-use Rattle.amo_world.specs.History.{stream_after}
+use Rattle.amo_world.specs.History.{IsRight, stream_after}
 use Rattle.amo_book.specs.Book.{BookState}
 use Rattle.amo_book.specs.Charge.{ChargeState}
 use Rattle.amo_book.specs.Drive.{Driven}
@@ -43,12 +43,14 @@ abbrev pub given : Option ℕ → ℕ → Option ℕ
 given word zero = word
 given word (suc k) = None
 
--- its side, of how many streams, its book with one pass, and the pump that drives its streams; its link, the packets that are to leave, now or again, and its journal
+-- its side, of how many streams, its book with the pass that calls and another one, and the pump that drives its streams; its link, the packets that are to
+-- leave, now or again, and its journal
 pub record HostState (L S : Type 0) : Type 0 where
   pub side : End
   pub streams : ℕ
   pub book : BookState
   pub pass : PassState
+  pub other : PassState
   pub pump : Station GivenWord
   pub link : L
   pub outbox : OutboxState
@@ -59,7 +61,14 @@ abbrev pub sides_from : End → ℕ → ℕ → List (End × ℕ)
 sides_from side k zero = []
 sides_from side k (suc n) = (side, k) ∷ sides_from side (suc k) n
 
--- The pass and the pump's charges are the book's, which has the host's side of each of its streams; and a journal has a line for the pass. Each packet that
+-- a book of two passes, of which this is the first, and has made no event
+pub record IsSilent (book : BookState) (other : PassState) : Type 0 where
+  pub two : book.passes ≡ 2
+  pub book_is : other.book ≡ book.id
+  pub number : other.number ≡ 0
+  pub silent : mine other ≡ []
+
+-- The pass and the pump's charges are the book's, which has the host's side of each of its streams; its other pass makes no event. Each packet that
 -- is to leave, now or again, is one that an event of the pass emitted.
 pub record IsHost {L S : Type 0} (h : HostState L S) : Type 0 where
   pub together : BelongTogether h.book h.pass h.pump
@@ -68,7 +77,8 @@ pub record IsHost {L S : Type 0} (h : HostState L S) : Type 0 where
   pub few : h.streams ≤ 256
   pub sides : h.book.sides ≡ sides_from h.side 1 h.streams
   pub places : length h.outbox.recent ≡ h.streams
-  pub number : h.pass.number < 64
+  pub number : h.pass.number ≡ 1
+  pub silent : IsSilent h.book h.other
   pub emitted : AreEmitted h.pass h.outbox
 
 -- no call but that of `send` touches the link, and none the host's side, its streams, the book's name, or how the journal was opened
@@ -91,6 +101,11 @@ pub record Happens {L S : Type 0} (h g : HostState L S) (side : End) (stream : �
   pub length : Option ℕ
   pub emitted : Writes (emission_of (stream_after stream grown.earlier) side a) before buffer length
   pub leaving : g.outbox.leaving ≡ h.outbox.leaving ++ packet_in buffer length
+
+-- the events that the pass has made are all that its book has, and a right history
+pub record IsWhole (v : PassState) : Type 0 where
+  pub own : v.seen ≡ mine v
+  pub right : IsRight v.seen
 
 -- nothing happened
 abbrev pub IsIdle : {L S : Type 0} → HostState L S → HostState L S → Type 0

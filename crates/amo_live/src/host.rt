@@ -8,7 +8,7 @@ ghost use Rattle.amo_book.specs.Book.{Each};
 ghost use Rattle.amo_host.specs.AtStream.{AreCalm, HasMode, IsDue, IsNextDue};
 ghost use Rattle.amo_host.specs.Host.{streams_of};
 ghost use Rattle.amo_live.specs.Emitted.{WasEmitted};
-ghost use Rattle.amo_live.specs.Host.{IsHost, IsNoted, IsOpened, sides_from};
+ghost use Rattle.amo_live.specs.Host.{IsHost, IsNoted, IsOpened, IsWhole, sides_from};
 ghost use Rattle.amo_live.specs.Noted.{Holds, IsSameJournal};
 
 use crate::outbox::Outbox;
@@ -25,11 +25,11 @@ use amo_window::{MAX_PERMITS, Pace};
 use std::alloc::{AllocError, Global};
 use std::marker::Model;
 
-/// How many passes the book has. One calls; a book has two at least.
+/// How many passes the book has: a book has two at least.
 const PASSES: usize = 2;
 
-/// One side of some streams, in a process of its own. Contracts see its side, its book, its pass, its pump, its link, the packets that are to
-/// leave, and its journal.
+/// One side of some streams, in a process of its own. Contracts see its side, its book, the pass that calls, the other one, its pump, its link, the packets
+/// that are to leave, and its journal.
 #[derive(Drop)]
 pub struct Host<L, S> {
     pub(crate) alloc: Global,
@@ -37,6 +37,8 @@ pub struct Host<L, S> {
     pub(crate) streams: u32,
     pub(crate) book: Book,
     pub(crate) pass: Pass,
+    // It calls nothing. Once it met the other, that one's events are known to be all that there are.
+    pub(crate) other: Pass,
     pub(crate) pump: Pump<GivenWord>,
     pub(crate) link: L,
     // An act writes the packet here that it emits.
@@ -51,9 +53,9 @@ impl<L, S> Model for Host<L, S> {
 
     ghost Value = { HostState L S };
 
-    ghost view = { λ h. record { side = h.side; streams = h.streams; book = h.book; pass = h.pass; pump = h.pump; link = h.link; outbox = h.outbox; journal = h.journal } };
+    ghost view = { λ h. record { side = h.side; streams = h.streams; book = h.book; pass = h.pass; other = h.other; pump = h.pump; link = h.link; outbox = h.outbox; journal = h.journal } };
 
-    ghost invariant = { λ h. IsHost (record { side = h.side; streams = h.streams; book = h.book; pass = h.pass; pump = h.pump; link = h.link; outbox = h.outbox; journal = h.journal }) };
+    ghost invariant = { λ h. IsHost (record { side = h.side; streams = h.streams; book = h.book; pass = h.pass; other = h.other; pump = h.pump; link = h.link; outbox = h.outbox; journal = h.journal }) };
 }
 
 impl<L: Link + Drop, S: Sink + Drop> Host<L, S> {
@@ -80,6 +82,9 @@ impl<L: Link + Drop, S: Sink + Drop> Host<L, S> {
                 let Some(pass) = passes.pop() else {
                     unreachable!()
                 };
+                let Some(other) = passes.pop() else {
+                    unreachable!()
+                };
                 let outbox = Outbox::new(alloc, charges.len())?;
                 let words = GivenWord { word: None };
                 let pump = match Pump::paced(alloc, charges, window_of(streams), words, pace) {
@@ -93,6 +98,7 @@ impl<L: Link + Drop, S: Sink + Drop> Host<L, S> {
                     streams,
                     book,
                     pass,
+                    other,
                     pump,
                     link,
                     room: [0; MAX_PACKET],
@@ -239,13 +245,16 @@ impl<L: Link, S: Durable> Host<L, S> {
     }
 
     /// Hands all packets that are to leave to the link, in their order, and answers how often it failed. Of all that the host did by then
-    /// the system has the lines: so each of these packets is one that an event emitted whose line is there, also where this process dies now.
+    /// the system has the lines: so each of these packets is one that an event emitted whose line is there, also where this process dies now. Those events
+    /// are all that happened in its book by now, and a right history.
     pub fn send(&mut self) -> u64
         requires noted { IsNoted S.written self.old }
         requires flushed { S.flushed self.old.journal.sink ≡ S.written self.old.journal.sink }
         ensures emitted { Each (WasEmitted self.old.pass) self.old.outbox.leaving }
-        ensures sent { self.new ≡ record self.old { link = self.new.link; outbox = record self.old.outbox { leaving = [] } } }
+        ensures whole { IsWhole self.new.pass }
+        ensures sent { self.new ≡ record self.old { other = self.new.other; link = self.new.link; outbox = record self.old.outbox { leaving = [] } } }
     {
+        self.book.meet(&mut self.other, &mut self.pass);
         let leaving = self.outbox.leaving() as u64;
         let failed = self.outbox.send(&mut self.link);
         self.traffic.sent = self.traffic.sent.saturating_add(leaving);

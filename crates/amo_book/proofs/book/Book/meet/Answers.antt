@@ -3,8 +3,10 @@ use Rattle.amo_world.specs.declared.event.Event.{Event}
 use Rattle.amo_world.specs.History.{Extends, events_of}
 use Rattle.amo_world.proofs.Extensions.{itself}
 use Rattle.amo_book.specs.Pass.{PassState, mine}
+use Rattle.amo_book.specs.Book.{BookState}
 use Rattle.amo_book.specs.Steps.{IsPass}
 use Rattle.amo_book.specs.Plays.{Sat}
+use Rattle.amo_book.specs.Rule.{AllBelow}
 use Rattle.amo_book.proofs.Runs.{sees}
 use Rattle.amo_book.proofs.book.Book.meet.Goals as goal
 
@@ -24,6 +26,7 @@ returns c =
     let still' = c.learn-2.ensures.same.2 in
     let u = sees c.one.inside.number c.learn-2.ensures.looks.0 c.learn.new.other.me c.learn.new.seat.me.0 _
     (subst (IsPass c.one.inside.number) (sym still) c.one.invariant) c.learn-2.ensures.looks.1 in
+    let peopled = ap (λ (b : BookState). b.passes) c.self.view_is in
     let history : List Event = c.learn.new.seat.me.0.seen in record {
       same = (
         record {
@@ -45,4 +48,9 @@ returns c =
         subst (λ (m : Sat). Extends m.0.seen history) (sym still') (itself history),
       );
       right = (u.0.right, (subst (IsPass c.two.inside.number) (sym still') t.0).right);
+      later = subst (λ (m : Sat). Extends c.learn-2.new.seat.me.0.seen m.0.seen) (sym still') u.2;
+      no_others = (
+        subst (λ n. AllBelow n c.learn-2.new.seat.me.0.seen) peopled c.learn-2.ensures.ours,
+        subst (λ n. AllBelow n c.learn-2.new.other.me.0.seen) peopled (subst (λ (m : Sat). AllBelow c.self.inside.board.setup.passes m.0.seen) (sym still') c.learn.ensures.ours),
+      );
     }

@@ -13,7 +13,7 @@ note_answer-requires-clause-spelt g c = ack_spelt c.self.inside.journal.version 
 
 pub returns-in-Err-clause-begun : goal.returns-in-Err-clause-begun
 returns-in-Err-clause-begun g c =
-    let h : HostState g.row.L.Denot g.row.S.Denot = record { side = c.self.inside.side; streams = c.self.inside.streams; book = c.self.inside.book; pass = c.self.inside.pass; pump = c.self.inside.pump; link = c.self.inside.link; outbox = c.self.inside.outbox; journal = c.self.inside.journal } in
+    let h : HostState g.row.L.Denot g.row.S.Denot = record { side = c.self.inside.side; streams = c.self.inside.streams; book = c.self.inside.book; pass = c.self.inside.pass; other = c.self.inside.other; pump = c.self.inside.pump; link = c.self.inside.link; outbox = c.self.inside.outbox; journal = c.self.inside.journal } in
     let held : IsNoted g.S.Sink.written h = subst (λ (t : HostState g.row.L.Denot g.row.S.Denot). IsNoted g.S.Sink.written t) (sym c.self.view_is) c.requires in
     let v = c.self.inside.pass in let w = c.get_ack-answer.new.pass in
     let grown : Grown v w Sender c.args.stream act.Ack c.reply_to_ack-known.result = subst (λ (a : Answer). Grown v w Sender c.args.stream act.Ack a) (sym c.reply_to_ack-known.ensures) c.get_ack-answer.ensures.grown in
@@ -21,7 +21,7 @@ returns-in-Err-clause-begun g c =
 
 pub returns-clause-noted : goal.returns-clause-noted
 returns-clause-noted g c =
-    let h : HostState g.row.L.Denot g.row.S.Denot = record { side = c.self.inside.side; streams = c.self.inside.streams; book = c.self.inside.book; pass = c.self.inside.pass; pump = c.self.inside.pump; link = c.self.inside.link; outbox = c.self.inside.outbox; journal = c.self.inside.journal } in
+    let h : HostState g.row.L.Denot g.row.S.Denot = record { side = c.self.inside.side; streams = c.self.inside.streams; book = c.self.inside.book; pass = c.self.inside.pass; other = c.self.inside.other; pump = c.self.inside.pump; link = c.self.inside.link; outbox = c.self.inside.outbox; journal = c.self.inside.journal } in
     let held : IsNoted g.S.Sink.written h = subst (λ (t : HostState g.row.L.Denot g.row.S.Denot). IsNoted g.S.Sink.written t) (sym c.self.view_is) c.requires in
     let v = c.self.inside.pass in let w = c.get_ack-answer.new.pass in
     let grown : Grown v w Sender c.args.stream act.Ack c.reply_to_ack-known.result = subst (λ (a : Answer). Grown v w Sender c.args.stream act.Ack a) (sym c.reply_to_ack-known.ensures) c.get_ack-answer.ensures.grown in
@@ -29,10 +29,10 @@ returns-clause-noted g c =
 
 pub invariant_of-self : goal.invariant_of-self
 invariant_of-self g c =
-    let h : HostState g.row.L.Denot g.row.S.Denot = record { side = c.self.inside.side; streams = c.self.inside.streams; book = c.self.inside.book; pass = c.self.inside.pass; pump = c.self.inside.pump; link = c.self.inside.link; outbox = c.self.inside.outbox; journal = c.self.inside.journal } in
+    let h : HostState g.row.L.Denot g.row.S.Denot = record { side = c.self.inside.side; streams = c.self.inside.streams; book = c.self.inside.book; pass = c.self.inside.pass; other = c.self.inside.other; pump = c.self.inside.pump; link = c.self.inside.link; outbox = c.self.inside.outbox; journal = c.self.inside.journal } in
     host_called h c.note_answer.new.journal c.get_ack-answer.new.pass Sender c.args.stream act.Ack (ack_answer c.get_ack-answer.result) c.self.invariant c.get_ack-answer.ensures.grown
 
 pub invariant_of-self-2 : goal.invariant_of-self-2
 invariant_of-self-2 g c =
-    let h : HostState g.row.L.Denot g.row.S.Denot = record { side = c.self.inside.side; streams = c.self.inside.streams; book = c.self.inside.book; pass = c.self.inside.pass; pump = c.self.inside.pump; link = c.self.inside.link; outbox = c.self.inside.outbox; journal = c.self.inside.journal } in
+    let h : HostState g.row.L.Denot g.row.S.Denot = record { side = c.self.inside.side; streams = c.self.inside.streams; book = c.self.inside.book; pass = c.self.inside.pass; other = c.self.inside.other; pump = c.self.inside.pump; link = c.self.inside.link; outbox = c.self.inside.outbox; journal = c.self.inside.journal } in
     host_called h c.note_answer.new.journal c.get_ack-answer.new.pass Sender c.args.stream act.Ack (ack_answer c.get_ack-answer.result) c.self.invariant c.get_ack-answer.ensures.grown

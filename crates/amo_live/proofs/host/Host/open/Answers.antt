@@ -6,7 +6,7 @@ use Rattle.amo_host.specs.Host.{Host}
 use Rattle.amo_live.specs.Emitted.{WasEmitted}
 use Rattle.amo_live.specs.Noted.{Holds}
 use Rattle.amo_live.proofs.Emissions.{nothing_emitted}
-use Rattle.amo_live.proofs.Opens.{charges_driven, charges_many, charges_rest, last_of_two, side_of_pump}
+use Rattle.amo_live.proofs.Opens.{charges_driven, charges_many, charges_rest, first_of_two, last_of_two, side_of_pump}
 use Rattle.amo_live.proofs.host.Host.open.Goals as goal
 
 pub paced-requires : goal.paced-requires
@@ -36,7 +36,9 @@ invariant_of-result g c =
       few = c.requires.streams.1;
       sides = opens.sides_are ∙ is;
       places = let count = c.in_ok-outbox-in-Ok.ensures.places in let many = c.len.ensures in let all = charges_many id c.args.side c.args.streams sides charges is opens.charges_are in omega (arith, count, many, all, c.in-Ok.charges.ok.0);
-      number = omega arith;
+      number = number;
+      silent = let front : c.in-Some-pop.other ≡ first_pass id 0 = first_of_two (first_pass id) c.in-Ok.passes.items c.pop.new.self.items c.pop-in-Ok.new.self.items c.in-Some.pass c.in-Some-pop.other opens.numbered_are c.in-Some.ensures.items c.in-Some-pop.ensures.items in
+          record { two = opens.passes_are; book_is = ap (λ (p : PassState). p.book) front; number = ap (λ (p : PassState). p.number) front; silent = ap mine front };
       emitted = record { leaving = subst (Each (WasEmitted c.in-Some.pass)) (sym c.in_ok-outbox-in-Ok.ensures.leaving) tt; recent = nothing_emitted c.in-Some.pass c.in_ok-outbox-in-Ok.outbox.recent c.in_ok-outbox-in-Ok.ensures.nothing };
     }
 
