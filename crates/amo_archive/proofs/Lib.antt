@@ -2,3 +2,4 @@ mod Reading
 mod Lanes
 mod Pasts
 mod Endings
+mod Answered

@@ -52,4 +52,4 @@ TellsMessage untold stream lines (Some (put, doubtful)) what = TellsPut stream l
 -- what is told of the message of a number that a life put on a stream, by these lines
 abbrev pub TellsFate : Past → ℕ → ℕ → ℕ → List Numbered → Fate → Type 0
 TellsFate past life stream number lines what =
-    TellsMessage (fate_of_none past.doubts.items (slice_get past.lives.items life)) stream lines (message_of life number (owners_of past.lives.items past.doubts.items stream lines)) what
+    TellsMessage (fate_of_none past.doubts.items past.lives.items life) stream lines (message_of life number (owners_of past.lives.items past.doubts.items stream lines)) what

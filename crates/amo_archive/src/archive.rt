@@ -1,6 +1,7 @@
 //! What a host with a door reads of its own journal, for those who ask.
-ghost use Rattle.std.specs.Prelude.{IfOk};
-ghost use Rattle.amo_archive.specs.Archive.{BeginsToRead};
+ghost use Rattle.std.specs.Prelude.{IfOk, List, ◌<◌, ◌^◌, length};
+ghost use Rattle.amo_journal.specs.declared.numbered.Numbered.{Numbered};
+ghost use Rattle.amo_archive.specs.Archive.{BeginsToRead, HaveBeenRead, NamesLife, ReadsOn, TellsOutcome};
 
 use crate::gets::read_gets;
 use crate::past::Past;
@@ -64,7 +65,9 @@ impl Archive {
     }
 
     /// Reads on what the journal, which has so many lines, tells of earlier lives. Answers whether all was read.
-    pub fn read_on<R: Files<File = File>>(&mut self, rt: &R, lines: u64) -> Result<bool, Refusal> {
+    pub fn read_on<R: Files<File = File>>(&mut self, rt: &R, lines: u64) -> Result<bool, Refusal>
+        ensures { IfOk result (λ all. (past : List Numbered) → HaveBeenRead self.old past → ReadsOn self.new lines past all) }
+    {
         let next = self.past.next();
         if next >= lines {
             return Ok(true);
@@ -77,14 +80,26 @@ impl Archive {
         Ok(self.past.next() >= lines)
     }
 
+    /// Whether the host knows the life of this word. Nothing is read to tell that.
+    pub fn knows(&self, life: &Word) -> bool
+        ensures { NamesLife life.now self.now.past.lives.items result }
+    {
+        self.past.life_of(life).is_some()
+    }
+
     /// What is answered to who asks what became of a message of an earlier life, by the lines that were read.
-    pub fn tell_fate(&self, stream: u32, number: u64, life: &Word) -> Result<Answer, AllocError> {
+    pub fn tell_fate(&self, stream: u32, number: u64, life: &Word) -> Result<Answer, AllocError>
+        ensures { IfOk result (λ answer. (lines : List Numbered) → length lines < 2 ^ 64 → HaveBeenRead self.now lines → TellsOutcome self.now lines life.now stream number answer) }
+    {
+        if stream < 1 || STREAMS < stream {
+            return Answer::refusal(self.alloc, Refusal::UnknownLife);
+        }
         match self.past.life_of(life) {
-            Some(place) if 1 <= stream && stream <= STREAMS => {
+            Some(place) => {
                 let fate = self.past.fate(place, stream, number);
                 Answer::outcome(self.alloc, life, stream, number, fate)
             }
-            _ => Answer::refusal(self.alloc, Refusal::UnknownLife),
+            None => Answer::refusal(self.alloc, Refusal::UnknownLife),
         }
     }
 }

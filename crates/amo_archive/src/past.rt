@@ -1,12 +1,12 @@
 //! What became of the messages of a sender's earlier lives, as its journal tells it.
-ghost use Rattle.std.specs.Prelude.{◌≡◌, ◌≢◌, ◌==◌, ◌↔◌, ◌+◌, ◌≤◌, ◌<◌, ◌^◌, ◌++◌, ◌∷◌, ℕ, List, [], None, Some, false, IfNone, IfOk, IfSome, IsTrue, OnOk, drop, length, position, slice_get};
+ghost use Rattle.std.specs.Prelude.{◌≡◌, ◌≢◌, ◌==◌, ◌↔◌, ◌+◌, ◌≤◌, ◌<◌, ◌^◌, ◌++◌, ◌∷◌, ℕ, List, [], None, Some, false, IfNone, IfOk, IfSome, IsTrue, OnOk, drop, length, option_copied, position, slice_get};
 ghost use Rattle.std.specs.List.{list_any};
 ghost use Rattle.amo_journal.specs.declared.numbered.Numbered.{Numbered};
 ghost use Rattle.amo_journal.specs.declared.version.Version.{Version};
 ghost use Rattle.amo_journal.specs.Journal.{InRange, line_text};
 ghost use Rattle.amo_lives.specs.Life.{tag_field};
 ghost use Rattle.amo_world.specs.Stream.{IsStream};
-ghost use Rattle.amo_archive.specs.Fates.{IsLifeOf, fate_of, fate_of_none, is_near, may_have_lost};
+ghost use Rattle.amo_archive.specs.Fates.{IsLifeOf, fate_of, fate_of_none, is_followed_at_first, is_near, may_have_lost};
 ghost use Rattle.amo_archive.specs.Lane.{AreEmpty, owners_in};
 ghost use Rattle.amo_archive.specs.Records.{Follows, IsFirstOrBehind, next_number};
 ghost use Rattle.amo_archive.specs.Reign.{begun, comes_back, goes_on_at, holds, is_taken, owner_by, seen, with_next, without_work};
@@ -254,14 +254,31 @@ impl Past {
 }
 
 impl Past {
-    /// What is told of a message of which no line tells, of the life at this place: it was never put, unless a loss of power may have taken its line.
+    /// What is told of a message of which no line tells, of the life at this place: it was never put, unless a loss of power may have taken its line, or the
+    /// journal of that day may be gone.
     fn fate_of_none(&self, life: usize) -> Fate
-        ensures { result ≡ fate_of_none self.now.doubts.items (slice_get self.now.lives.items life) }
+        ensures { result ≡ fate_of_none self.now.doubts.items self.now.lives.items life }
     {
-        match self.lives.get(life) {
-            Some(life) if may_have_lost(self.doubts.as_slice(), life.first_line) => Fate::Unknown,
-            _ => Fate::Never,
+        let Some(begun) = self.lives.get(life) else {
+            return Fate::Never;
+        };
+        let next = self.lives.get(life + 1);
+        if may_have_lost(self.doubts.as_slice(), begun.first_line) || is_followed_at_first(next) {
+            Fate::Unknown
+        } else {
+            Fate::Never
         }
+    }
+}
+
+/// Whether the life behind one begins with the journal's first line. Then the journal had no line of the life before, or it was moved away and begun anew, which
+/// its lives do not show.
+fn is_followed_at_first(next: Option<&Life>) -> bool
+    ensures { result ≡ is_followed_at_first (option_copied next.entry) }
+{
+    match next {
+        Some(next) => next.first_line == 0,
+        None => false,
     }
 }
 

@@ -26,6 +26,9 @@ const HALVES: u32 = 64;
 /// How many bytes of names a directory is asked for at once. A name has 255 at most.
 const NAMES: usize = 4096;
 
+/// What Linux answers where a process has as many files open as it may, and where all of them together have.
+const TOO_MANY_FILES: [i32; 2] = [24, 23];
+
 /// Which file a name stands for: its device, its number there, and when it was made, since numbers are given again.
 type Identity = (u64, u64, Option<SystemTime>);
 
@@ -76,8 +79,8 @@ struct Part {
 /// Why lines cannot be read.
 #[derive(Clone, Copy, PartialEq, Eq)]
 enum ReadFault {
-    /// A piece was taken away while it was looked for.
-    Moved,
+    /// A piece was taken away while it was looked for, or the process may open no more files or have no more memory now: it may be read later.
+    NotNow,
     /// Memory was refused, or a file failed.
     Failed(Cause),
 }
@@ -85,15 +88,24 @@ enum ReadFault {
 impl From<io::Error> for ReadFault {
     fn from(error: io::Error) -> ReadFault {
         match error.kind() {
-            ErrorKind::NotFound => ReadFault::Moved,
+            ErrorKind::NotFound | ErrorKind::OutOfMemory => ReadFault::NotNow,
+            _ if is_of_many_files(&error) => ReadFault::NotNow,
             _ => ReadFault::Failed(Cause::from(error)),
         }
     }
 }
 
+/// Whether no more files can be opened just now.
+fn is_of_many_files(error: &io::Error) -> bool {
+    match error.raw_os_error() {
+        Some(code) => TOO_MANY_FILES.contains(&code),
+        None => false,
+    }
+}
+
 impl From<AllocError> for ReadFault {
     fn from(_error: AllocError) -> ReadFault {
-        ReadFault::Moved
+        ReadFault::NotNow
     }
 }
 
@@ -117,26 +129,43 @@ impl Records {
         rt: &R,
         number: u64,
     ) -> Result<Found<'_>, Refusal> {
-        let part = self.read_again(rt, number)?;
-        let text = &self.room.as_slice()[..part.count.min(self.room.len())];
+        let mut part = self.read_again(rt, number)?;
+        if self.begins_behind(part, number) {
+            // The piece with that line may have been brought back since it was looked which there are.
+            self.newest = None;
+            part = self.read_again(rt, number)?;
+        }
         Ok(Found {
             lines: Lines {
                 version: part.version,
-                text: from_line(text, number),
+                text: from_line(self.come(part), number),
             },
             is_end: part.is_end,
         })
     }
 
+    /// What was read of a piece.
+    fn come(&self, part: Part) -> &[u8] {
+        &self.room.as_slice()[..part.count.min(self.room.len())]
+    }
+
+    /// Whether the first line that was read from there on has another number than this one.
+    fn begins_behind(&self, part: Part, number: u64) -> bool {
+        match number_in_front(from_line(self.come(part), number)) {
+            Some(first) => first != number,
+            None => false,
+        }
+    }
+
     /// Reads lines into the room; once more where a piece was taken away meanwhile.
     fn read_again<R: Files<File = File>>(&mut self, rt: &R, number: u64) -> Result<Part, Refusal> {
         match self.read_at(rt, number) {
-            Err(ReadFault::Moved) => self.newest = None,
+            Err(ReadFault::NotNow) => self.newest = None,
             Err(ReadFault::Failed(_)) => return Err(Refusal::Journal),
             Ok(part) => return Ok(part),
         }
         match self.read_at(rt, number) {
-            Err(ReadFault::Moved) => Err(Refusal::NotNow),
+            Err(ReadFault::NotNow) => Err(Refusal::NotNow),
             Err(ReadFault::Failed(_)) => Err(Refusal::Journal),
             Ok(part) => Ok(part),
         }
@@ -163,7 +192,7 @@ impl Records {
             }
             place = place.saturating_add(1);
         }
-        Err(ReadFault::Moved)
+        Err(ReadFault::NotNow)
     }
 
     /// Looks which pieces there are, where the newest is another file than before.

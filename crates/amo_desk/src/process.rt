@@ -5,7 +5,7 @@ ghost use Rattle.amo_live.specs.Host.{IsNoted};
 use crate::{Desk, Keeper, ProcessFault, serve};
 use amo_disk::Start;
 use amo_lines::{Backlog, Input};
-use amo_live::{Bell, Durable, Ended, Limits, Lineage, Plan, Service, Setup, start};
+use amo_live::{Aside, Bell, Durable, Ended, Limits, Lineage, Plan, Service, Setup, start};
 use amo_net::Link;
 use amo_object::End;
 use std::alloc::{AllocError, Global};
@@ -15,7 +15,8 @@ use std::rt::Clock;
 
 /// Runs a host of 1 to 256 streams over this link until its clients are done. The system waits for the link by this number. A host that sends
 /// takes lines from the reader, and one that receives leaves it alone; answers and messages go to the output. The journal goes on in the sink, in
-/// this place, and new handshakes get these words. Who rings the bell asks it to come to its end. On the streams in doubt earlier lives sent messages of
+/// this place, and new handshakes get these words. Who rings the bell asks it to come to its end: the bell is handed back, and they are answered once the
+/// host has let go of all that it had. On the streams in doubt earlier lives sent messages of
 /// which it is not known what became of them; once that is settled, it is told. The keeper looks at the host behind each of its turns. It is refused
 /// where batches are to be started for which it has no lines.
 pub fn run_process<
@@ -39,7 +40,7 @@ pub fn run_process<
     bell: Bell,
     in_doubt: &[u32],
     keeper: &mut K,
-) -> Result<Ended, ProcessFault>
+) -> Result<(Ended, Bell), ProcessFault>
     requires { (1 ≤ plan.setup.streams) × (plan.setup.streams ≤ 256) }
 {
     place.admit(plan.setup.batch)?;
@@ -53,7 +54,9 @@ pub fn run_process<
         words,
         plan.limits.sync,
     )?;
-    work(rt, &mut service, &mut desk, plan.limits, in_doubt, keeper)
+    let rt = Aside::new(rt);
+    let ended = work(&rt, &mut service, &mut desk, plan.limits, in_doubt, keeper)?;
+    Ok((ended, desk.bell))
 }
 
 /// Where the clients of a host of this set-up are, of which nothing was read and to whom nothing was shown.
@@ -95,10 +98,7 @@ fn work<C: Clock + Eprint, L: Link, S: Durable, W: Lineage, I: Read, O: Write, K
         service.doubt(*stream);
     }
     match serve(rt, service, desk, limits, keeper) {
-        Ok(ended) => {
-            desk.bell.answer(ended);
-            Ok(ended)
-        }
+        Ok(ended) => Ok(ended),
         Err(fault) => {
             service.tell_unshown(rt);
             Err(ProcessFault::Serve(fault))

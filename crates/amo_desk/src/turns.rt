@@ -101,18 +101,12 @@ pub fn serve<
         notices.tell(rt, service, now);
         stats.tell(rt, service, now);
         let is_over = limits.count.is_some_and(|count| count <= service.got());
-        since = if is_over || desk.takes_none() {
-            Some(since.unwrap_or(now))
-        } else {
-            None
-        };
+        since = (is_over || desk.takes_none()).then_some(since.unwrap_or(now));
         let is_shown = service.shown().is_empty() && !service.has_unread();
         let is_at_rest = service.is_at_rest() && is_shown && desk.keeps_none();
         let holds = desk.bell.was_rung() && service.figures().held > 0;
         if let Some(ended) = ending(limits, is_at_rest, holds, since, now) {
-            desk.tell_of_rest(rt);
-            desk.tell_of_open(rt, ended, service.figures());
-            desk.tell_of_unread(rt, service.shown().len());
+            tell_end(rt, service, desk, ended);
             stats.tell_last(rt, service, now);
             return Ok(desk.ended(ended));
         }
@@ -129,6 +123,18 @@ pub fn serve<
         told_torn = told_torn || desk.tell_of_torn(rt);
     }
     Ok(Ended::OnItsWay)
+}
+
+/// Tells the operator how a host ends.
+fn tell_end<C: Eprint, L: Link, S: Durable, W: Lineage, I: Read, O: Write>(
+    rt: &C,
+    service: &Service<L, S, W>,
+    desk: &Desk<I, O>,
+    ended: Ended,
+) {
+    desk.tell_of_rest(rt);
+    desk.tell_of_open(rt, ended, service.figures());
+    desk.tell_of_unread(rt, service.shown().len());
 }
 
 /// One turn, which waits at most so many milliseconds.

@@ -145,6 +145,25 @@ impl<'r, R: Clock + Files<File = File>> Directory<'r, R> {
         self.sync_names()?;
         Ok(())
     }
+
+    /// Puts the bytes of the newest piece on the disk. Where that fails the system counts them as kept all the same, and a next host would go on behind them.
+    /// So those that nobody heard of are cut off.
+    fn put_on_disk(&mut self) -> io::Result<()>
+        ensures { self.new.standing ≡ self.old.standing }
+    {
+        match self.newest.sync_data() {
+            Ok(()) => {
+                self.on_disk = self.on_disk.and(Some(self.written.length));
+                Ok(())
+            }
+            Err(error) => {
+                if let Some(length) = self.on_disk {
+                    let _ = self.newest.set_len(length);
+                }
+                Err(error)
+            }
+        }
+    }
 }
 
 impl<R: Clock + Files<File = File>> Folder for Directory<'_, R> {
@@ -156,7 +175,13 @@ impl<R: Clock + Files<File = File>> Folder for Directory<'_, R> {
 
     /// Where somebody else cut the piece, added to it, removed or moved it, as a rotation of logs does, the next host would not find there what was written:
     /// nothing more is appended. Under load it is noticed some milliseconds later that a piece was moved or removed, and at once that it was cut.
+    ///
+    /// Where it is put on the disk nothing is appended behind bytes that are not there yet: a reader may have put them there and told of them, and a sync of
+    /// more that fails would take them back.
     fn append(&mut self, bytes: &[u8]) -> io::Result<usize> {
+        if self.on_disk.is_some() && !self.standing.bytes {
+            self.put_on_disk()?;
+        }
         if !self
             .written
             .is_as_written(self.rt, &mut self.newest, self.path.as_str())?
@@ -169,21 +194,13 @@ impl<R: Clock + Files<File = File>> Folder for Directory<'_, R> {
         Ok(count)
     }
 
-    /// Where it fails the system counts the bytes as kept all the same, and a next host would go on behind them. So those that nobody heard of are cut off.
+    /// Where all are there, nothing is asked of the system.
     fn sync(&mut self) -> io::Result<()> {
-        match self.newest.sync_data() {
-            Ok(()) => {
-                self.standing.bytes = true;
-                self.on_disk = self.on_disk.and(Some(self.written.length));
-                Ok(())
-            }
-            Err(error) => {
-                if let Some(length) = self.on_disk {
-                    let _ = self.newest.set_len(length);
-                }
-                Err(error)
-            }
+        if !self.standing.bytes {
+            self.put_on_disk()?;
+            self.standing.bytes = true;
         }
+        Ok(())
     }
 
     /// Where some of its bytes are not on the disk, it is refused; and where somebody else changed it, whenever it was looked at last: it would get its number

@@ -9,7 +9,7 @@ use std::rt::Files;
 use std::{fs, io};
 
 /// Messages stand in a journal in clear: its owner alone reads and writes a new one.
-const MODE: u32 = 0o600;
+pub(crate) const MODE: u32 = 0o600;
 
 /// How often files are looked for again where they got other names meanwhile.
 const MOST_LOOKS: u32 = 100;

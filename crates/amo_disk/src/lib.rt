@@ -11,6 +11,7 @@
 //! - [`open`] opens a journal at its end, and tells the number of the next line. It costs the same behind ten lines and behind a million.
 //! - [`laws`]: read as one, the pieces are the text that was written.
 //! - [`read_tail`] reads lines at the end of a journal, and [`Ending`] tells what that of a file says.
+//! - [`write_beside`], [`put_in_place`], [`remove_if_there`] and [`sync_entry`] keep small files whole: those that stand beside a journal, and those of calls.
 //!
 //! **Two hosts have no journal together.** A host has the lock of F; while F has another name, and none is there, it has that of the highest piece.
 //! One that opens the journal asks for both. **A host that is killed** at any moment leaves files with which the next one goes on: all pieces with
@@ -42,6 +43,7 @@ mod standing;
 mod start;
 mod syncs;
 mod tail;
+mod whole_file;
 
 pub use directory::Directory;
 pub use disk::Disk;
@@ -57,3 +59,4 @@ pub use standing::Standing;
 pub use start::Start;
 pub use syncs::Syncs;
 pub use tail::{Tail, TailFault, read_tail};
+pub use whole_file::{put_in_place, remove_if_there, sync_entry, write_beside};

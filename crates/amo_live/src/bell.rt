@@ -130,10 +130,17 @@ fn listening<R: Files + Net>(rt: &R, path: &str) -> io::Result<UnixListener> {
     Ok(listener)
 }
 
-/// Removes what is at this path, if it is a socket.
+/// Removes what is at this path, if it is a socket. A host that comes to its end just now may have done so.
 fn remove_socket<R: Files>(rt: &R, path: &str) -> io::Result<()> {
-    if !fs::symlink_metadata(rt, path)?.file_type().is_socket() {
-        return Err(io::Error::from(ErrorKind::AddrInUse));
+    let removed = match fs::symlink_metadata(rt, path) {
+        Ok(found) if !found.file_type().is_socket() => {
+            return Err(io::Error::from(ErrorKind::AddrInUse));
+        }
+        Ok(_) => fs::remove_file(rt, path),
+        Err(error) => Err(error),
+    };
+    match removed {
+        Err(error) if error.kind() == ErrorKind::NotFound => Ok(()),
+        removed => removed,
     }
-    fs::remove_file(rt, path)
 }

@@ -87,7 +87,7 @@ pub enum LivesOpenFault {
     #[error("{0}: it was left as it is")]
     Unread(LivesFault),
     /// A life begins beyond the end of the journal.
-    #[error("{0}: give both files of one copy, or move this one away")]
+    #[error("{0}: it has lost its end, or is an older copy: give the journal that has the line, or move this file away")]
     Beyond(BeyondJournal),
     /// The machine's fault: memory was refused.
     #[error("out of memory")]

@@ -42,6 +42,7 @@
 #![tactic(auto)]
 
 mod acts;
+mod aside;
 mod bell;
 mod calls;
 mod fault;
@@ -69,6 +70,7 @@ mod words;
 pub use amo_disk::{Cause, Durable, OpenFault};
 pub use amo_journal::Version;
 pub use amo_lines::{Backlog, Id, Input, Line, LineFault, NamedMessage, Spelling};
+pub use aside::Aside;
 pub use bell::Bell;
 pub use fault::{LiveFault, LivesOpenFault, SocketFault};
 pub use figures::{Dropped, Figures, Times, Traffic};

@@ -1,12 +1,12 @@
 //! The file of a host's lives: it is locked, read, cut behind its last whole line, and appended to.
-ghost use Rattle.std.specs.Prelude.{◌≡◌, ◌<◌, ◌≤◌, None, true, IfOk, IfSome, is_none};
+ghost use Rattle.std.specs.Prelude.{◌≡◌, ◌<◌, ◌≤◌, None, true, IfOk, IfSome, OnOk, is_none};
 ghost use Rattle.amo_lives.specs.Lives.{reach};
 ghost use Rattle.amo_live.specs.HostLives.{BeginsBehind, found_in};
 
-use crate::own_file::{open_alone, sync_entry};
+use crate::own_file::open_alone;
 use crate::{Cause, Durable, HostLives, LivesOpenFault};
-use amo_disk::Disk;
-use amo_lives::{BeginFault, BootId, Life, Lives, LivesFault};
+use amo_disk::{Disk, Gathered, sync_entry};
+use amo_lives::{BeginFault, BootId, Life, Lives, LivesFault, LivesFile};
 use amo_object::End;
 use amo_word::ChaChaWords;
 use std::alloc::Global;
@@ -26,7 +26,7 @@ const BOOT_ID: &str = "/proc/sys/kernel/random/boot_id";
 pub struct OpenedLives {
     file: File,
     side: End,
-    /// None where it is new, or was torn in its heading: it is to be begun.
+    /// None where it is new, or was torn in its heading or in its first life: it is to be begun.
     lives: Option<Lives>,
     whole: usize,
 }
@@ -42,10 +42,10 @@ impl OpenedLives {
         let file = open_alone(rt, path)?;
         let mut bytes = Vec::new(alloc);
         (&file).read_to_end(&mut bytes)?;
-        let (lives, whole) = match Lives::read(alloc, side, bytes.as_slice()) {
-            Ok(read) => (Some(read.lives), read.whole),
-            Err(LivesFault::NoHeading) => (None, 0),
-            Err(fault) => return Err(LivesOpenFault::from(fault)),
+        let read = read_begun(alloc, side, bytes.as_slice())?;
+        let (lives, whole) = match read {
+            Some(read) => (Some(read.lives), read.whole),
+            None => (None, 0),
         };
         Ok(OpenedLives {
             file,
@@ -72,8 +72,8 @@ impl OpenedLives {
 
     /// The lives of a host whose journal has so many lines, behind which its next lives are written into the file of this path. They are refused, and the
     /// file is left as it is, where they are not those of such a journal. A new file gets its key, which the system draws, its heading, and behind a journal
-    /// that has lines a life of which nothing is known: what a loss of power took of these nobody can tell. Where it is to be synced, it and the entry of
-    /// its directory are on the disk then.
+    /// that has lines a life of which nothing is known: what a loss of power took of these nobody can tell. It is on the disk then, and where the host syncs
+    /// the entry of its directory, too.
     ///
     /// The blank becomes the ledger in which contracts count failures. It takes no bytes.
     pub fn go_on<'a, R: Files<File = File> + RandomSource, L: Ledger>(
@@ -85,7 +85,7 @@ impl OpenedLives {
         sync: bool,
         cause: &'a Cell<Option<Cause>>,
         blank: Blank,
-    ) -> Result<HostLives<Disk<'a, File, L>>, LivesOpenFault>
+    ) -> Result<HostLives<Gathered<Disk<'a, File, L>>>, LivesOpenFault>
         requires name { blank.name ≡ L.name }
         requires parts { blank.parts ≡ L.parts }
         requires some { 0 < L.parts }
@@ -97,67 +97,93 @@ impl OpenedLives {
         if let Some(lives) = &self.lives {
             lives.check_journal(lines)?;
         }
+        let Drawn { key, tag, seed } = Drawn::draw(rt)?;
+        self.file.set_len(self.whole as u64)?;
         let OpenedLives {
             file,
             side,
             lives,
-            whole,
+            ..
         } = self;
-        file.set_len(whole as u64)?;
-        let mut disk = Disk::new(file, cause, blank);
-        let lives = match lives {
-            Some(lives) => lives,
-            None => match begin_file(rt, alloc, side, lines, &mut disk, cause) {
-                Ok(lives) => lives,
-                Err(fault) => {
+        let is_new = lives.is_none();
+        let mut sink = Gathered::new(alloc, Disk::new(file, cause, blank));
+        let lives = match kept(alloc, side, lives, key, tag, lines, &mut sink) {
+            Ok(lives) => lives,
+            Err(fault) => {
+                if is_new {
                     // A heading without its life would say that nothing is doubtful: the next start begins anew.
                     let _ = fs::create(rt, path);
-                    return Err(fault);
                 }
-            },
+                return Err(fault_of(fault, cause));
+            }
         };
         if sync {
-            match disk.sync() {
-                Ok(()) => (),
-                Err(fault) => return Err(fault_of(BeginFault::from(fault), cause)),
-            }
             sync_entry(rt, path)?;
         }
-        let tags = ChaChaWords::new(drawn(rt)?, 0);
-        Ok(HostLives::new(alloc, lives, tags, disk, boot_id(rt), sync))
+        let tags = ChaChaWords::new(seed, 0);
+        Ok(HostLives::new(alloc, lives, tags, sink, boot_id(rt), sync))
     }
 }
 
-/// The lives of a new file, with a key that the system draws. Its heading is written, and where the journal has lines also that of a life of which
-/// nothing is known: it wrote them, at whatever start of the machine.
-fn begin_file<R: RandomSource, L: Ledger>(
-    rt: &R,
+/// What a file of lives of this side tells. None where it is to be begun: it has nothing, or it was torn in its heading or in its first life, or a loss of
+/// power left zeros alone.
+fn read_begun(alloc: Global, side: End, bytes: &[u8]) -> Result<Option<LivesFile>, LivesFault> {
+    match Lives::read(alloc, side, bytes) {
+        Ok(read) if read.lacks_first_life(bytes.len()) => Ok(None),
+        Ok(read) => Ok(Some(read)),
+        Err(LivesFault::NoHeading) => Ok(None),
+        Err(_) if bytes.iter().all(|byte| *byte == 0) => Ok(None),
+        Err(fault) => Err(fault),
+    }
+}
+
+/// The lives that a file had, or those of a new one, with this key and tag. What the sink has is on the disk.
+fn kept<S: Durable>(
     alloc: Global,
     side: End,
+    lives: Option<Lives>,
+    key: [u8; 16],
+    tag: [u8; 4],
     lines: u64,
-    disk: &mut Disk<'_, File, L>,
-    cause: &Cell<Option<Cause>>,
-) -> Result<Lives, LivesOpenFault>
+    sink: &mut S,
+) -> Result<Lives, BeginFault>
+    ensures found { IfOk result (λ kept. IfSome lives (λ lives. kept ≡ lives)) }
+    ensures begun { IfOk result (λ kept. is_none lives ≡ true → BeginsBehind lines kept.lives) }
+    ensures on_disk { OnOk result (S.on_disk sink.new ≡ S.written sink.new) }
+{
+    let lives = match lives {
+        Some(lives) => lives,
+        None => begin_file(alloc, side, key, tag, lines, sink)?,
+    };
+    sink.sync()?;
+    Ok(lives)
+}
+
+/// The lives of a new file, with this key. The sink gets its heading, and where the journal has lines also that of a life of which nothing is known, with this
+/// tag: it wrote them, at whatever start of the machine. A sink that gathers both has neither on the disk without the other.
+fn begin_file<S: Durable>(
+    alloc: Global,
+    side: End,
+    key: [u8; 16],
+    tag: [u8; 4],
+    lines: u64,
+    sink: &mut S,
+) -> Result<Lives, BeginFault>
     ensures { IfOk result (λ lives. BeginsBehind lines lives.lives) }
 {
-    let mut lives = Lives::new(alloc, side, drawn(rt)?);
+    let mut lives = Lives::new(alloc, side, key);
     let mut room = Vec::new(alloc);
-    if let Err(fault) = lives.write_heading(&mut room, disk) {
-        return Err(fault_of(fault, cause));
+    lives.write_heading(&mut room, sink)?;
+    if lines > 0 {
+        let unknown = Life {
+            tag: u32::from_le_bytes(tag),
+            first_line: 0,
+            boot: None,
+            sync: false,
+        };
+        lives.begin(&mut room, unknown, sink)?;
     }
-    if lines == 0 {
-        return Ok(lives);
-    }
-    let unknown = Life {
-        tag: u32::from_le_bytes(drawn(rt)?),
-        first_line: 0,
-        boot: None,
-        sync: false,
-    };
-    match lives.begin(&mut room, unknown, disk) {
-        Ok(_words) => Ok(lives),
-        Err(fault) => Err(fault_of(fault, cause)),
-    }
+    Ok(lives)
 }
 
 /// The fault of a file of which a write failed, for this cause, or for which memory was refused.
@@ -169,8 +195,26 @@ fn fault_of(fault: BeginFault, cause: &Cell<Option<Cause>>) -> LivesOpenFault {
     }
 }
 
+/// What a start draws: the key of a new file and the tag of its first life, and the seed from which tags are drawn.
+struct Drawn {
+    key: [u8; 16],
+    tag: [u8; 4],
+    seed: [u8; 32],
+}
+
+impl Drawn {
+    /// All of it, by the system.
+    fn draw<R: RandomSource>(rt: &R) -> Result<Drawn, LivesOpenFault> {
+        Ok(Drawn {
+            key: draw_bytes(rt)?,
+            tag: draw_bytes(rt)?,
+            seed: draw_bytes(rt)?,
+        })
+    }
+}
+
 /// So many bytes that the system draws.
-fn drawn<R: RandomSource, const N: usize>(rt: &R) -> Result<[u8; N], LivesOpenFault> {
+fn draw_bytes<R: RandomSource, const N: usize>(rt: &R) -> Result<[u8; N], LivesOpenFault> {
     let mut bytes = [0; N];
     match rt.fill_bytes(&mut bytes) {
         Ok(()) => Ok(bytes),

@@ -1,9 +1,8 @@
 //! Files that a host has alone.
 use std::fs::{File, OpenOptions, TryLockError};
+use std::io;
 use std::os::unix::fs::OpenOptionsExt;
-use std::path::Path;
 use std::rt::Files;
-use std::{fs, io};
 
 /// Words follow from the key of a file of lives: its owner alone reads and writes a new one.
 const MODE: u32 = 0o600;
@@ -29,17 +28,4 @@ fn open_own<R: Files<File = File>>(rt: &R, path: &str) -> io::Result<File> {
         .open(rt, path)?;
     // Where a standard stream is closed, the file has its number, and gets what is shown there. A clone has a number of its own.
     opened.try_clone()
-}
-
-/// Puts the entry of the file of this path on the disk.
-pub(crate) fn sync_entry<R: Files<File = File>>(rt: &R, path: &str) -> io::Result<()> {
-    fs::open(rt, directory_of(path))?.sync_all()
-}
-
-/// The directory in which the file of this path stands.
-fn directory_of(path: &str) -> &str {
-    match Path::new(path).parent() {
-        Some(parent) if !parent.as_str().is_empty() => parent.as_str(),
-        _ => ".",
-    }
 }

@@ -1,5 +1,5 @@
 //! Reads the file of lives.
-ghost use Rattle.std.specs.Prelude.{◌≡◌, ◌++◌, ◌∷◌, ℕ, List, length, IfOk, IfErr, OnOk};
+ghost use Rattle.std.specs.Prelude.{◌≡◌, ◌<◌, ◌↔◌, ◌++◌, ◌∷◌, [], ℕ, List, length, IfOk, IfErr, IsTrue, OnOk};
 ghost use Rattle.amo_text.specs.Line.{Lacks};
 ghost use Rattle.amo_lives.specs.Fault.{Faults, LineFaults};
 ghost use Rattle.amo_lives.specs.Kept.{StopsAt, TakesAll, TakesLine};
@@ -19,6 +19,15 @@ pub struct LivesFile {
     pub lives: Lives,
     /// How many bytes the whole lines have. What is behind them is a line that was torn, which has to be cut off before another one is written.
     pub whole: usize,
+}
+
+impl LivesFile {
+    /// Whether it has a heading alone, behind which the first life was torn, where so many bytes were read. What that life told of the journal is lost.
+    pub fn lacks_first_life(&self, bytes: usize) -> bool
+        ensures { IsTrue result ↔ (self.now.lives.lives ≡ []) × (self.now.whole < bytes) }
+    {
+        self.lives.lives().is_empty() && self.whole < bytes
+    }
 }
 
 impl Lives {

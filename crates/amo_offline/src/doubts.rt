@@ -12,6 +12,9 @@ use thiserror::Error;
 /// Where Linux shows the id of the machine's start.
 const BOOT_ID: &str = "/proc/sys/kernel/random/boot_id";
 
+/// The line of a file of lives in which the first life stands, counted from 1.
+const FIRST_LIFE: usize = 2;
+
 /// All lines.
 pub(crate) const EVERY_LINE: &[Span] = &[Span {
     first: 0,
@@ -51,6 +54,9 @@ impl Doubts {
             Err(error) => return Doubts::lacking(rt, file, Lack::of(error)),
         };
         match read_lives(rt, bytes.as_slice()) {
+            Ok(read) if read.lacks_first_life(bytes.len()) => {
+                Doubts::lacking(rt, file, Lack::None(LivesFault::Malformed(FIRST_LIFE)))
+            }
             Ok(read) => Ok(Doubts {
                 file,
                 spans: read.lives.doubts(rt.alloc(), &boot_id(rt))?,
@@ -61,10 +67,10 @@ impl Doubts {
         }
     }
 
-    /// Nothing is known. Where there is a file of lives that could not be read, each line is doubtful; where there is none, nothing is.
+    /// Nothing is known. Where there is a file that could not be read, or that tells of no lives, each line is doubtful; where there is none, nothing is.
     fn lacking<R: AllocGlobal>(rt: &R, file: String, lack: Lack) -> Result<Doubts, OfflineFault> {
         let mut spans = Vec::new(rt.alloc());
-        if matches!(lack, Lack::Failed(_)) {
+        if !matches!(lack, Lack::Missing) {
             spans.extend_from_slice(EVERY_LINE)?;
         }
         Ok(Doubts {
@@ -137,6 +143,6 @@ enum Told<'a> {
     Missing(&'a str),
     #[error("amo: {0}: {1}: what a loss of power took is not known, so nothing is told to be gone")]
     Failed(&'a str, Cause),
-    #[error("amo: {0}: {1}: a loss of power is not told")]
+    #[error("amo: {0}: {1}: what a loss of power took is not known, so nothing is told to be gone")]
     None(&'a str, LivesFault),
 }

@@ -3,7 +3,7 @@ ghost use Rattle.std.specs.Prelude.{IfOk};
 ghost use Rattle.amo_offline.specs.Statuses.{IsOfReading};
 
 use crate::fault::OfflineFault;
-use crate::identity::put_on_disk;
+use crate::identity::length_on_disk;
 use crate::names::{Names, open_piece};
 use crate::pieces::tell_line;
 use amo_journal::{Lines, Version, open};
@@ -320,17 +320,6 @@ impl Telling {
             _ => Ok(Some(reading)),
         }
     }
-}
-
-/// How many bytes of a piece are on its disk, and may be told of: all, but for the last one, which a host may be writing, those that it has now. A host that
-/// syncs takes lines back whose sync failed, and a loss of power takes others. Of what is no file, as a pipe, all is told.
-fn length_on_disk(file: &File, is_last: bool) -> io::Result<u64> {
-    let found = file.metadata()?;
-    if !is_last || !found.is_file() {
-        return Ok(u64::MAX);
-    }
-    put_on_disk(file)?;
-    Ok(found.len())
 }
 
 /// Opens the files of these names one by one, so that one that is not there is told before all else. Answers the last one, which may be open.

@@ -25,6 +25,20 @@ pub(crate) fn put_on_disk(file: &File) -> io::Result<()> {
     }
 }
 
+/// How many bytes of a piece may be told of: of one that a host may be writing those that it has now, once they are on its disk, and of any other all.
+/// A host that syncs takes lines back whose sync failed, and a loss of power takes others. What is no file, as a pipe, has no disk.
+pub(crate) fn length_on_disk(file: &File, is_written: bool) -> io::Result<u64> {
+    if !is_written {
+        return Ok(u64::MAX);
+    }
+    let found = file.metadata()?;
+    if !found.is_file() {
+        return Ok(u64::MAX);
+    }
+    put_on_disk(file)?;
+    Ok(found.len())
+}
+
 /// Which file has this name, if one has it.
 pub(crate) fn identity_of<R: AllocGlobal + Files<File = File>>(
     rt: &R,

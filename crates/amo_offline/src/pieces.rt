@@ -1,11 +1,12 @@
 //! Reads the journal that a name stands for into memory.
 use crate::fault::OfflineFault;
+use crate::identity::length_on_disk;
 use crate::names::{Names, open_piece};
 use amo_journal::open;
 use amo_pieces::Pieces;
 use amo_telling::whole_lines;
 use std::fs::File;
-use std::io::{self, Read};
+use std::io::{self, Read, Take};
 use std::rt::Files;
 use thiserror::Error;
 
@@ -31,10 +32,27 @@ impl Journal {
         Journal::read_of(rt, Names::find(rt, name)?)
     }
 
+    /// Reads what is on the disk of the journal of this name, which a host may be writing.
+    pub(crate) fn read_kept<R: AllocGlobal + Files<File = File>>(
+        rt: &R,
+        name: &str,
+    ) -> Result<Journal, OfflineFault> {
+        Journal::read_each(rt, Names::find(rt, name)?, true)
+    }
+
     /// Reads the journal in these files.
     pub(crate) fn read_of<R: AllocGlobal + Files<File = File>>(
         rt: &R,
         names: Names,
+    ) -> Result<Journal, OfflineFault> {
+        Journal::read_each(rt, names, false)
+    }
+
+    /// Reads the journal in these files: all of it, or what is on the disk.
+    fn read_each<R: AllocGlobal + Files<File = File>>(
+        rt: &R,
+        names: Names,
+        on_disk: bool,
     ) -> Result<Journal, OfflineFault> {
         let mut names = names;
         let mut newest = names.take_newest();
@@ -42,14 +60,10 @@ impl Journal {
         let mut is_cut = false;
         let count = names.pieces().len();
         for (place, name) in names.pieces().iter().enumerate() {
-            let mut file = open_piece(
-                rt,
-                name.as_str(),
-                place.saturating_add(1) >= count,
-                &mut newest,
-            )?;
+            let is_last = place.saturating_add(1) >= count;
+            let file = open_piece(rt, name.as_str(), is_last, &mut newest)?;
             is_cut = is_cut || whole_lines(pieces.text()).len() < pieces.text().len();
-            match add_file(&mut pieces, &mut file) {
+            match add_file(&mut pieces, file, on_disk && is_last) {
                 Ok(is_other) => is_cut = is_cut || is_other,
                 Err(error) => return Err(OfflineFault::of_file(rt.alloc(), name.as_str(), error)),
             }
@@ -101,11 +115,12 @@ impl Journal {
     }
 }
 
-/// Adds the piece in this file. Answers whether it has a whole line, and is of another version than the pieces before it.
-fn add_file(pieces: &mut Pieces, file: &mut File) -> io::Result<bool> {
+/// Adds the piece in this file: all of it, or what is on the disk. Answers whether it has a whole line, and is of another version than the pieces before it.
+fn add_file(pieces: &mut Pieces, file: File, on_disk: bool) -> io::Result<bool> {
     let is_first = pieces.text().is_empty();
+    let most = length_on_disk(&file, on_disk)?;
     let mut seen = Seen {
-        file,
+        file: file.take(most),
         front: [0; FRONT],
         filled: 0,
         has_line: false,
@@ -117,15 +132,15 @@ fn add_file(pieces: &mut Pieces, file: &mut File) -> io::Result<bool> {
 
 /// A file, of which it keeps what was read first, and whether the end of a line was.
 #[derive(Drop)]
-struct Seen<'a> {
-    file: &'a mut File,
+struct Seen {
+    file: Take<File>,
     front: [u8; FRONT],
     /// How many bytes were read first.
     filled: usize,
     has_line: bool,
 }
 
-impl Seen<'_> {
+impl Seen {
     /// What was read first.
     fn front(&self) -> &[u8] {
         &self.front[..self.filled.min(FRONT)]
@@ -141,7 +156,7 @@ impl Seen<'_> {
     }
 }
 
-impl Read for Seen<'_> {
+impl Read for Seen {
     fn read(&mut self, to: &mut [u8]) -> io::Result<usize> {
         let count = self.file.read(to)?;
         self.see(&to[..count.min(to.len())]);

@@ -25,59 +25,144 @@ pub struct Retold {
 }
 
 /// Tells on standard output what became of each message that was put on the lines of this journal, which has so many, and that was neither answered
-/// nor told. Then these lines are kept as told. Whoever calls has the journal.
-pub fn tell_untold<R: AllocGlobal + Eprint + Files<File = File>, O: Write>(
+/// nor told. Then these lines are kept as told: what is to keep that is made before anything is told, so that a start that cannot keep it, as on a full disk,
+/// tells nothing. Whoever calls has the journal, and says who is told what is odd.
+pub fn tell_untold<R: AllocGlobal + Files<File = File>, E: Eprint, O: Write>(
     rt: &R,
+    errors: &E,
     journal: &str,
     lines: u64,
     json: bool,
     output: &mut O,
 ) -> Result<Retold, OfflineFault> {
-    tell_power(rt, journal, lines)?;
+    tell_power(rt, errors, journal, lines)?;
     let mut told = ToldFile::read(rt, journal)?;
-    let mut first = told.first_untold(rt, lines);
-    let mut last = line_in_front_of(rt, journal, first)?;
-    if told.lines() == Some(first) && !is_trusted(rt.alloc(), &told, last.as_ref(), first)? {
-        first = told.miss_lines(rt, lines);
-    }
-    let mut recalled = None;
-    if !told.list().is_empty() {
-        recalled = recall(rt.alloc(), told.list(), first)?;
-        if recalled.is_none() {
-            first = told.distrust(rt, lines);
-        }
-    }
-    if first < lines || recalled.is_some() {
-        let mut retelling = Retelling::new(rt, journal, first, recalled)?;
-        if !retelling.read(rt)? {
-            return Ok(Retold {
-                in_doubt: told.into_in_doubt(),
-                is_whole: false,
-            });
-        }
-        retelling.show(rt, json, &mut told, output)?;
-        last = Some(retelling.last);
-    }
-    let last = match last.as_ref() {
-        Some(line) => line.as_slice(),
-        None => &[],
+    let Some(telling) = telling_of(rt, errors, journal, lines, json, &mut told)? else {
+        return Ok(Retold {
+            in_doubt: told.into_in_doubt(),
+            is_whole: false,
+        });
     };
-    told.keep(rt, journal, lines, last)?;
+    show_and_keep(rt, journal, lines, &told, &telling, output)?;
     Ok(Retold {
         in_doubt: told.into_in_doubt(),
         is_whole: true,
     })
 }
 
-/// Tells on standard error where a loss of power may have taken lines behind those that the journal has, so many.
-fn tell_power<R: AllocGlobal + Eprint + Files<File = File>>(
+/// What a start is to tell.
+#[derive(Drop)]
+struct Telling {
+    text: Vec<u8>,
+    /// The last line of the journal, without its end, if it has one.
+    last: Option<Vec<u8>>,
+}
+
+/// What is to be told of a journal that has so many lines, behind what was told before. None where a line did not read. The streams that are in doubt then are
+/// those that the file of what was told has from now on.
+fn telling_of<R: AllocGlobal + Files<File = File>, E: Eprint>(
     rt: &R,
+    errors: &E,
+    journal: &str,
+    lines: u64,
+    json: bool,
+    told: &mut ToldFile,
+) -> Result<Option<Telling>, OfflineFault> {
+    let mut text = Vec::new(rt.alloc());
+    let Whence {
+        first,
+        last,
+        recalled,
+    } = whence_to_read(rt, errors, journal, lines, told)?;
+    if first >= lines && recalled.is_none() {
+        return Ok(Some(Telling { text, last }));
+    }
+    let mut retelling = Retelling::new(rt, journal, first, recalled)?;
+    if !retelling.read(rt, errors)? {
+        return Ok(None);
+    }
+    retelling.tell(rt, json, told, &mut text)?;
+    Ok(Some(Telling {
+        text,
+        last: Some(retelling.last),
+    }))
+}
+
+/// From where on a journal is read.
+#[derive(Drop)]
+struct Whence {
+    /// The number of the first line of which puts are not told.
+    first: u64,
+    /// The line in front of it, if it is there.
+    last: Option<Vec<u8>>,
+    /// What is known of the lines in front of it that matter.
+    recalled: Option<Untold>,
+}
+
+/// From where on to read a journal that has so many lines, by the file of what was told. What that says and is not so is not believed, and it is told why.
+fn whence_to_read<R: AllocGlobal + Files<File = File>, E: Eprint>(
+    rt: &R,
+    errors: &E,
+    journal: &str,
+    lines: u64,
+    told: &mut ToldFile,
+) -> Result<Whence, OfflineFault> {
+    let mut first = told.first_untold(errors, lines);
+    let last = line_in_front_of(rt, journal, first)?;
+    if told.lines() == Some(first) && !is_trusted(rt.alloc(), told, last.as_ref(), first)? {
+        first = told.miss_lines(errors, lines);
+    }
+    let mut recalled = None;
+    if !told.list().is_empty() {
+        recalled = recall(rt.alloc(), told.list(), first)?;
+        if recalled.is_none() {
+            first = told.distrust(errors, lines);
+        }
+    }
+    Ok(Whence {
+        first,
+        last,
+        recalled,
+    })
+}
+
+/// Tells it on standard output, and keeps that so many lines are told.
+fn show_and_keep<R: AllocGlobal + Files<File = File>, O: Write>(
+    rt: &R,
+    journal: &str,
+    lines: u64,
+    told: &ToldFile,
+    telling: &Telling,
+    output: &mut O,
+) -> Result<(), OfflineFault> {
+    let last = match telling.last.as_ref() {
+        Some(line) => line.as_slice(),
+        None => &[],
+    };
+    let next = told.next(rt, journal, lines, last)?;
+    let shown = show(telling.text.as_slice(), output);
+    match (shown, next) {
+        (Ok(()), Some(next)) => next.put_in_place(rt),
+        (shown, _) => shown,
+    }
+}
+
+/// Shows this text.
+fn show<O: Write>(text: &[u8], output: &mut O) -> Result<(), OfflineFault> {
+    output.write_all(text).map_err(OfflineFault::of_output)?;
+    output.flush().map_err(OfflineFault::of_output)
+}
+
+/// Tells where a loss of power may have taken lines behind those that the journal has, so many.
+fn tell_power<R: AllocGlobal + Files<File = File>, E: Eprint>(
+    rt: &R,
+    errors: &E,
     journal: &str,
     lines: u64,
 ) -> Result<(), OfflineFault> {
     let doubts = Doubts::read(rt, journal)?;
     if lines > 0 && doubts.are_open() {
-        let _ = rt.eprintln(Told::Power(journal, lines));
+        let _ = errors.eprintln(Told::Power(journal, lines));
     }
     Ok(())
 }
@@ -200,16 +285,17 @@ impl<'a> Retelling<'a> {
         })
     }
 
-    /// Reads the lines to their end. Answers whether each of them is one; if not, standard error is told of it.
-    fn read<R: AllocGlobal + Eprint + Files<File = File>>(
+    /// Reads the lines to their end. Answers whether each of them is one; if not, that is told.
+    fn read<R: AllocGlobal + Files<File = File>, E: Eprint>(
         &mut self,
         rt: &R,
+        errors: &E,
     ) -> Result<bool, OfflineFault> {
         'parts: for _part in 0..u64::MAX {
             let count = self.journal.fill(self.room.as_mut_slice())?;
             let length = whole_lines(self.come(count)).len();
             let is_read = if length > 0 {
-                self.read_part(rt, length)?
+                self.read_part(errors, length)?
             } else if count > 0 {
                 false
             } else if self.journal.go_on(rt)? {
@@ -218,7 +304,7 @@ impl<'a> Retelling<'a> {
                 break;
             };
             if !is_read {
-                let _ = rt.eprintln(Told::Malformed(self.journal.file()));
+                let _ = errors.eprintln(Told::Malformed(self.journal.file()));
                 return Ok(false);
             }
         }
@@ -232,11 +318,11 @@ impl<'a> Retelling<'a> {
     }
 
     /// Reads lines of a piece, which have so many bytes. Answers whether each of them is one.
-    fn read_part<R: Eprint>(&mut self, rt: &R, length: usize) -> Result<bool, OfflineFault> {
+    fn read_part<E: Eprint>(&mut self, errors: &E, length: usize) -> Result<bool, OfflineFault> {
         let room = self.room.as_slice();
         let bytes = &room[..length.min(room.len())];
         let is_beginning = self.journal.is_at_beginning();
-        let is_read = self.found.read(rt, bytes, is_beginning)?;
+        let is_read = self.found.read(errors, bytes, is_beginning)?;
         let last = last_line(bytes);
         if number_in_front(last).is_some() {
             self.last.clear();
@@ -246,14 +332,14 @@ impl<'a> Retelling<'a> {
         Ok(is_read)
     }
 
-    /// Shows what became of the messages that were not answered, and what is settled of those that were told before. From then on, that is told. Of what
+    /// Appends what became of the messages that were not answered, and what is settled of those that were told before. From then on, that is told. Of what
     /// stands in front of missing lines nothing is `gone`, since these may have it sent; nor is anything where the file of lives cannot be read right now.
-    fn show<R: AllocGlobal + Files<File = File>, O: Write>(
+    fn tell<R: AllocGlobal + Files<File = File>>(
         &self,
         rt: &R,
         json: bool,
         told: &mut ToldFile,
-        output: &mut O,
+        text: &mut Vec<u8>,
     ) -> Result<(), OfflineFault> {
         let doubts = Doubts::read(rt, self.found.name)?;
         let spans = if told.lacks_lines() || !doubts.are_known() {
@@ -262,28 +348,25 @@ impl<'a> Retelling<'a> {
             doubts.spans()
         };
         for untold in &self.found.before_gaps {
-            show_known(untold, EVERY_LINE, json, told, output)?;
+            tell_known(untold, EVERY_LINE, json, told, text)?;
         }
         match self.found.known() {
-            Some(untold) => show_known(untold, spans, json, told, output),
+            Some(untold) => tell_known(untold, spans, json, told, text),
             None => Ok(()),
         }
     }
 }
 
-/// Shows what is known of messages, where these lines are doubtful.
-fn show_known<O: Write>(
+/// Appends what is known of messages, where these lines are doubtful.
+fn tell_known(
     untold: &Untold,
     doubtful: &[Span],
     json: bool,
     told: &mut ToldFile,
-    output: &mut O,
+    text: &mut Vec<u8>,
 ) -> Result<(), OfflineFault> {
-    let text = untold.tell(doubtful, told.in_doubt(), json)?;
-    output
-        .write_all(text.as_slice())
-        .map_err(OfflineFault::of_output)?;
-    output.flush().map_err(OfflineFault::of_output)?;
+    let known = untold.tell(doubtful, told.in_doubt(), json)?;
+    text.extend_from_slice(known.as_slice())?;
     let in_doubt = untold.in_doubt(doubtful, told.in_doubt())?;
     told.doubt(in_doubt);
     Ok(())
@@ -316,9 +399,9 @@ impl Found<'_> {
     }
 
     /// Reads whole lines, with which a piece begins, or which go on in it. Answers whether each of them is one.
-    fn read<R: Eprint>(
+    fn read<E: Eprint>(
         &mut self,
-        rt: &R,
+        errors: &E,
         bytes: &[u8],
         is_beginning: bool,
     ) -> Result<bool, OfflineFault> {
@@ -332,14 +415,14 @@ impl Found<'_> {
         };
         self.version = rest.version;
         'gaps: for _gap in 0..bytes.len() {
-            rest = self.seek(rt, rest)?;
+            rest = self.seek(errors, rest)?;
             let Some(untold) = self.untold.as_mut() else {
                 break;
             };
             let (left, progress) = untold.read_on(rest)?;
             rest = left;
             match progress {
-                Progress::Gap => self.pass_gap(rt, left)?,
+                Progress::Gap => self.pass_gap(errors, left)?,
                 Progress::Whole | Progress::Malformed => break,
             }
         }
@@ -347,10 +430,10 @@ impl Found<'_> {
     }
 
     /// Lines are missing in front of these: what became of the messages before them stands there, maybe.
-    fn pass_gap<R: Eprint>(&mut self, rt: &R, lines: Lines<'_>) -> Result<(), AllocError> {
+    fn pass_gap<E: Eprint>(&mut self, errors: &E, lines: Lines<'_>) -> Result<(), AllocError> {
         if let Some(untold) = self.untold.take() {
             if let Some(number) = number_in_front(lines.text) {
-                tell_missing(rt, self.name, untold.next(), number);
+                tell_missing(errors, self.name, untold.next(), number);
             }
             // Behind a line of which no number is greater nothing is read, again and again.
             if untold.next() > self.begun {
@@ -362,7 +445,11 @@ impl Found<'_> {
     }
 
     /// These lines without those in front of what is sought, which begins once it has come.
-    fn seek<'l, R: Eprint>(&mut self, rt: &R, lines: Lines<'l>) -> Result<Lines<'l>, AllocError> {
+    fn seek<'l, E: Eprint>(
+        &mut self,
+        errors: &E,
+        lines: Lines<'l>,
+    ) -> Result<Lines<'l>, AllocError> {
         if self.untold.is_some() {
             return Ok(lines);
         }
@@ -372,7 +459,7 @@ impl Found<'_> {
             match number_in_front(rest.text) {
                 Some(number) if number == sought => self.begin(number)?,
                 Some(number) => {
-                    tell_missing(rt, self.name, sought, number);
+                    tell_missing(errors, self.name, sought, number);
                     if let Some(recalled) = self.recalled.take() {
                         self.before_gaps.push(recalled)?;
                     }
@@ -448,9 +535,9 @@ fn number_in_front(line: &[u8]) -> Option<u64> {
     read_decimal(number)
 }
 
-/// Tells on standard error that the lines of these numbers are missing, from the first one to before the last.
-fn tell_missing<R: Eprint>(rt: &R, journal: &str, first: u64, end: u64) {
-    let _ = rt.eprintln(Told::Missing(journal, first, end.saturating_sub(1)));
+/// Tells that the lines of these numbers are missing, from the first one to before the last.
+fn tell_missing<E: Eprint>(errors: &E, journal: &str, first: u64, end: u64) {
+    let _ = errors.eprintln(Told::Missing(journal, first, end.saturating_sub(1)));
 }
 
 /// What is told of a journal on a line of its own.

@@ -33,7 +33,6 @@ pub fn tell_outcomes_of<R: AllocGlobal + Eprint + Files<File = File> + Print, E:
     settings: &OutcomesSettings,
     errors: E,
 ) -> Result<u8, OfflineFault> {
-    let first = Journal::read(rt, settings.first.as_str())?;
     let choice = Choice {
         open: settings.open,
         gone: settings.gone,
@@ -41,7 +40,9 @@ pub fn tell_outcomes_of<R: AllocGlobal + Eprint + Files<File = File> + Print, E:
     };
     match settings.second.as_ref() {
         Some(file) => {
-            let second = Journal::read(rt, file.as_str())?;
+            // That a receiver got a message is not told before its line is sure to stay.
+            let first = Journal::read_kept(rt, settings.first.as_str())?;
+            let second = Journal::read_kept(rt, file.as_str())?;
             let doubts = Doubts::read(rt, first.name_of_lives())?;
             let others = Doubts::read(rt, second.name_of_lives())?;
             let sides = [
@@ -54,6 +55,7 @@ pub fn tell_outcomes_of<R: AllocGlobal + Eprint + Files<File = File> + Print, E:
             Ok(status)
         }
         None => {
+            let first = Journal::read(rt, settings.first.as_str())?;
             let status = tell_outcomes_by_one(rt, &first, settings.first.as_str(), choice, errors)?;
             first.tell_missing(rt);
             Ok(status)

@@ -1,20 +1,15 @@
 //! The file beside a sender's journal that keeps of how many of its lines each put is told, but for some that it lists, and on which streams one was told
 //! to be unknown.
 use crate::fault::OfflineFault;
-use amo_disk::Cause;
+use amo_disk::{Cause, put_in_place, write_beside};
 use amo_text::{cut, push_decimal, push_hex, read_decimal, read_stream};
 use amo_world::STREAMS;
 use sha2::{Digest, Sha256};
 use std::alloc::{AllocError, Global};
-use std::fs::{self, File, OpenOptions};
-use std::io::{self, ErrorKind, Read, Write};
-use std::os::unix::fs::OpenOptionsExt;
-use std::path::Path;
+use std::fs::{self, File};
+use std::io::{self, ErrorKind, Read};
 use std::rt::Files;
 use thiserror::Error;
-
-/// It is its owner's alone, as the journal is.
-const MODE: u32 = 0o600;
 
 /// What it begins with, in front of the numbers.
 const FRONT: &[u8] = b"amo told ";
@@ -108,8 +103,8 @@ impl ToldFile {
     }
 
     /// The number of the first line of which puts are not told, of a journal of so many lines. Where that is not known it is the journal's first
-    /// one, and standard error is told why.
-    pub(crate) fn first_untold<R: Eprint>(&mut self, rt: &R, lines: u64) -> u64 {
+    /// one, and it is told why.
+    pub(crate) fn first_untold<E: Eprint>(&mut self, errors: &E, lines: u64) -> u64 {
         let path = self.path.as_str();
         let told = match self.said {
             Said::Nothing => return 0,
@@ -121,7 +116,7 @@ impl ToldFile {
             Said::Strange => Told::Strange(path),
             Said::Unread(cause) => Told::Unread(path, cause),
         };
-        let _ = rt.eprintln(told);
+        let _ = errors.eprintln(told);
         if !self.lacks_lines {
             self.in_doubt.clear();
         }
@@ -134,10 +129,10 @@ impl ToldFile {
         self.lacks_lines
     }
 
-    /// The last of the lines of which it tells is another one in the journal. Answers the number of the journal's first line, and standard error is told why.
-    pub(crate) fn miss_lines<R: Eprint>(&mut self, rt: &R, lines: u64) -> u64 {
+    /// The last of the lines of which it tells is another one in the journal. Answers the number of the journal's first line, and it is told why.
+    pub(crate) fn miss_lines<E: Eprint>(&mut self, errors: &E, lines: u64) -> u64 {
         self.lacks_lines = true;
-        self.distrust(rt, lines)
+        self.distrust(errors, lines)
     }
 
     /// Those of the lines in front of that one which matter for puts on them that are not told, as a journal.
@@ -161,10 +156,10 @@ impl ToldFile {
         Ok(digest.as_slice() == self.witness.as_slice())
     }
 
-    /// Its list is none, or it is of another journal. Answers the number of the journal's first line, and standard error is told why.
-    pub(crate) fn distrust<R: Eprint>(&mut self, rt: &R, lines: u64) -> u64 {
+    /// Its list is none, or it is of another journal. Answers the number of the journal's first line, and it is told why.
+    pub(crate) fn distrust<E: Eprint>(&mut self, errors: &E, lines: u64) -> u64 {
         self.said = Said::Strange;
-        self.first_untold(rt, lines)
+        self.first_untold(errors, lines)
     }
 
     /// The streams on which it is not settled what became of a message that was told to be unknown.
@@ -182,23 +177,23 @@ impl ToldFile {
         self.in_doubt
     }
 
-    /// Keeps that each put on the first so many lines of this journal, of which this is the last, is told, where it does not say so. A file of a journal
-    /// without lines is not begun.
-    pub(crate) fn keep<R: AllocGlobal + Files<File = File>>(
+    /// Makes the file that says that each put on the first so many lines of this journal, of which this is the last, is told, where this one does not say
+    /// so: it gets its place once that is so. A file of a journal without lines is not begun.
+    pub(crate) fn next<R: AllocGlobal + Files<File = File>>(
         &self,
         rt: &R,
         journal: &str,
         lines: u64,
         last: &[u8],
-    ) -> Result<(), OfflineFault> {
+    ) -> Result<Option<NextTold>, OfflineFault> {
         match self.said {
-            Said::Nothing if lines == 0 => return Ok(()),
-            Said::Lines(said) if said == lines && self.list.is_empty() => return Ok(()),
+            Said::Nothing if lines == 0 => return Ok(None),
+            Said::Lines(said) if said == lines && self.list.is_empty() => return Ok(None),
             _ => {}
         }
         let mut text = Vec::new(rt.alloc());
         push_told(&mut text, lines, self.in_doubt())?;
-        write_told(rt, journal, text, last)
+        Ok(Some(NextTold::make(rt, journal, text, last)?))
     }
 }
 
@@ -207,59 +202,76 @@ fn path_of(alloc: Global, journal: &str) -> Result<String, AllocError> {
     format!(in alloc; "{journal}.told")
 }
 
-/// Makes the file beside this journal anew, of this text and its seal: it tells of lines of which this is the last. It is made beside first, so that it is
-/// there whole, as it was or as it is to be. The journal's lines are put on the disk before, so that a loss of power takes none that it counts; and it is on
-/// the disk itself, with its name: were an older one back behind a loss of power, what was told would be told again.
+/// Makes the file beside this journal anew, of this text and its seal: it tells of lines of which this is the last.
 pub fn write_told<R: AllocGlobal + Files<File = File>>(
     rt: &R,
     journal: &str,
     text: Vec<u8>,
     last: &[u8],
 ) -> Result<(), OfflineFault> {
-    let mut text = text;
-    push_seal(&mut text, last)?;
-    if let Err(error) = put_on_disk(rt, journal) {
-        return Err(OfflineFault::of_disk(rt.alloc(), journal, Cause::from(error)));
-    }
-    let path = path_of(rt.alloc(), journal)?;
-    replace(rt, path.as_str(), text.as_slice())
+    NextTold::make(rt, journal, text, last)?.put_in_place(rt)
 }
 
-/// Makes the file of this path anew, of this text, which is made beside it first.
-fn replace<R: AllocGlobal + Files<File = File>>(
-    rt: &R,
-    path: &str,
-    text: &[u8],
-) -> Result<(), OfflineFault> {
-    let beside = format!(in rt.alloc(); "{path}.new")?;
-    let beside = beside.as_str();
-    if let Err(error) = write_beside(rt, beside, text) {
-        let _ = fs::remove_file(rt, beside);
-        return Err(OfflineFault::of_disk(rt.alloc(), beside, Cause::from(error)));
+/// The next file of a path, which is made beside it, so that it is there whole, as it was or as it is to be.
+#[derive(Drop)]
+pub(crate) struct NextTold {
+    path: String,
+    beside: String,
+}
+
+impl NextTold {
+    /// Makes the next file beside this journal, of this text and its seal: it tells of lines of which this is the last. The journal's lines are put on the
+    /// disk before, so that a loss of power takes none that it counts.
+    fn make<R: AllocGlobal + Files<File = File>>(
+        rt: &R,
+        journal: &str,
+        text: Vec<u8>,
+        last: &[u8],
+    ) -> Result<NextTold, OfflineFault> {
+        let mut text = text;
+        push_seal(&mut text, last)?;
+        if let Err(error) = sync_journal(rt, journal) {
+            return Err(OfflineFault::of_disk(rt.alloc(), journal, Cause::from(error)));
+        }
+        let path = path_of(rt.alloc(), journal)?;
+        if is_directory(rt, path.as_str()) {
+            let error = io::Error::from(ErrorKind::IsADirectory);
+            return Err(OfflineFault::of_disk(rt.alloc(), path.as_str(), Cause::from(error)));
+        }
+        let beside = format!(in rt.alloc(); "{path}.new")?;
+        if let Err(error) = write_beside(rt, beside.as_str(), text.as_slice()) {
+            let _ = fs::remove_file(rt, beside.as_str());
+            return Err(OfflineFault::of_disk(rt.alloc(), beside.as_str(), Cause::from(error)));
+        }
+        Ok(NextTold { path, beside })
     }
-    match rename_on_disk(rt, beside, path) {
-        Ok(()) => Ok(()),
-        Err(error) => Err(OfflineFault::of_disk(rt.alloc(), path, Cause::from(error))),
+
+    /// Puts it in the place of the one before. It is on the disk then, with its name: were an older one back behind a loss of power, what was told would be
+    /// told again.
+    pub(crate) fn put_in_place<R: AllocGlobal + Files<File = File>>(
+        self,
+        rt: &R,
+    ) -> Result<(), OfflineFault> {
+        match put_in_place(rt, self.beside.as_str(), self.path.as_str()) {
+            Ok(()) => Ok(()),
+            Err(error) => {
+                Err(OfflineFault::of_disk(rt.alloc(), self.path.as_str(), Cause::from(error)))
+            }
+        }
     }
 }
 
-/// Gives the file of one path another one in the same directory, and puts that on the disk.
-fn rename_on_disk<R: Files<File = File>>(rt: &R, from: &str, to: &str) -> io::Result<()> {
-    fs::rename(rt, from, to)?;
-    put_on_disk(rt, directory_of(to))
-}
-
-/// The directory in which the file of this path stands.
-fn directory_of(path: &str) -> &str {
-    match Path::new(path).parent() {
-        Some(parent) if !parent.as_str().is_empty() => parent.as_str(),
-        _ => ".",
+/// Whether a directory has this path, in the place of which no file can be put.
+fn is_directory<R: Files>(rt: &R, path: &str) -> bool {
+    match fs::symlink_metadata(rt, path) {
+        Ok(found) => found.is_dir(),
+        Err(_) => false,
     }
 }
 
-/// Puts the file or the directory of this path on its disk.
-fn put_on_disk<R: Files<File = File>>(rt: &R, path: &str) -> io::Result<()> {
-    fs::open(rt, path)?.sync_all()
+/// Puts the journal's newest piece on its disk.
+fn sync_journal<R: Files<File = File>>(rt: &R, journal: &str) -> io::Result<()> {
+    fs::open(rt, journal)?.sync_all()
 }
 
 /// Appends the last line: `sum`, the digest of all that stands in front of it, and that of this line of a journal.
@@ -359,21 +371,6 @@ fn read_front<R: Files<File = File>>(rt: &R, path: &str, bytes: &mut Vec<u8>) ->
     let file = fs::open(rt, path)?;
     file.take(MOST).read_to_end(bytes)?;
     Ok(())
-}
-
-/// Makes the file of this path anew, which then replaces the one that it stands beside. What a start left there that was killed is removed.
-fn write_beside<R: Files<File = File>>(rt: &R, beside: &str, text: &[u8]) -> io::Result<()> {
-    match fs::remove_file(rt, beside) {
-        Err(error) if error.kind() != ErrorKind::NotFound => return Err(error),
-        _ => {}
-    }
-    let mut file: File = OpenOptions::new()
-        .write(true)
-        .create_new(true)
-        .mode(MODE)
-        .open(rt, beside)?;
-    file.write_all(text)?;
-    file.sync_all()
 }
 
 /// What is told of such a file, on a line of its own.

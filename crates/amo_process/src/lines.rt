@@ -10,8 +10,8 @@ use crate::opening::{
 use crate::stopping::hang_bell;
 use amo_client::check_address;
 use amo_desk::{ProcessFault, run_process};
-use amo_disk::{Cause, Disk, Opened, Start, open};
-use amo_live::{Bell, Durable, Ended, HostLives, Lineage, LiveFault, Plan, Socket};
+use amo_disk::{Cause, Disk, Gathered, Opened, Start, open};
+use amo_live::{Aside, Bell, Durable, Ended, HostLives, Lineage, LiveFault, Plan, Socket};
 use amo_object::End;
 use amo_offline::{Retold, tell_untold};
 use amo_settings::{HostSettings, ReceiveSettings, SendSettings};
@@ -171,10 +171,15 @@ fn run_noted<
     );
     nail.take_down(rt);
     match ran? {
+        // Who asked for the end may start a host anew then: it finds the port, the files and the place of the bell free.
+        Ok((ended, mut bell)) => {
+            bell.answer(ended);
+            Ok(Ok(ended))
+        }
         Err(fault) if fault == ProcessFault::from(LiveFault::Lives) => {
             Err(HostFailure::of_host(alloc, file.as_str(), fault, why.get()))
         }
-        ran => Ok(ran),
+        Err(fault) => Ok(Err(fault)),
     }
 }
 
@@ -186,7 +191,7 @@ fn prepare<'a, R: AllocGlobal + Eprint + Files<File = File> + Net + RandomSource
     lines: u64,
     why: &'a Cell<Option<Cause>>,
     blank: Blank,
-) -> Result<Prepared<HostLives<Disk<'a, File, N>>>, HostFailure>
+) -> Result<Prepared<HostLives<Gathered<Disk<'a, File, N>>>>, HostFailure>
     requires { (blank.name ≡ N.name) × (blank.parts ≡ N.parts) × (0 < N.parts) }
 {
     let file = path_of_lives(rt.alloc(), path)?;
@@ -219,7 +224,7 @@ fn tell_and_run<
     start: Start,
     words: W,
     bell: Bell,
-) -> Result<Result<Ended, ProcessFault>, HostFailure>
+) -> Result<Result<(Ended, Bell), ProcessFault>, HostFailure>
     requires { (1 ≤ plan.setup.streams) × (plan.setup.streams ≤ 256) }
 {
     let mut output = output;
@@ -256,7 +261,8 @@ fn tell_earlier<R: AllocGlobal + Eprint + Files<File = File>, O: Write>(
             is_whole: true,
         });
     }
-    match tell_untold(rt, path, lines, plan.setup.spelling.json, output) {
+    let errors = Aside::new(rt);
+    match tell_untold(rt, &errors, path, lines, plan.setup.spelling.json, output) {
         Ok(retold) => Ok(retold),
         Err(fault) => Err(HostFailure::of_retelling(fault)),
     }

@@ -1,6 +1,7 @@
 //! Keeps, while a sender is at work, from which line of its journal on its next start is to tell.
+use crate::stopping::{Identity, identity_in};
 use amo_desk::{Keeper, ServeFault};
-use amo_live::{Lineage, Plan, Service};
+use amo_live::{Aside, Lineage, Plan, Service};
 use amo_net::Link;
 use amo_object::End;
 use amo_offline::{OfflineFault, Retold, numbered_line, push_told, write_told};
@@ -18,10 +19,12 @@ pub(crate) struct Marker<'r, R> {
     piece: u64,
     /// The streams in doubt that the host has not.
     beyond: Vec<u32>,
-    /// How many bytes the host has to have written, and more, for the next step; none at a host that tells nothing at its start.
+    /// How many bytes the host has to have written, and more, for another piece; none at a host that tells nothing at its start.
     next: Option<u64>,
-    /// The piece is full, and the next line begins another one.
-    is_full: bool,
+    /// How many it had written when it was looked at last.
+    written: u64,
+    /// Which file the piece is that was there then.
+    newest: Option<Identity>,
 }
 
 impl<'r, R: AllocGlobal + Files<File = File>> Marker<'r, R> {
@@ -50,25 +53,35 @@ impl<'r, R: AllocGlobal + Files<File = File>> Marker<'r, R> {
                 }
                 End::Sender | End::Receiver => None,
             },
-            is_full: false,
+            written: 0,
+            newest: identity_of(rt, journal),
         })
     }
 
-    /// Whether a piece was full when the host had written fewer bytes than these, and another one has begun by now.
+    /// Whether another piece has begun since it was looked at last, now that the host has written so many bytes. The system is asked only where a piece may
+    /// be full: one that begins behind what was written then has as many bytes as a piece before the next one does.
     fn has_begun(&mut self, bytes: u64) -> bool {
-        let Some(next) = self.next else {
-            return false;
-        };
-        if bytes <= next {
+        let before = self.written;
+        self.written = bytes;
+        match self.next {
+            Some(next) if next < bytes => {}
+            _ => return false,
+        }
+        let newest = identity_of(self.rt, self.journal);
+        if newest.is_none() || newest == self.newest {
             return false;
         }
-        if self.is_full {
-            self.next = Some(next.saturating_add(self.piece));
-        } else {
-            self.next = Some(bytes);
-        }
-        self.is_full = !self.is_full;
-        !self.is_full
+        self.newest = newest;
+        self.next = Some(before.saturating_add(self.piece));
+        true
+    }
+}
+
+/// Which file has this path, if one has it.
+fn identity_of<R: Files<File = File>>(rt: &R, path: &str) -> Option<Identity> {
+    match fs::metadata(rt, path) {
+        Ok(found) => Some(identity_in(&found)),
+        Err(_) => None,
     }
 }
 
@@ -89,7 +102,7 @@ impl<L: Link, S: Sink, W: Lineage, R: AllocGlobal + Eprint + Files<File = File>>
             return Ok(());
         }
         if let Err(failure) = self.mark(service) {
-            let _ = self.rt.eprintln(failure);
+            let _ = Aside::new(self.rt).eprintln(failure);
         }
         Ok(())
     }

@@ -3,8 +3,8 @@ ghost use Rattle.std.specs.Prelude.{◌≡◌, ◌<◌, ◌++◌, IfOk, codes, s
 
 use crate::failure::HostFailure;
 use crate::stopping::Nail;
-use amo_disk::{Cause, Disk};
-use amo_live::{Bell, HostLives, OpenedLives, Plan, Socket};
+use amo_disk::{Cause, Disk, Gathered};
+use amo_live::{Aside, Bell, HostLives, OpenedLives, Plan, Socket};
 use amo_object::End;
 use amo_settings::HostSettings;
 use std::alloc::Global;
@@ -88,7 +88,7 @@ pub fn open_lives<'a, R: AllocGlobal + Eprint + Files<File = File> + RandomSourc
     lines: u64,
     cause: &'a Cell<Option<Cause>>,
     blank: Blank,
-) -> Result<HostLives<Disk<'a, File, N>>, HostFailure>
+) -> Result<HostLives<Gathered<Disk<'a, File, N>>>, HostFailure>
     requires { (blank.name ≡ N.name) × (blank.parts ≡ N.parts) × (0 < N.parts) }
 {
     let alloc = rt.alloc();
@@ -97,10 +97,10 @@ pub fn open_lives<'a, R: AllocGlobal + Eprint + Files<File = File> + RandomSourc
         Err(fault) => return Err(HostFailure::of_lives(alloc, path, fault)),
     };
     if opened.is_new() && lines > 0 {
-        tell_of_new_lives(rt, path);
+        tell_of_new_lives(&Aside::new(rt), path);
     }
     if opened.has_lives() && lines == 0 {
-        tell_of_lost_journal(rt, path);
+        tell_of_lost_journal(&Aside::new(rt), path);
     }
     match opened.go_on(rt, alloc, path, lines, plan.limits.sync, cause, blank) {
         Ok(lives) => Ok(lives),
@@ -144,6 +144,7 @@ pub fn open_socket<R: AllocGlobal + Net, L: Ledger>(
 
 /// Tells that so many zeros were cut off at the end of a journal, if there were any.
 pub fn tell_of_zeros<R: Eprint>(rt: &R, path: &str, zeros: u64) {
+    let rt = Aside::new(rt);
     if zeros > 0 {
         let _ = eprintln!(rt;
             "amo: {path}: {zeros} zeros at its end were cut off, as a loss of power leaves them"
@@ -154,6 +155,7 @@ pub fn tell_of_zeros<R: Eprint>(rt: &R, path: &str, zeros: u64) {
 /// Tells where a host listens, with the port that it has got, and how many lines of events came back of its journal. Of a socket that has a
 /// peer the system tells the one address that leads there, also where it listens on each that this machine has.
 pub fn tell_of_start<R: Eprint>(rt: &R, listen: &str, port: u16, journal: &str, lines: u64) {
+    let rt = Aside::new(rt);
     let host = host_of(listen);
     let _ = eprintln!(rt; "amo: listens on {host}:{port}, behind {lines} lines of {journal}");
 }

@@ -1,9 +1,9 @@
 //! A host is asked to come to its end: the bell beside its journal, and who rings it.
 use crate::failure::HostFailure;
 use amo_disk::Cause;
-use amo_live::Bell;
+use amo_live::{Aside, Bell};
 use std::alloc::{AllocError, Global};
-use std::fs;
+use std::fs::{self, Metadata};
 use std::io::{self, ErrorKind, Read};
 use std::net::Net;
 use std::os::unix::fs::{FileTypeExt, MetadataExt};
@@ -17,8 +17,8 @@ const BELL: &str = ".stop";
 /// How many bytes the path of a socket may have, as Linux has it (unix(7)).
 const LONGEST_PATH: usize = 107;
 
-/// Which socket it is, whatever its name: its device, its number there, and when it was made, since numbers are given again.
-type Identity = (u64, u64, Option<SystemTime>);
+/// Which file it is, whatever its name: its device, its number there, and when it was made, since numbers are given again.
+pub(crate) type Identity = (u64, u64, Option<SystemTime>);
 
 /// Where the bell of a host hangs.
 #[derive(Drop)]
@@ -41,11 +41,14 @@ impl Nail {
 /// Which socket is at this path, if one is. Nothing else is a bell, also where it came while the bell was being hung.
 fn identity_of<R: Files>(rt: &R, path: &str) -> Option<Identity> {
     match fs::symlink_metadata(rt, path) {
-        Ok(found) if found.file_type().is_socket() => {
-            Some((found.dev(), found.ino(), found.created().ok()))
-        }
+        Ok(found) if found.file_type().is_socket() => Some(identity_in(&found)),
         _ => None,
     }
+}
+
+/// Which file it is of which this was found.
+pub(crate) fn identity_in(found: &Metadata) -> Identity {
+    (found.dev(), found.ino(), found.created().ok())
 }
 
 /// The bell of a host with this journal, and where it hangs. Where it cannot be hung that is told, and the host cannot be asked.
@@ -70,6 +73,7 @@ pub fn hang_bell<R: AllocGlobal + Eprint + Files + Net>(
 
 /// Tells that no bell hangs at this path, and why.
 fn tell_of_no_bell<R: Eprint>(rt: &R, path: &str, cause: Cause) {
+    let rt = Aside::new(rt);
     let _ = if path.len() > LONGEST_PATH {
         eprintln!(rt;
             "amo: {path}: it has more than {LONGEST_PATH} bytes, and no socket can have that name: `amo stop` cannot reach this host"

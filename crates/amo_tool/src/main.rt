@@ -17,6 +17,7 @@ use crate::failure::Failure;
 use crate::serving::serve_programs;
 use amo_arguments::{ArgumentsFault, not_text, settings};
 use amo_client::call_door;
+use amo_live::Aside;
 use amo_manual::{page, script};
 use amo_offline::{
     OfflineFault, audit_files, explain_files, replay_file, run_to_file, tell_or_follow_got,
@@ -75,10 +76,18 @@ fn obey<
     match done {
         Ok(status) => status,
         Err(failure) => {
-            let _ = rt.eprintln(failure);
+            tell(rt, failure);
             FAILED
         }
     }
+}
+
+/// Tells on standard error why the program fails. A host ends also where nobody reads there.
+fn tell<R: Eprint>(rt: &R, failure: Failure) {
+    let _ = match failure {
+        Failure::Host(_) | Failure::Door(_) => Aside::new(rt).eprintln(failure),
+        _ => rt.eprintln(failure),
+    };
 }
 
 /// Carries out the command of these settings, and answers the status to end with.

@@ -6,9 +6,9 @@ use crate::failure::Failure;
 use amo_archive::Archive;
 use amo_arguments::VERSION;
 use amo_client::{check_address, read_token};
-use amo_disk::{Cause, Disk, Opened, Start, open};
+use amo_disk::{Cause, Disk, Gathered, Opened, Start, open};
 use amo_door::{Guard, Served, Word};
-use amo_live::{Durable, Ended, HostLives, LiveFault, LivesOpenFault, Plan, Socket};
+use amo_live::{Aside, Durable, Ended, HostLives, LiveFault, LivesOpenFault, Plan, Socket};
 use amo_lives::Lives;
 use amo_object::End;
 use amo_offline::boot_id;
@@ -201,7 +201,7 @@ fn serve_noted<
         nail,
     } = prepare::<R, N>(rt, host, &plan, start.lines, &why, lives)?;
     tell_of_start(rt, host.listen.as_str(), port, path, start.lines);
-    let _ = eprintln!(rt; "amo: its door is http://{address}");
+    let _ = eprintln!(Aside::new(rt); "amo: its door is http://{address}");
     let number = socket.number();
     let Begun {
         words,
@@ -214,10 +214,15 @@ fn serve_noted<
     );
     nail.take_down(rt);
     match ran {
+        // Who asked for the end may start a host anew then: it finds both ports, the files and the place of the bell free.
+        Ok((ended, mut bell)) => {
+            bell.answer(ended);
+            Ok(Ok(ended))
+        }
         Err(fault) if fault == DoorFault::Host(LiveFault::Lives) => {
             Err(Failure::of_door(alloc, file.as_str(), fault, why.get()))
         }
-        ran => Ok(ran),
+        Err(fault) => Ok(Err(fault)),
     }
 }
 
@@ -233,7 +238,7 @@ fn prepare<
     lines: u64,
     why: &'a Cell<Option<Cause>>,
     blank: Blank,
-) -> Result<Prepared<Begun<Disk<'a, File, N>>>, Failure>
+) -> Result<Prepared<Begun<Gathered<Disk<'a, File, N>>>>, Failure>
     requires { (blank.name ≡ N.name) × (blank.parts ≡ N.parts) × (0 < N.parts) }
 {
     let path = host.journal.as_str();
@@ -270,7 +275,7 @@ fn begin<'a, R: AllocGlobal + Clock + Eprint + Files<File = File> + RandomSource
     lines: u64,
     why: &'a Cell<Option<Cause>>,
     blank: Blank,
-) -> Result<Begun<Disk<'a, File, N>>, Failure>
+) -> Result<Begun<Gathered<Disk<'a, File, N>>>, Failure>
     requires { (blank.name ≡ N.name) × (blank.parts ≡ N.parts) × (0 < N.parts) }
 {
     let side = plan.setup.side;

@@ -23,3 +23,9 @@ returns-in_ok-refuse-in-Put-2-clause-moves g c =
     let kept = c.args.desk.now.kept in let first = c.args.service.now.host.pass in let last = c.refuse.new.service.host.pass in
     let none : message_of c.args.desk.now.puts (streams_of c.args.service.now) c.args.line ≡ [] = search rules in
     subst (λ (l : List Addressed). Moves l kept kept first last) (sym none) (none_moved kept kept first last refl (ap (λ h. puts_in (mine h.pass)) c.in_ok-refuse-in-Put-2.ensures.host))
+
+pub returns-in_ok-refuse-in-Unread-clause-moves : goal.returns-in_ok-refuse-in-Unread-clause-moves
+returns-in_ok-refuse-in-Unread-clause-moves g c =
+    let kept = c.args.desk.now.kept in let first = c.args.service.now.host.pass in let last = c.refuse-in-Unread.new.service.host.pass in
+    let none : message_of c.args.desk.now.puts (streams_of c.args.service.now) c.args.line ≡ [] = search rules in
+    subst (λ (l : List Addressed). Moves l kept kept first last) (sym none) (none_moved kept kept first last refl (ap (λ h. puts_in (mine h.pass)) c.in_ok-refuse-in-Unread.ensures.host))
