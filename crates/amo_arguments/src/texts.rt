@@ -142,7 +142,8 @@ With --json lines come as objects, in any order of their members, and answers ar
 An id may be left out. It has at most 64 bytes, and stands in each answer to its line in this life.
 
 At the end of standard input, and once `amo stop FILE` asks it to, the host takes no more lines, and
-goes on until all is answered, or as long as --wait says. A line that had no `ok` by then was not put.
+goes on until all is answered, or as long as --wait says. With status 0 or 2, a line that had no `ok`
+was not put; with 5, ask `amo outcomes` what was.
 SIGTERM and SIGINT end it at once, which is a crash like any other.
 
 What has no answer is sent again after --tick, then after twice as long, and so on up to --tick-most.
@@ -309,15 +310,16 @@ pub(crate) const CALL_AFTER_HELP: &str =
 
 Each put has a FILE of its own. It keeps the message with the call, before that is made. So the same
 command may be repeated, whatever was killed meanwhile, the host too: the message is put once. Remove
-FILE once it is noted elsewhere that the message was put, and not before. A stream is best put to by
-one program.
+FILE once it is noted elsewhere that the message was put, and not before. It removes FILE itself where
+the call came too late and put nothing. A stream is best put to by one program.
 
 The gets of a stream share a FILE, and no other program takes from the stream. What was taken is kept
 there before it is printed, and printed again by each `get` until `done`.
 
-MESSAGE is as it stands, 1,024 bytes at most. Where it is absent standard input has it, without a line
-feed at its end. What `get` prints has a line feed behind it. With --hex both are hexadecimal. Beside
-FILE there is FILE.lock while a call is made. Both are their owner's alone.
+MESSAGE is as it stands, 1,024 bytes at most. Behind -- it may begin with a dash. Where it is absent
+standard input has it, without a line feed at its end. What `get` prints has a line feed behind it.
+With --hex both are hexadecimal. Beside FILE there is FILE.lock while a call is made. Both are their
+owner's alone.
 
 A put prints a word:
   put      it was put, once

@@ -15,9 +15,9 @@ use Rattle.amo_call.specs.declared.putting.PutTold.{PutTold}
 use Rattle.amo_call.specs.declared.putting.PutTold.TheVariants as told
 use Rattle.amo_call.specs.declared.putting.PutTurn.{PutTurn}
 use Rattle.amo_call.specs.Answer.{TellsPut}
-use Rattle.amo_call.specs.Heard.{Heard, ToCall}
+use Rattle.amo_call.specs.Heard.{Heard, ToCall, ToFirst}
 use Rattle.amo_call.specs.Kept.{kept_text}
-use Rattle.amo_call.specs.Puts.{ComesTo, IsFound, Begins, GoesOn, HasPut, IsNextPut, IsPutting, IsAnswered, IsToldLater, IsLater, IsFirst, IsToldRefusal, OfFirst, OfState, IsToldUntold, OfCall, OfFate, NothingPut, Resumes, TellsDelay, TellsNoPut, TellsRefused, ToldPut}
+use Rattle.amo_call.specs.Puts.{BeginsAgain, ComesTo, IsFound, Begins, GoesOn, HasPut, IsNextPut, IsPutting, IsAnswered, IsToldLater, IsLater, IsFirst, IsOutrun, IsToldRefusal, OfFirst, OfState, IsToldUntold, OfCall, OfFate, NothingPut, Resumes, TellsDelay, TellsNoPut, TellsOnce, TellsOutrun, TellsRefused, ToldPut}
 
 -- the text of a call whose parts are known
 pub text_of_parts : (call : Kept) (claim : Claim) (p : Progress) → call.claim ≡ claim → call.progress ≡ p → kept_text call ≡ kept_text (record { claim = claim; progress = p })
@@ -33,10 +33,11 @@ goes_further heard order found before call p (GoesOn middle next q nothing new) 
     GoesOn middle next (goes_further heard order found before middle p q) nothing new
 
 -- what is told of some calls is told of more
-later_of_more : (heard : Heard → Type 0) (order : Order) (few more : Kept → Type 0) (response : Response) → ((k : Kept) → few k → more k)
-    → IsToldLater heard order few response → IsToldLater heard order more response
-later_of_more heard order few more response f (IsLater call is putting answered tells) = IsLater call (f call is) putting answered tells
-later_of_more heard order few more response f (IsFirst call is putting answered status) = IsFirst call (f call is) putting answered status
+later_of_more : (heard : Heard → Type 0) (order : Order) (few more : Kept → Type 0) (saved : List ℕ) (response : Response) → ((k : Kept) → few k → more k)
+    → IsToldLater heard order few saved response → IsToldLater heard order more saved response
+later_of_more heard order few more saved response f (IsLater call is putting answered tells) = IsLater call (f call is) putting answered tells
+later_of_more heard order few more saved response f (IsFirst call is putting answered status) = IsFirst call (f call is) putting answered status
+later_of_more heard order few more saved response f (IsOutrun call is putting answered tells none) = IsOutrun call (f call is) putting answered tells none
 
 refusal_of_more : (heard : Heard → Type 0) (order : Order) (few more : Kept → Type 0) (saved : List ℕ) (response : Response) → ((k : Kept) → few k → more k)
     → IsToldRefusal heard order few saved response → IsToldRefusal heard order more saved response
@@ -70,7 +71,7 @@ told_of_more heard order few more silent saved told.Doubtful f t = record {
   told = t.told;
   other = t.other;
 }
-told_of_more heard order few more silent saved (told.Later response) f t = later_of_more heard order few more response f t
+told_of_more heard order few more silent saved (told.Later response) f t = later_of_more heard order few more saved response f t
 told_of_more heard order few more silent saved told.NoNumber f t = t
 told_of_more heard order few more silent saved told.NoAnswer f (inl nothing) = inl nothing
 told_of_more heard order few more silent saved told.NoAnswer f (inr t) = inr (record {
@@ -174,10 +175,35 @@ pub begins_ok : (heard : Heard → Type 0) (order : Order) (fresh silent : Type 
 begins_ok heard order fresh silent saved (Ok after) t = begins heard order fresh silent saved after t
 begins_ok heard order fresh silent saved (Err fault) t = tt
 
-pub goes_on_ok : (heard : Heard → Type 0) (order : Order) (fresh silent : Type 0) (saved : List ℕ) (r : Result AfterPut CallFault) (before : Kept) → NothingPut heard before
-    → IfOk r (HasPut heard order (IsNextPut heard order) fresh silent saved) → IfOk r (HasPut heard order (ComesTo heard order (Some before)) fresh silent saved)
-goes_on_ok heard order fresh silent saved (Ok after) before nothing t = goes_on heard order fresh silent saved after before nothing t
-goes_on_ok heard order fresh silent saved (Err fault) before nothing t = tt
+pub begins_again_ok : (heard : Heard → Type 0) (order : Order) (fresh silent : Type 0) (saved : List ℕ) (r : Result AfterPut CallFault) (once : Option Response)
+    → IfOk r (HasPut heard order (IsNextPut heard order) fresh silent saved) → IfOk r (BeginsAgain heard order once fresh silent saved)
+begins_again_ok heard order fresh silent saved (Ok after) once t = inr t
+begins_again_ok heard order fresh silent saved (Err fault) once t = tt
+
+-- what was answered to a call that was made once and put nothing is told of the put
+outrun_is_told : (heard : Heard → Type 0) (order : Order) (fresh silent : Type 0) (saved : List ℕ) (result : AfterPut) (before : Kept) (response : Response)
+    → IsPutting order before → heard (ToFirst before response) → TellsOutrun before.claim response → TellsOnce (Some response) saved result
+    → HasPut heard order (ComesTo heard order (Some before)) fresh silent saved result
+outrun_is_told heard order fresh silent saved result before response putting answered tells (other, same, e, none) =
+    let is : response ≡ other = cc in
+    subst (λ (a : AfterPut). HasPut heard order (ComesTo heard order (Some before)) fresh silent saved a) (sym e)
+    (subst (λ (r : Response). IsToldLater heard order (ComesTo heard order (Some before)) saved r) is (IsOutrun before (IsFound before refl) putting answered tells none))
+
+-- behind a call that was made once and put nothing comes another one, or what the door answered it is told
+pub goes_on_again : (heard : Heard → Type 0) (order : Order) (fresh silent : Type 0) (saved : List ℕ) (r : Result AfterPut CallFault) (before : Kept) (response : Response)
+    → IsPutting order before → heard (ToFirst before response) → TellsOutrun before.claim response → NothingPut heard before
+    → IfOk r (BeginsAgain heard order (Some response) fresh silent saved) → IfOk r (HasPut heard order (ComesTo heard order (Some before)) fresh silent saved)
+goes_on_again heard order fresh silent saved (Ok after) before response putting answered tells nothing (inl once) =
+    outrun_is_told heard order fresh silent saved after before response putting answered tells once
+goes_on_again heard order fresh silent saved (Ok after) before response putting answered tells nothing (inr t) = goes_on heard order fresh silent saved after before nothing t
+goes_on_again heard order fresh silent saved (Err fault) before response putting answered tells nothing t = tt
+
+-- behind one that may have been made before, and put nothing, comes another one in any case
+pub goes_on_behind : (heard : Heard → Type 0) (order : Order) (fresh silent : Type 0) (saved : List ℕ) (r : Result AfterPut CallFault) (before : Kept) → NothingPut heard before
+    → IfOk r (BeginsAgain heard order None fresh silent saved) → IfOk r (HasPut heard order (ComesTo heard order (Some before)) fresh silent saved)
+goes_on_behind heard order fresh silent saved (Ok after) before nothing (inl (other, never, e, none)) = absurd (let bad : ⊥ = cc in bad)
+goes_on_behind heard order fresh silent saved (Ok after) before nothing (inr t) = goes_on heard order fresh silent saved after before nothing t
+goes_on_behind heard order fresh silent saved (Err fault) before nothing t = tt
 
 pub is_finished_ok : (heard : Heard → Type 0) (order : Order) (fresh silent : Type 0) (saved : List ℕ) (r : Result AfterPut CallFault) (call : Kept) (place : EventPlace) (response : Response)
     → IsPutting order call → heard (ToCall call response) → TellsPut call.claim place response → IfOk r (λ a. a ≡ after.Told (told.Put call.claim place.line))
@@ -196,10 +222,10 @@ pub told_as_delayed : (heard : Heard → Type 0) (order : Order) (silent : Type 
     → IsAnswered heard turn response → (response.status ≡ 408) ⊎ (response.status ≡ 503) → TellsDelay turn response told
     → ToldPut heard order (ComesTo heard order (Some turn.kept)) silent saved told
 told_as_delayed heard order silent saved turn response (told.Later other) putting answered status (same, inl first) =
-    subst (λ (r : Response). IsToldLater heard order (ComesTo heard order (Some turn.kept)) r) (sym same)
+    subst (λ (r : Response). IsToldLater heard order (ComesTo heard order (Some turn.kept)) saved r) (sym same)
     (IsFirst turn.kept (IsFound turn.kept refl) putting (answered.first first) status)
 told_as_delayed heard order silent saved turn response (told.Later other) putting answered status (same, inr tells) =
-    subst (λ (r : Response). IsToldLater heard order (ComesTo heard order (Some turn.kept)) r) (sym same)
+    subst (λ (r : Response). IsToldLater heard order (ComesTo heard order (Some turn.kept)) saved r) (sym same)
     (IsLater turn.kept (IsFound turn.kept refl) putting answered.call tells)
 told_as_delayed heard order silent saved turn response told.NoNumber putting answered status tells = absurd tells
 told_as_delayed heard order silent saved turn response told.NoAnswer putting answered status tells = inr (record {

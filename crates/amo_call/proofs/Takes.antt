@@ -14,7 +14,7 @@ use Rattle.amo_call.specs.declared.taking.TakeTold.TheVariants as told
 use Rattle.amo_call.specs.Heard.{Heard, ToCall}
 use Rattle.amo_call.specs.Kept.{kept_text}
 use Rattle.amo_call.specs.Pages.{number_behind}
-use Rattle.amo_call.specs.Takes.{ComesToTake, IsFirstTake, IsFound, Begins, Follows, GoesOn, IsToldTake, IsKept, IsAnswered, IsGot, IsToldLoss, IsConflict, IsForgotten, IsToldNo, OfCall, OfCounts, OfState, OfPage, IsTaking, IsNextTake, NothingTaken, TakesBy, TakesNothing, TellsTakenFor, ToldTake, WasGot, after_by, after_of, take_behind}
+use Rattle.amo_call.specs.Takes.{BeginsBehind, ComesToTake, IsFirstTake, IsFound, Begins, Follows, GoesOn, IsToldTake, IsKept, IsAnswered, IsGot, IsToldNothing, IsEmpty, IsBehind, IsToldLoss, IsConflict, IsForgotten, IsToldNo, OfCall, OfCounts, OfState, OfPage, IsTaking, IsNextTake, NothingTaken, TakesBy, TakesNothing, TellsTakenFor, ToldTake, WasGot, after_by, after_of, take_behind}
 
 -- what a call comes to that a take came to, the take comes to
 pub goes_further : (heard : Heard → Type 0) (stream : ℕ) (by : List ℕ) (found : Option Kept) (before call : Kept) → TakesBy heard stream by found before
@@ -33,6 +33,10 @@ take_of_more heard stream few more claim line message f (IsKept call is same tak
 take_of_more heard stream few more claim line message f (IsAnswered call from is same taking was) = IsAnswered call from (f call is) same taking was
 take_of_more heard stream few more claim line message f (IsGot call is same was) = IsGot call (f call is) same was
 
+nothing_of_more : (heard : Heard → Type 0) (stream : ℕ) (few more : Kept → Type 0) → ((k : Kept) → few k → more k) → IsToldNothing heard stream few → IsToldNothing heard stream more
+nothing_of_more heard stream few more f (IsEmpty call from is taking response answered status) = IsEmpty call from (f call is) taking response answered status
+nothing_of_more heard stream few more f (IsBehind call behind is nothing) = IsBehind call behind (f call is) nothing
+
 loss_of_more : (heard : Heard → Type 0) (stream : ℕ) (few more : Kept → Type 0) → ((k : Kept) → few k → more k) → IsToldLoss heard stream few → IsToldLoss heard stream more
 loss_of_more heard stream few more f (IsConflict call from is taking response answered status) = IsConflict call from (f call is) taking response answered status
 loss_of_more heard stream few more f (IsForgotten call from line is taking over read page response answered told behind) =
@@ -48,15 +52,7 @@ no_of_more heard stream few more response f (OfPage call from line is taking ove
 told_of_more : (heard : Heard → Type 0) (stream : ℕ) (few more : Kept → Type 0) (silent : Type 0) (saved : List ℕ) (told : TakeTold) → ((k : Kept) → few k → more k)
     → ToldTake heard stream few silent saved told → ToldTake heard stream more silent saved told
 told_of_more heard stream few more silent saved (told.Taken claim line message) f t = take_of_more heard stream few more claim line message f t
-told_of_more heard stream few more silent saved told.Nothing f t = record {
-  call = t.call;
-  is_reached = f t.call t.is_reached;
-  from = t.from;
-  taking = t.taking;
-  response = t.response;
-  answered = t.answered;
-  status = t.status;
-}
+told_of_more heard stream few more silent saved told.Nothing f t = nothing_of_more heard stream few more f t
 told_of_more heard stream few more silent saved told.Doubtful f t = loss_of_more heard stream few more f t
 told_of_more heard stream few more silent saved told.NoAnswer f t = t
 told_of_more heard stream few more silent saved told.OtherCall f t = record { call = t.call; is_reached = f t.call t.is_reached; nothing = t.nothing; same = t.same }
@@ -92,6 +88,20 @@ pub goes_on_ok : (heard : Heard → Type 0) (stream : ℕ) (by : List ℕ) (behi
 goes_on_ok heard stream by behind silent saved r before nothing t =
     of_more_ok heard stream (IsNextTake heard stream by behind) (TakesBy heard stream by (Some before)) silent saved r
     (λ k new. GoesOn before k behind (IsFound before refl) nothing new) t
+
+-- behind a call that took nothing comes another one, or it is told that nothing came
+pub goes_on_behind : (heard : Heard → Type 0) (stream : ℕ) (by : List ℕ) (behind : ℕ) (silent : Type 0) (saved : List ℕ) (r : Result AfterTake CallFault) (before : Kept)
+    → NothingTaken heard stream before behind → IfOk r (BeginsBehind heard stream by behind silent saved)
+    → IfOk r (ComesToTake heard stream (TakesBy heard stream by (Some before)) silent saved)
+goes_on_behind heard stream by behind silent saved (Ok after) before nothing (inl e) =
+    subst (λ (a : AfterTake). ComesToTake heard stream (TakesBy heard stream by (Some before)) silent saved a) (sym e) (IsBehind before behind (IsFound before refl) nothing)
+goes_on_behind heard stream by behind silent saved (Ok after) before nothing (inr t) = goes_on_ok heard stream by behind silent saved (Ok after) before nothing t
+goes_on_behind heard stream by behind silent saved (Err fault) before nothing t = tt
+
+pub begins_behind_ok : (heard : Heard → Type 0) (stream : ℕ) (by : List ℕ) (from : ℕ) (silent : Type 0) (saved : List ℕ) (r : Result AfterTake CallFault)
+    → IfOk r (ComesToTake heard stream (IsNextTake heard stream by from) silent saved) → IfOk r (BeginsBehind heard stream by from silent saved)
+begins_behind_ok heard stream by from silent saved (Ok after) t = inr t
+begins_behind_ok heard stream by from silent saved (Err fault) t = tt
 
 -- what a turn comes to, the take comes to
 pub turns_on : (heard : Heard → Type 0) (stream : ℕ) (by : List ℕ) (found : Option Kept) (silent : Type 0) (saved : List ℕ) (after : AfterTake) (before : Kept)

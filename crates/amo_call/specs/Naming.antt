@@ -26,6 +26,10 @@ pub data MayName (heard : Heard → Type 0) (saved : List ℕ) (call : Kept) : T
   NamesTake : (stream from : ℕ) (by : List ℕ) → MayTakeFrom heard stream from saved → IsNextTake heard stream by from call → MayName heard saved call
   NamesNext : (before : Kept) (stream line : ℕ) → HasCall saved before → HasDone stream line before → call ≡ take_behind before.claim line → MayName heard saved call
 
+-- The call of a file may be taken out of it where it was to put the message of an order, and put nothing.
+abbrev pub MayForget : (Heard → Type 0) → List ℕ → Type 0
+MayForget heard saved = (order : Order) × MayPut heard order saved
+
 -- This may be noted where its file has the same call: that its message was put, or which one it took, as the door told; or that what it took is done.
 pub data MayNote (heard : Heard → Type 0) (saved : List ℕ) (call : Kept) : Type 0 where
   NotesPut : (order : Order) (line : ℕ) → IsToldPut heard order (HasCall saved) call.claim line → IsPut order call line → MayNote heard saved call

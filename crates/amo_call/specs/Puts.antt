@@ -104,11 +104,19 @@ pub record IsToldDoubt (heard : Heard → Type 0) (order : Order) (reached : Kep
   pub told : TellsConflict call.claim true last response
   pub other : last ≢ call.claim.number
 
--- a call was put off by this answer and not made, as its host says or since it was made once
-pub data IsToldLater (heard : Heard → Type 0) (order : Order) (reached : Kept → Type 0) (response : Response) : Type 0 where
-  IsLater : (call : Kept) → reached call → IsPutting order call → heard (ToCall call response) → TellsUnput response → IsToldLater heard order reached response
+-- a call came too late, as another number was next, or the host lived another life
+abbrev pub TellsOutrun : Claim → Response → Type 0
+TellsOutrun claim response = ((last : ℕ) × TellsConflict claim true last response) ⊎ (response.status ≡ 410)
+
+-- A call was put off by this answer and not made, as its host says or since it was made once; or it was made once and put nothing, as this answer tells. Then its
+-- file has it no more: so the same call again is a new one, and nobody asks what became of one that put nothing.
+pub data IsToldLater (heard : Heard → Type 0) (order : Order) (reached : Kept → Type 0) (saved : List ℕ) (response : Response) : Type 0 where
+  IsLater : (call : Kept) → reached call → IsPutting order call → heard (ToCall call response) → TellsUnput response
+      → IsToldLater heard order reached saved response
   IsFirst : (call : Kept) → reached call → IsPutting order call → heard (ToFirst call response) → (response.status ≡ 408) ⊎ (response.status ≡ 503)
-      → IsToldLater heard order reached response
+      → IsToldLater heard order reached saved response
+  IsOutrun : (call : Kept) → reached call → IsPutting order call → heard (ToFirst call response) → TellsOutrun call.claim response → saved ≡ []
+      → IsToldLater heard order reached saved response
 
 -- the life has no number more
 pub record IsToldLast (heard : Heard → Type 0) (order : Order) : Type 0 where
@@ -174,7 +182,7 @@ ToldPut heard order reached silent saved (told.Put claim line) =
     (saved ≡ kept_text (record { claim = claim; progress = progress.Put line order.message })) × IsToldPut heard order reached claim line
 ToldPut heard order reached silent saved (told.Became what) = IsToldFate heard order reached what
 ToldPut heard order reached silent saved told.Doubtful = IsToldDoubt heard order reached
-ToldPut heard order reached silent saved (told.Later response) = IsToldLater heard order reached response
+ToldPut heard order reached silent saved (told.Later response) = IsToldLater heard order reached saved response
 ToldPut heard order reached silent saved told.NoNumber = IsToldLast heard order
 ToldPut heard order reached silent saved told.NoAnswer = silent ⊎ IsToldDelay heard order reached
 ToldPut heard order reached silent saved told.OtherCall = IsToldOther order reached saved
@@ -197,6 +205,15 @@ pub record IsAnswered (heard : Heard → Type 0) (turn : PutTurn) (response : Re
 abbrev pub HasPut : (Heard → Type 0) → Order → (Kept → Type 0) → Type 0 → Type 0 → List ℕ → AfterPut → Type 0
 HasPut heard order reached fresh silent saved (after.Told told) = ToldPut heard order reached silent saved told
 HasPut heard order reached fresh silent saved (after.Turn turn) = IsTurn order reached fresh saved turn
+
+-- it is told what was answered to a call that was made once, and the file has that call no more
+abbrev pub TellsOnce : Option Response → List ℕ → AfterPut → Type 0
+TellsOnce once saved result = (response : Response) × (once ≡ Some response) × (result ≡ after.Told (told.Later response)) × (saved ≡ [])
+
+-- behind a call that put nothing another one is named; or what was answered to it is told, where it was made once
+abbrev pub BeginsAgain : (Heard → Type 0) → Order → Option Response → Type 0 → Type 0 → List ℕ → AfterPut → Type 0
+BeginsAgain heard order once fresh silent saved result =
+    TellsOnce once saved result ⊎ HasPut heard order (IsNextPut heard order) fresh silent saved result
 
 -- what comes of the call that a file has
 abbrev pub Resumes : Order → Kept → AfterPut → Type 0

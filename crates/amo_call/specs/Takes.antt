@@ -110,17 +110,23 @@ pub data TakesBy (heard : Heard → Type 0) (stream : ℕ) (by : List ℕ) (foun
   GoesOn : (before call : Kept) (behind : ℕ) → TakesBy heard stream by found before → NothingTaken heard stream before behind
       → IsNextTake heard stream by behind call → TakesBy heard stream by found call
 
--- a message was taken now or before, by this line, and its bytes are these
-pub record TellsTaken (line : ℕ) (message : List ℕ) (response : Response) : Type 0 where
-  pub status : response.status ≡ 200
+-- an answer names the stream and the number of a claim, and the line by which a message was taken for it
+pub record NamesMessage (claim : Claim) (line : ℕ) (response : Response) : Type 0 where
+  pub stream_is : response.stream ≡ Some claim.stream
+  pub number_is : response.number ≡ Some claim.number
   pub line_is : response.line ≡ Some line
+
+-- the message of a claim was taken now or before, by this line, and its bytes are these
+pub record TellsTaken (claim : Claim) (line : ℕ) (message : List ℕ) (response : Response) : Type 0 where
+  pub status : response.status ≡ 200
+  pub names : NamesMessage claim line response
   pub body : response.body.items ≡ message
 
 -- the door told that a call took this message
 pub record WasTaken (heard : Heard → Type 0) (call : Kept) (line : ℕ) (message : List ℕ) : Type 0 where
   pub response : Response
   pub answered : heard (ToCall call response)
-  pub told : TellsTaken line message response
+  pub told : TellsTaken call.claim line message response
 
 -- the life of a call is over, and this message is the first one that was got of its stream by the lines from its own one on, as pages told
 pub record WasGot (heard : Heard → Type 0) (stream : ℕ) (call : Kept) (line : ℕ) (message : List ℕ) : Type 0 where
@@ -143,15 +149,11 @@ pub data IsToldTake (heard : Heard → Type 0) (stream : ℕ) (reached : Kept �
       → IsToldTake heard stream reached claim line message
   IsGot : (call : Kept) → reached call → call.claim ≡ claim → WasGot heard stream call line message → IsToldTake heard stream reached claim line message
 
--- a call took nothing for now: no message came, or it is put off
-pub record IsToldNothing (heard : Heard → Type 0) (stream : ℕ) (reached : Kept → Type 0) : Type 0 where
-  pub call : Kept
-  pub is_reached : reached call
-  pub from : ℕ
-  pub taking : IsTaking stream from call
-  pub response : Response
-  pub answered : heard (ToCall call response)
-  pub status : (response.status ≡ 204) ⊎ ((response.status ≡ 408) ⊎ (response.status ≡ 503))
+-- a call took nothing for now: no message came, or it is put off; or its life is over, and it took nothing
+pub data IsToldNothing (heard : Heard → Type 0) (stream : ℕ) (reached : Kept → Type 0) : Type 0 where
+  IsEmpty : (call : Kept) (from : ℕ) → reached call → IsTaking stream from call → (response : Response) → heard (ToCall call response)
+      → (response.status ≡ 204) ⊎ ((response.status ≡ 408) ⊎ (response.status ≡ 503)) → IsToldNothing heard stream reached
+  IsBehind : (call : Kept) (behind : ℕ) → reached call → NothingTaken heard stream call behind → IsToldNothing heard stream reached
 
 -- another program takes on the stream; or the life of a call is over, and lines that it may have taken by are not read any more
 pub data IsToldLoss (heard : Heard → Type 0) (stream : ℕ) (reached : Kept → Type 0) : Type 0 where
@@ -211,10 +213,15 @@ after_of call = after_by call.claim call.progress
 
 -- a message is told for a claim, as this answer tells it
 abbrev pub TellsTakenFor : Claim → Response → AfterTake → Type 0
-TellsTakenFor claim response (after.Told (told.Taken for line message)) = (claim ≡ for) × TellsTaken line message response
+TellsTakenFor claim response (after.Told (told.Taken for line message)) = (claim ≡ for) × TellsTaken claim line message response
 TellsTakenFor claim response _ = ⊥
 
 -- the take is over, or its next call is known
 abbrev pub ComesToTake : (Heard → Type 0) → ℕ → (Kept → Type 0) → Type 0 → List ℕ → AfterTake → Type 0
 ComesToTake heard stream reached silent saved (after.Told told) = ToldTake heard stream reached silent saved told
 ComesToTake heard stream reached silent saved (after.Turn call) = IsNext stream reached call
+
+-- behind a call that took nothing another one is named, or it is told that nothing came
+abbrev pub BeginsBehind : (Heard → Type 0) → ℕ → List ℕ → ℕ → Type 0 → List ℕ → AfterTake → Type 0
+BeginsBehind heard stream by from silent saved result =
+    (result ≡ after.Told told.Nothing) ⊎ ComesToTake heard stream (IsNextTake heard stream by from) silent saved result

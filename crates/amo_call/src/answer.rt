@@ -17,7 +17,11 @@ use amo_door::{Claim, EventPlace, Fate, Word};
 pub struct Response {
     /// The status (RFC 9110, section 15).
     pub status: u16,
-    /// The line of the journal that the head names, if it names one: that by which the message that is the body was got.
+    /// The stream that the head names, if it names one: that of the message that is the body.
+    pub stream: Option<u64>,
+    /// The number of that message, in the same way.
+    pub number: Option<u64>,
+    /// The line of the journal by which it was got, in the same way.
     pub line: Option<u64>,
     /// The body.
     pub body: Vec<u8>,

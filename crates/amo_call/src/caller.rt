@@ -15,7 +15,7 @@ pub enum CallFault {
     /// Memory was refused.
     #[error("out of memory")]
     NoMemory,
-    /// The file of the call could not be written. The device is at fault.
+    /// The file of the call could not be written, or removed. The device is at fault.
     #[error("the file of the call could not be written")]
     File,
     /// The answer is not one of such a door.
@@ -47,11 +47,11 @@ impl From<MessageFault> for CallFault {
 ///
 /// Contracts see what the file has, and what was answered to what: what is told of a call rests on that alone.
 pub trait Caller {
-    ghost use Rattle.std.specs.Prelude.{◌≡◌, ℕ, List, IfNone, IfOk, IfSome, OnOk};
+    ghost use Rattle.std.specs.Prelude.{◌≡◌, ℕ, List, [], IfNone, IfOk, IfSome, OnOk};
     ghost use Rattle.amo_door.specs.declared.place.Method.TheVariants.{Get};
     ghost use Rattle.amo_call.specs.Heard.{Heard, ToCall, ToFirst, ToQuestion};
     ghost use Rattle.amo_call.specs.Kept.{kept_text};
-    ghost use Rattle.amo_call.specs.Naming.{MayName, MayNote};
+    ghost use Rattle.amo_call.specs.Naming.{MayForget, MayName, MayNote};
 
     /// What the file of the call has: nothing where there is none.
     ghost saved: { Self → List ℕ };
@@ -75,6 +75,11 @@ pub trait Caller {
     fn note(&mut self, kept: &Kept) -> Result<(), CallFault>
         requires { MayNote heard (saved self.old) kept.now }
         ensures saved { OnOk result (saved self.new ≡ kept_text kept.now) };
+
+    /// Takes out of the file the call that it has, which is known to have put nothing: who finds the file later cannot know that.
+    fn forget(&mut self) -> Result<(), CallFault>
+        requires { MayForget heard (saved self.old) }
+        ensures saved { OnOk result (saved self.new ≡ []) };
 
     /// Makes the call that the file has. None where no answer came: then it may have been made.
     fn make(&mut self, kept: &Kept) -> Result<Option<Response>, CallFault>

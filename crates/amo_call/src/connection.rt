@@ -37,10 +37,19 @@ pub struct Asker {
 pub(crate) struct Reading {
     client: Client,
     input: BytesMut,
-    /// Its status, and the line that its head names, once its head has come.
-    head: Option<(u16, Option<u64>)>,
+    /// What its head tells, once that has come.
+    head: Option<Head>,
     /// What came of its body, and was not taken out.
     pub(crate) body: Vec<u8>,
+}
+
+/// What the head of an answer tells.
+#[derive(Clone, Copy, PartialEq, Eq)]
+struct Head {
+    status: u16,
+    stream: Option<u64>,
+    number: Option<u64>,
+    line: Option<u64>,
 }
 
 /// Sends a request over a connection on which nothing was sent, and waits for the door's answer. None where none comes whole: the request may have been
@@ -177,16 +186,21 @@ impl Reading {
 
     /// The status, once the head has come.
     pub(crate) fn status(&self) -> Option<u16> {
-        let (status, _line) = self.head?;
-        Some(status)
+        Some(self.head?.status)
     }
 
     /// The answer, whose head has come, with what of its body was not taken out.
     pub(crate) fn response(&mut self, alloc: Global) -> Option<Response> {
-        let (status, line) = self.head?;
+        let head = self.head?;
         let mut body = Vec::new(alloc);
         mem::swap(&mut self.body, &mut body);
-        Some(Response { status, line, body })
+        Some(Response {
+            status: head.status,
+            stream: head.stream,
+            number: head.number,
+            line: head.line,
+            body,
+        })
     }
 
     /// Takes in what came.
@@ -201,8 +215,7 @@ impl Reading {
             };
             match read.event {
                 Event::Head(head) => {
-                    let line = line_of(self.input.as_slice(), &head, spans.as_slice());
-                    self.head = Some((head.code, line));
+                    self.head = Some(head_of(self.input.as_slice(), &head, spans.as_slice()));
                 }
                 Event::Data(piece) => self.keep(piece)?,
                 Event::Informational(_) => {}
@@ -232,12 +245,24 @@ impl Reading {
     }
 }
 
-/// The line of the journal that a head names, if it names one.
-fn line_of(input: &[u8], head: &ResponseSpans, spans: &[HeaderSpan]) -> Option<u64>
+/// What a head tells.
+fn head_of(input: &[u8], head: &ResponseSpans, spans: &[HeaderSpan]) -> Head
+    requires { IsResponseWithin input.now spans.now head.now }
+{
+    Head {
+        status: head.code,
+        stream: number_in(input, head, spans, b"amo-stream"),
+        number: number_in(input, head, spans, b"amo-number"),
+        line: number_in(input, head, spans, b"amo-line"),
+    }
+}
+
+/// The number that the field of this name has in a head, if there is one.
+fn number_in(input: &[u8], head: &ResponseSpans, spans: &[HeaderSpan], name: &[u8]) -> Option<u64>
     requires { IsResponseWithin input.now spans.now head.now }
 {
     for field in &spans[..head.headers] {
-        if field.name.of(input).eq_ignore_ascii_case(b"amo-line") {
+        if field.name.of(input).eq_ignore_ascii_case(name) {
             return read_decimal(field.value.of(input));
         }
     }

@@ -1,5 +1,5 @@
 //! What a door tells of its journal.
-ghost use Rattle.std.specs.Prelude.{◌≡◌, ℕ, List, [], ◌++◌, ◌∷◌, IfNone, IfOk, IfSome, OnOk, codes};
+ghost use Rattle.std.specs.Prelude.{◌≡◌, ℕ, ◌<◌, List, [], ◌++◌, ◌∷◌, true, IfNone, IfOk, IfSome, OnOk, codes};
 ghost use Rattle.amo_door.specs.Answer.{got_front, got_message, line_value, more_end};
 ghost use Rattle.amo_call.specs.Pages.{TellsLines, TellsNextLine, TellsPage, first_line, line_behind};
 
@@ -63,6 +63,7 @@ pub fn read_page(
     from: u64,
 ) -> Result<Option<Page>, AllocError>
     ensures found { IfOk result (λ read. IfSome read (λ page. TellsPage stream from page response.now)) }
+    ensures goes_on { IfOk result (λ read. IfSome read (λ page. page.lines.more ≡ true → from < page.lines.behind)) }
 {
     if response.status != 200 {
         return Ok(None);
@@ -125,13 +126,19 @@ fn behind_front(body: &[u8], stream: u32) -> Option<&[u8]>
     behind(rest, b"\"got\":[")
 }
 
-/// Which lines a page tells of, to who asked from this one on: no bracket stands behind its messages.
+/// Which lines a page tells of, to who asked from this one on: no bracket stands behind its messages. None where it tells of more lines and of none that was
+/// read: who went on behind it would ask for the same page without end.
 fn read_lines(body: &[u8], from: u64) -> Option<PageLines>
-    ensures { IfSome result (λ lines. TellsLines from lines body.now) }
+    ensures tells { IfSome result (λ lines. TellsLines from lines body.now) }
+    ensures goes_on { IfSome result (λ lines. lines.more ≡ true → from < lines.behind) }
 {
     let parts = last_cut(body, b']')?;
     let named = read_names(parts.1)?;
-    Some(lines_of(from, named.0, named.1, named.2))
+    let lines = lines_of(from, named.0, named.1, named.2);
+    if lines.more && lines.behind <= from {
+        return None;
+    }
+    Some(lines)
 }
 
 /// The first line and the last one that the end of a page names, and whether it tells of more.

@@ -3,7 +3,7 @@ ghost use Rattle.std.specs.Prelude.{◌≡◌, ◌↔◌, Some, [], ◌⊎◌, t
 ghost use Rattle.amo_door.specs.declared.claim.EventPlace.{EventPlace};
 ghost use Rattle.amo_call.specs.Answer.{TellsPut};
 ghost use Rattle.amo_call.specs.Kept.{kept_text};
-ghost use Rattle.amo_call.specs.Puts.{ComesTo, HasPut, IsAnswered, IsNextPut, IsPutting, MayPut, Resumes, TellsDelay, TellsRefused, ToldPut, WasPut};
+ghost use Rattle.amo_call.specs.Puts.{BeginsAgain, ComesTo, HasPut, IsAnswered, IsNextPut, IsPutting, MayPut, Resumes, TellsDelay, TellsRefused, ToldPut, WasPut};
 
 use crate::answer::{Response, read_conflict, read_fate, read_put, read_state, tells_unput};
 use crate::caller::{ask_until, copied};
@@ -32,7 +32,7 @@ pub enum PutTold {
     Became(Fate),
     /// Another program puts on the stream, and whether this message was put before is not known.
     Doubtful,
-    /// It was not put yet: the door puts it off so, and says that it was not, or its only call was put off.
+    /// It was not put yet: the door puts it off so, and says that it was not; or its only call was put off, or came too late for its number or its life.
     Later(Response),
     /// It was not put: the life of the host has no number more for it.
     NoNumber,
@@ -72,7 +72,8 @@ pub fn put<C: Caller>(
     requires found { IfSome found (λ kept. C.saved caller.old ≡ kept_text kept) }
     requires none { IfNone found (C.saved caller.old ≡ []) }
     // What is told of a message is what answers told of it, and of each call behind another that the one before it put nothing. What is told to have been put
-    // the file says is put: so the same call again asks nothing, and tells the same.
+    // the file says is put: so the same call again asks nothing, and tells the same. What is told to be not put yet, as its only call came too late, the file
+    // has no more: so the same call again names another one.
     ensures { IfOk result (ToldPut C.heard order.now (ComesTo C.heard order.now found) (C.is_silent caller.new) (C.saved caller.new)) }
 {
     let mut after = begin_or_resume(alloc, caller, found, order)?;
@@ -209,7 +210,7 @@ fn look_at_refusal<C: Caller>(
     }
     match response.status {
         409 => look_at_conflict(alloc, caller, turn, response, order),
-        410 => look_back(alloc, caller, turn, &response, order),
+        410 => look_back(alloc, caller, turn, response, order),
         _ => Ok(AfterPut::Told(told_of_refusal(&turn, response))),
     }
 }
@@ -309,10 +310,10 @@ fn look_at_conflict<C: Caller>(
         return Ok(AfterPut::Told(told_of_refusal(&turn, response)));
     };
     if turn.is_first {
-        return begin(alloc, caller, order);
+        return begin_again(alloc, caller, Some(response), order);
     }
     if last == turn.kept.claim.number {
-        return begin(alloc, caller, order);
+        return begin_again(alloc, caller, None, order);
     }
     Ok(AfterPut::Told(PutTold::Doubtful))
 }
@@ -322,19 +323,42 @@ fn look_back<C: Caller>(
     alloc: Global,
     caller: &mut C,
     turn: PutTurn,
-    response: &Response,
+    response: Response,
     order: &Order,
 ) -> Result<AfterPut, CallFault>
     requires saved { C.saved caller.old ≡ kept_text turn.kept }
     requires putting { IsPutting order.now turn.kept }
-    requires answered { IsAnswered C.heard turn response.now }
-    requires status { response.now.status ≡ 410 }
+    requires answered { IsAnswered C.heard turn response }
+    requires status { response.status ≡ 410 }
     ensures { IfOk result (HasPut C.heard order.now (ComesTo C.heard order.now (Some turn.kept)) (C.is_fresh caller.new) (C.is_silent caller.new) (C.saved caller.new)) }
 {
     if turn.is_first {
-        return begin(alloc, caller, order);
+        return begin_again(alloc, caller, Some(response), order);
     }
     look_at_fate(alloc, caller, turn, order)
+}
+
+/// Names another call behind one that put nothing. That one is taken out of the file first: who finds it there later cannot know that. Where it was made once,
+/// and was answered so, there has to be time, else it is told that the message was not put yet: so a door that answers each first call like that is not asked
+/// without end.
+fn begin_again<C: Caller>(
+    alloc: Global,
+    caller: &mut C,
+    once: Option<Response>,
+    order: &Order,
+) -> Result<AfterPut, CallFault>
+    requires { MayPut C.heard order.now (C.saved caller.old) }
+    ensures { IfOk result (BeginsAgain C.heard order.now once (C.is_fresh caller.new) (C.is_silent caller.new) (C.saved caller.new)) }
+{
+    caller.forget()?;
+    let Some(response) = once else {
+        return begin(alloc, caller, order);
+    };
+    if caller.pause() {
+        begin(alloc, caller, order)
+    } else {
+        Ok(AfterPut::Told(PutTold::Later(response)))
+    }
 }
 
 /// The host lives another life than that of a call that was made before: what became of its message decides.
@@ -356,7 +380,7 @@ fn look_at_fate<C: Caller>(
         return Ok(AfterPut::Told(PutTold::Untold(response)));
     };
     if was_never(&fate) {
-        return begin(alloc, caller, order);
+        return begin_again(alloc, caller, None, order);
     }
     Ok(AfterPut::Told(PutTold::Became(fate)))
 }

@@ -3,7 +3,7 @@ ghost use Rattle.std.specs.Prelude.{◌≡◌, ◌↔◌, ℕ, List, None, Some,
 ghost use Rattle.amo_call.specs.Heard.{ToCall};
 ghost use Rattle.amo_call.specs.Kept.{done_of, kept_text};
 ghost use Rattle.amo_call.specs.Naming.{HasCall, MayTakeFrom};
-ghost use Rattle.amo_call.specs.Takes.{ComesToTake, IsFirstTake, IsNextTake, IsOver, IsTaking, IsToldTake, TakesBy, TellsTakenFor, ToldTake, after_of, take_behind};
+ghost use Rattle.amo_call.specs.Takes.{BeginsBehind, ComesToTake, IsFirstTake, IsNextTake, IsOver, IsTaking, IsToldTake, NamesMessage, TakesBy, TellsTakenFor, ToldTake, after_of, take_behind};
 ghost use Rattle.amo_call.specs.Turns.{HasTake, HasToldTake};
 
 use crate::answer::{Response, read_state};
@@ -304,7 +304,7 @@ fn finish<C: Caller>(
     ensures saved { IfOk result (HasTake (C.saved caller.new)) }
     ensures told { IfOk result (TellsTakenFor kept.claim response) }
 {
-    let Some(line) = response.line else {
+    let Some(line) = line_for(&response, &kept.claim) else {
         return Err(CallFault::Strange);
     };
     let message = match Message::copy(alloc, response.body.as_slice()) {
@@ -312,6 +312,20 @@ fn finish<C: Caller>(
         Err(fault) => return Err(CallFault::from(fault)),
     };
     keep(caller, kept.claim, line, message)
+}
+
+/// The line by which a message was taken for a claim, where the head of an answer names it and the claim's stream and number. A door names all three: what
+/// names others answers another call.
+fn line_for(response: &Response, claim: &Claim) -> Option<u64>
+    ensures { IfSome result (λ line. NamesMessage claim.now line response.now) }
+{
+    let stream = response.stream?;
+    let number = response.number?;
+    if stream == claim.stream as u64 && number == claim.number {
+        response.line
+    } else {
+        None
+    }
 }
 
 /// This message was taken for a claim, by this line: the file has it.
@@ -367,8 +381,31 @@ fn look_back<C: Caller>(
         }
         from = page.lines.behind;
         if !page.lines.more {
-            return begin(alloc, caller, stream, from, by);
+            return begin_behind(alloc, caller, kept.claim, from, by);
         }
     }
     Err(CallFault::Strange)
+}
+
+/// Names another call behind one whose life is over and which took nothing by any line before this one. Where this caller named that one, too, there has to be
+/// time, else it is told that nothing came: so a door that answers each call like that is not asked without end.
+fn begin_behind<C: Caller>(
+    alloc: Global,
+    caller: &mut C,
+    claim: Claim,
+    from: u64,
+    by: &Word,
+) -> Result<AfterTake, CallFault>
+    requires { MayTakeFrom C.heard claim.stream from (C.saved caller.old) }
+    ensures saved { IfOk result (HasTake (C.saved caller.new)) }
+    ensures told { IfOk result (BeginsBehind C.heard claim.stream by.now from (C.is_silent caller.new) (C.saved caller.new)) }
+{
+    if claim.by != *by {
+        return begin(alloc, caller, claim.stream, from, by);
+    }
+    if caller.pause() {
+        begin(alloc, caller, claim.stream, from, by)
+    } else {
+        Ok(AfterTake::Told(TakeTold::Nothing))
+    }
 }

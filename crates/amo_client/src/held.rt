@@ -3,12 +3,11 @@ ghost use Rattle.std.specs.Prelude.{◌≡◌, [], IfOk};
 ghost use Rattle.amo_client.specs.File.{bytes_of};
 
 use crate::fault::ClientFault;
-use amo_disk::Cause;
+use amo_disk::{Cause, put_in_place, remove_if_there, sync_entry, write_beside};
 use std::alloc::{AllocError, Global};
 use std::fs::{self, File, OpenOptions, TryLockError};
-use std::io::{self, ErrorKind, Read, Write};
+use std::io::{self, ErrorKind, Read};
 use std::os::unix::fs::{MetadataExt, OpenOptionsExt};
-use std::path::Path;
 use std::rt::Files;
 
 /// Messages stand there in clear: its owner alone reads and writes a new one.
@@ -54,9 +53,13 @@ impl Held {
         Err(ClientFault::InUse(String::from_str(alloc, path)?))
     }
 
-    /// Leaves it to others. The lock is taken away while it is held: who opened it meanwhile sees that, and looks again.
+    /// Leaves it to others. The lock is taken away while it is held: who opened it meanwhile sees that, and looks again. Where somebody took it away before,
+    /// what has its name is the lock of another call, and stays.
     pub(crate) fn leave<R: Files<File = File>>(self, rt: &R) {
-        let _ = fs::remove_file(rt, self.path.as_str());
+        let path = self.path.as_str();
+        if let Ok(true) = is_named(rt, &self.lock, path) {
+            let _ = fs::remove_file(rt, path);
+        }
         let _ = self.lock.unlock();
     }
 }
@@ -158,25 +161,22 @@ pub(crate) fn write_anew<R: Files<File = File>>(
     ensures { IfOk result (λ written. bytes_of written ≡ text.items) }
 {
     let name = behind(alloc, path, NEW)?;
-    let mut file: File = OpenOptions::new()
-        .write(true)
-        .create(true)
-        .truncate(true)
-        .mode(MODE)
-        .open(rt, name.as_str())?;
-    file.write_all(text.as_slice())?;
-    file.sync_all()?;
-    fs::rename(rt, name.as_str(), path)?;
-    fs::open(rt, directory_of(path))?.sync_all()?;
+    write_beside(rt, name.as_str(), text.as_slice())?;
+    put_in_place(rt, name.as_str(), path)?;
     Ok(FileText { bytes: text })
 }
 
-/// The directory in which the file of this path stands.
-fn directory_of(path: &str) -> &str {
-    match Path::new(path).parent() {
-        Some(parent) if !parent.as_str().is_empty() => parent.as_str(),
-        _ => ".",
-    }
+/// Removes the file of this path, if it is there, from its disk too.
+pub(crate) fn remove<R: Files<File = File>>(
+    rt: &R,
+    alloc: Global,
+    path: &str,
+) -> io::Result<FileText>
+    ensures { IfOk result (λ gone. bytes_of gone ≡ []) }
+{
+    remove_if_there(rt, path)?;
+    sync_entry(rt, path)?;
+    Ok(FileText::absent(alloc))
 }
 
 /// A path with this behind it.

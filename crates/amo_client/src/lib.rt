@@ -2,7 +2,7 @@
 //! [`ClientFault`].
 //!
 //! Which call comes next, and what an answer tells, is decided in `amo_call`. Here is what that lacks: the file of a call, which one process has at a
-//! time and which is replaced whole (`held`), the connections and the time that is left (`station`), and what people are told (`telling`, `watching`).
+//! time and which is replaced whole (`held`), the connections and the time that is left (`station`, `timely`), and what people are told (`telling`, `watching`).
 //!
 //! A host looks up addresses and reads its token as a call does: [`check_address`], [`read_token`]. It knows no host, and no journal.
 #![tactic(auto)]
@@ -15,6 +15,7 @@ mod held;
 mod message;
 mod station;
 mod telling;
+mod timely;
 mod token;
 mod watching;
 

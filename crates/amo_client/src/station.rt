@@ -1,10 +1,11 @@
 //! From where a call is made: its file, the way to the door, and the time that it has.
-ghost use Rattle.std.specs.Prelude.{◌≡◌, IfOk, OnOk};
+ghost use Rattle.std.specs.Prelude.{◌≡◌, [], IfOk, OnOk};
 ghost use Rattle.amo_call.specs.Kept.{kept_text};
 ghost use Rattle.amo_client.specs.File.{bytes_of};
 
 use crate::fault::ClientFault;
-use crate::held::{FileText, write_anew};
+use crate::held::{FileText, remove, write_anew};
+use crate::timely::Timely;
 use amo_call::{Asker, CallFault, Caller, Kept, Request, Response, exchange, push_kept};
 use amo_disk::Cause;
 use std::alloc::Global;
@@ -19,6 +20,9 @@ pub(crate) const MOST_WAIT: u64 = 30;
 
 /// How long an answer may take behind that, in seconds.
 const ANSWER_TIME: u64 = 30;
+
+/// How long an answer is waited for until it is whole, in seconds.
+const LONGEST: u64 = MOST_WAIT + ANSWER_TIME;
 
 /// How long it rests before it tries again, in milliseconds.
 const REST: u64 = 100;
@@ -101,19 +105,36 @@ impl<'a, R: AllocGlobal + Clock + Files<File = File> + Net<Stream = TcpStream>> 
                 self.text = written;
                 Ok(())
             }
-            Err(error) => {
-                self.why = Some(Cause::from(error));
-                Err(CallFault::File)
-            }
+            Err(error) => Err(self.failed(error)),
         }
+    }
+
+    /// Keeps no call any more: the file is removed.
+    fn keep_none(&mut self) -> Result<(), CallFault>
+        ensures { OnOk result (bytes_of self.new.text ≡ []) }
+    {
+        match remove(self.rt, self.alloc, self.path) {
+            Ok(gone) => {
+                self.text = gone;
+                Ok(())
+            }
+            Err(error) => Err(self.failed(error)),
+        }
+    }
+
+    /// The fault that the file of the call is, where it failed so, and why is kept.
+    fn failed(&mut self, error: io::Error) -> CallFault {
+        self.why = Some(Cause::from(error));
+        CallFault::File
     }
 
     /// Asks once.
     pub(crate) fn inquire(&mut self, request: &Request) -> Result<Option<Response>, CallFault>
         ensures { self.new.text ≡ self.old.text }
     {
-        match self.reach() {
-            Some(mut stream) => exchange(self.alloc, &mut stream, &self.place.who, request),
+        let way = self.connect_for_answer();
+        match self.explained(way) {
+            Some(mut way) => exchange(self.alloc, &mut way, &self.place.who, request),
             None => Ok(None),
         }
     }
@@ -133,7 +154,8 @@ impl<'a, R: AllocGlobal + Clock + Files<File = File> + Net<Stream = TcpStream>> 
     /// A way to the door, as long as there is time. None where there is none, and why is kept.
     pub(crate) fn find(&mut self) -> Option<TcpStream> {
         'tries: for _try in 0..u64::MAX {
-            let way = self.reach();
+            let way = self.connect();
+            let way = self.explained(way);
             if way.is_some() || !self.pause() {
                 return way;
             }
@@ -141,12 +163,12 @@ impl<'a, R: AllocGlobal + Clock + Files<File = File> + Net<Stream = TcpStream>> 
         None
     }
 
-    /// A way to the door. None where there is none, and why is kept.
-    fn reach(&mut self) -> Option<TcpStream>
+    /// What was to be had, if it was. None where it was not, and why is kept.
+    fn explained<T>(&mut self, had: io::Result<T>) -> Option<T>
         ensures { self.new.text ≡ self.old.text }
     {
-        match self.connect() {
-            Ok(stream) => Some(stream),
+        match had {
+            Ok(had) => Some(had),
             Err(error) => {
                 self.why = Some(Cause::from(error));
                 None
@@ -157,10 +179,15 @@ impl<'a, R: AllocGlobal + Clock + Files<File = File> + Net<Stream = TcpStream>> 
     /// A way to the door.
     fn connect(&self) -> io::Result<TcpStream> {
         let stream: TcpStream = TcpStream::connect(self.rt, self.place.who.host.as_str())?;
-        let longest = Duration::from_secs(MOST_WAIT + ANSWER_TIME);
+        let longest = Duration::from_secs(LONGEST);
         stream.set_read_timeout(Some(longest))?;
         stream.set_write_timeout(Some(longest))?;
         Ok(stream)
+    }
+
+    /// A way to the door, which is there for one answer.
+    fn connect_for_answer(&self) -> io::Result<Timely<'a, R>> {
+        Timely::new(self.rt, self.connect()?, Duration::from_secs(LONGEST))
     }
 
     /// How many seconds are left.
@@ -189,6 +216,10 @@ impl<R: AllocGlobal + Clock + Files<File = File> + Net<Stream = TcpStream>> Call
 
     fn note(&mut self, kept: &Kept) -> Result<(), CallFault> {
         self.keep(kept)
+    }
+
+    fn forget(&mut self) -> Result<(), CallFault> {
+        self.keep_none()
     }
 
     fn make(&mut self, kept: &Kept) -> Result<Option<Response>, CallFault> {

@@ -55,11 +55,13 @@ alike {X = X} f r s m n a b same_reason same_size same_fields =
     ap (λ (x : List ℕ). f x m a) same_reason ∙ (ap (λ (x : BodySize). f s x a) same_size ∙ ap (λ (x : List Header). f s n x) same_fields)
 
 -- the fields of an answer, one kind behind another
-pub all_fields : (first kind extra last : List Header) (none : List Sent.Header) (a b c d : List Header)
-    → none ≡ [] → a ≡ pairs none ++ first → b ≡ a ++ kind → c ≡ b ++ extra → d ≡ c ++ last → d ≡ first ++ (kind ++ (extra ++ last))
-all_fields first kind extra last none a b c d nothing one two three four =
-    four ∙ (ap (λ (x : List Header). x ++ last) (three ∙ (ap (λ (x : List Header). x ++ extra) (two ∙ ap (λ (x : List Header). x ++ kind) (one ∙ ap (λ (x : List Sent.Header). pairs x ++ first) nothing))))
-    ∙ (append_assoc (first ++ kind) extra last ∙ append_assoc first kind (extra ++ last)))
+pub all_fields : (first kind page extra last : List Header) (none : List Sent.Header) (a b c d e : List Header)
+    → none ≡ [] → a ≡ pairs none ++ first → b ≡ a ++ kind → c ≡ b ++ page → d ≡ c ++ extra → e ≡ d ++ last → e ≡ first ++ (kind ++ (page ++ (extra ++ last)))
+all_fields first kind page extra last none a b c d e nothing one two three four five =
+    let front = two ∙ ap (λ (x : List Header). x ++ kind) (one ∙ ap (λ (x : List Sent.Header). pairs x ++ first) nothing) in
+    let middle = four ∙ ap (λ (x : List Header). x ++ extra) (three ∙ ap (λ (x : List Header). x ++ page) front) in
+    five ∙ (ap (λ (x : List Header). x ++ last) middle
+    ∙ (append_assoc ((first ++ kind) ++ page) extra last ∙ (append_assoc (first ++ kind) page (extra ++ last) ∙ append_assoc first kind (page ++ (extra ++ last)))))
 
 -- a head, a body and an end
 pub whole : {T E : Type 0} (r : Result T E) (old head body end a b all : List ℕ) → a ≡ old ++ head → b ≡ a ++ body → OnOk r (all ≡ b ++ end) → OnOk r (all ≡ old ++ (head ++ (body ++ end)))

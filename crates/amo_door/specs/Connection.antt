@@ -3,7 +3,8 @@ use Rattle.std.specs.Prelude.{◌≡◌, ◌⊎◌, ℕ, ◌+◌, ◌-◌, ◌^�
 use Rattle.http1.specs.Conn.{after_data, data_refusal, data_text}
 use Rattle.http1.specs.Fields.{Header}
 use Rattle.http1.specs.Server.{IsClosed, after_response, new_server, planned_response, response_refusal, with_writing, writing}
-use Rattle.http1.specs.declared.conn.BodySize.TheVariants.{Unknown}
+use Rattle.http1.specs.declared.conn.BodySize.{BodySize}
+use Rattle.http1.specs.declared.conn.BodySize.TheVariants.{Empty, Known, Unknown}
 use Rattle.http1.specs.declared.error.WriteError.{WriteError}
 use Rattle.http1.specs.declared.error.WriteError.TheVariants as WriteFault
 use Rattle.http1.specs.declared.server.Server.{Server}
@@ -18,7 +19,7 @@ use Rattle.amo_door.specs.declared.connection.Step.TheVariants.{Call, Wait, Over
 use Rattle.amo_door.specs.declared.refusal.Refusal.{Refusal}
 use Rattle.amo_door.specs.Answer.{IsRefusal, extra_of}
 use Rattle.amo_door.specs.Refusal.{status_of}
-use Rattle.amo_door.specs.Spelling.{after_answer, answer_fault, answer_text}
+use Rattle.amo_door.specs.Spelling.{after_answer, answer_fault, answer_text, common_fields}
 
 -- what came from the client and waits to be read, and what is to be sent to it
 pub record ConnectionState : Type 0 where
@@ -238,6 +239,12 @@ Settles old (Ok done) result new = IsOk result × (new ≡ old)
 Settles old (Err WriteFault.OutOfMemory) result new = IsErr result × (new ≡ over old)
 Settles old (Err _) result new = IsOk result × (new ≡ over old)
 
+-- whether a body of this size is still to come
+abbrev pub is_body : BodySize → Bool
+is_body Empty = false
+is_body (Known bytes) = not (bytes == 0)
+is_body Unknown = true
+
 -- it comes to its end
 abbrev pub Ends : Stage → Type 0
 Ends now = (now ≡ stage.Closing) ⊎ (now ≡ stage.Over)
@@ -265,7 +272,7 @@ SpellsRefusal reason old new = (answer : Answer) × SaysWhy reason answer × Spe
 
 -- the fields of an answer that goes on with what happens
 abbrev pub event_fields : List Header
-event_fields = (codes "cache-control", codes "no-store") ∷ (codes "content-type", codes "text/event-stream") ∷ []
+event_fields = common_fields ++ (codes "content-type", codes "text/event-stream") ∷ []
 
 -- the same of its head
 abbrev pub SpellsFront : ConnectionState → ConnectionState → Type 0

@@ -1,5 +1,5 @@
 -- Who may ask at the door.
-use Rattle.std.specs.Prelude.{ℕ, Bool, true, false, not, if◌then◌else◌, Option, None, Some, Result, Ok, Err, List, String, ◌++◌, bytes_eq, codes}
+use Rattle.std.specs.Prelude.{ℕ, Bool, true, false, not, ◌||◌, if◌then◌else◌, Option, None, Some, Result, Ok, Err, List, String, ◌++◌, bytes_eq, codes}
 use Rattle.std.specs.List.{list_any}
 use Rattle.std.specs.Option.{option_copied}
 use Rattle.std.specs.String.{string_bytes}
@@ -26,6 +26,15 @@ abbrev pub admits_origin : Guard → Option (List ℕ) → Bool
 admits_origin guard None = true
 admits_origin guard (Some origin) = list_any (is_origin_of origin) guard.hosts.items
 
+-- whether a page is of another site, or of another origin of this one (Fetch Metadata Request Headers, section 2.3)
+abbrev pub is_elsewhere : List ℕ → Bool
+is_elsewhere site = bytes_eq site (codes "cross-site") || bytes_eq site (codes "same-site")
+
+-- whether a page so far away may ask
+abbrev pub admits_site : Option (List ℕ) → Bool
+admits_site None = true
+admits_site (Some site) = not (is_elsewhere site)
+
 -- whether a field brings the token
 abbrev pub brings : List ℕ → Option (List ℕ) → Bool
 brings token None = false
@@ -45,4 +54,5 @@ abbrev pub verdict : Guard → Credentials → Result (Unit {0}) Refusal
 verdict guard said =
     if not (admits_host guard (option_copied said.host)) then Err refusal.Host
     else (if not (admits_origin guard (option_copied said.origin)) then Err refusal.Origin
-    else (if not (admits_token guard (option_copied said.authorization)) then Err refusal.Token else Ok tt))
+    else (if not (admits_site (option_copied said.site)) then Err refusal.Origin
+    else (if not (admits_token guard (option_copied said.authorization)) then Err refusal.Token else Ok tt)))

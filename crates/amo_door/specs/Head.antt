@@ -1,6 +1,16 @@
 -- What the head of a request says.
-use Rattle.std.specs.Prelude.{◌≡◌, ◌⊎◌, ℕ, ◌<◌, ◌^◌, Option, None, Some, List}
+use Rattle.std.specs.Prelude.{◌≡◌, ◌⊎◌, ℕ, ◌<◌, ◌^◌, Bool, false, ◌&&◌, Option, None, Some, List, bytes_eq, codes}
 use Rattle.std.specs.Fmt.{decimal}
+
+-- whether a field is there, and has this value
+abbrev pub says : Option (List ℕ) → List ℕ → Bool
+says None value = false
+says (Some text) value = bytes_eq text value
+
+-- whether a browser opens the door's own page in a window, by how and for what it asks
+abbrev pub opens_page : List ℕ → List ℕ → Option (List ℕ) → Option (List ℕ) → Bool
+opens_page method path mode destination =
+    bytes_eq method (codes "GET") && bytes_eq path (codes "/") && says mode (codes "navigate") && says destination (codes "document")
 
 -- a text is the number of a line
 abbrev pub NamesLine : List ℕ → ℕ → Type 0

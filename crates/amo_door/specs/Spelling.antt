@@ -41,10 +41,22 @@ reason_of status =
     else (if status == 501 then codes "Not Implemented"
     else (if status == 503 then codes "Service Unavailable" else codes "Unknown")))))))))))))))))
 
+-- the fields of each answer: it is not to be kept, nor taken for anything but what its type says
+abbrev pub common_fields : List Header
+common_fields = (codes "cache-control", codes "no-store") ∷ (codes "x-content-type-options", codes "nosniff") ∷ []
+
 -- the field that says the type of a body, where there is one
 abbrev pub type_fields : Kind → List Header
 type_fields kind.None = []
 type_fields of = (codes "content-type", type_of of) ∷ []
+
+-- the fields that say what a browser may do with a page: ask the door, and run what stands in it; no other page has it in a frame
+abbrev pub page_fields : Kind → List Header
+page_fields kind.Page =
+    (codes "x-frame-options", codes "DENY")
+    ∷ (codes "content-security-policy", codes "default-src 'none'; script-src 'unsafe-inline'; style-src 'unsafe-inline'; connect-src 'self'; img-src data:; form-action 'none'; base-uri 'none'; frame-ancestors 'none'")
+    ∷ []
+page_fields _ = []
 
 -- the fields that say where the message that is the body stands
 abbrev pub place_fields : ℕ → ℕ → ℕ → ℕ → List Header
@@ -65,7 +77,7 @@ close_fields closes = if closes then (codes "connection", codes "close") ∷ [] 
 
 -- the fields of an answer
 abbrev pub fields_of : Answer → Bool → List Header
-fields_of answer closes = (codes "cache-control", codes "no-store") ∷ (type_fields answer.kind ++ (extra_fields answer.extra ++ close_fields closes))
+fields_of answer closes = common_fields ++ (type_fields answer.kind ++ (page_fields answer.kind ++ (extra_fields answer.extra ++ close_fields closes)))
 
 -- the size of a body, by its kind and how many bytes it has
 abbrev pub size_at : Kind → ℕ → BodySize

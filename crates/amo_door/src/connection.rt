@@ -1,6 +1,6 @@
 //! A connection of a client.
 ghost use Rattle.std.specs.Prelude.{◌≡◌, ◌≤◌, ◌<◌, ◌↔◌, ◌⊎◌, false, true, length, if◌then◌else◌, IfOk, IsTrue, MatchResult, OnErr, OnOk};
-ghost use Rattle.amo_door.specs.Connection.{Answers, Begins, Comes, Goes, GoesOn, Extends, MayCome, Refuses, Settles, SpellsAnswer, SpellsFront, SpellsRefusal, SpellsText, Tells, closed, counted, over, phase_of, room_of, taken_at, taken_count, throws, unused, wants_input, without_sent};
+ghost use Rattle.amo_door.specs.Connection.{Answers, Begins, Comes, Goes, GoesOn, Extends, MayCome, Refuses, Settles, SpellsAnswer, SpellsFront, SpellsRefusal, SpellsText, Tells, closed, counted, is_body, over, phase_of, room_of, taken_at, taken_count, throws, unused, wants_input, without_sent};
 ghost use Rattle.amo_door.specs.declared.connection.Stage.TheVariants as stage;
 ghost use Rattle.httparse.specs.Spans.{IsRequestWithin};
 
@@ -253,8 +253,8 @@ impl Connection {
         self.output.as_slice()
     }
 
-    /// Whether so much of it waits that no more requests are read.
-    fn has_much_to_send(&self) -> bool
+    /// Whether so much of it waits that no more requests are read, and who follows is not to be told more.
+    pub fn has_much_to_send(&self) -> bool
         ensures { IsTrue result ↔ (MOST_OUTPUT < length self.now.output) }
     {
         self.output.len() > MOST_OUTPUT
@@ -402,14 +402,16 @@ impl Connection {
         let Some(begun) = &self.begun else {
             return Ok(());
         };
-        let is_too_long = match self.server.unread_size() {
+        let size = self.server.unread_size();
+        let is_too_long = match size {
             BodySize::Known(size) => size > begun.room as u64,
             BodySize::Empty | BodySize::Unknown => false,
         };
         match begun.call {
-            Err(refusal) if self.server.unread_size() != BodySize::Empty => self.refuse(refusal),
+            Err(refusal) if is_body(size) => self.refuse(refusal),
+            Err(_) => Ok(()),
             Ok(_) if is_too_long => self.refuse(Refusal::TooLong),
-            _ => self.ask_on(),
+            Ok(_) => self.ask_on(),
         }
     }
 
@@ -549,6 +551,10 @@ impl Connection {
                 value: b"no-store",
             },
             Header {
+                name: b"x-content-type-options",
+                value: b"nosniff",
+            },
+            Header {
                 name: b"content-type",
                 value: b"text/event-stream",
             },
@@ -613,4 +619,11 @@ impl Connection {
         self.answered = self.answered.saturating_add(1);
         self.settle(written)
     }
+}
+
+/// Whether a body of this size is still to come. Behind a head without one HTTP/1 says that 0 bytes are.
+fn is_body(size: BodySize) -> bool
+    ensures { result ≡ is_body size }
+{
+    !matches!(size, BodySize::Empty | BodySize::Known(0))
 }

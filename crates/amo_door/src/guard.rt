@@ -1,6 +1,6 @@
 //! Who may ask at the door.
 ghost use Rattle.std.specs.Prelude.{◌≡◌, ◌++◌, bytes_eq, codes, option_copied};
-ghost use Rattle.amo_door.specs.Guard.{admits_host, admits_origin, admits_token, verdict};
+ghost use Rattle.amo_door.specs.Guard.{admits_host, admits_origin, admits_site, admits_token, verdict};
 
 use crate::Refusal;
 
@@ -21,6 +21,9 @@ pub struct Credentials<'a> {
     pub host: Option<&'a [u8]>,
     /// The field `Origin`, by which a browser tells which page asks.
     pub origin: Option<&'a [u8]>,
+    /// The field `Sec-Fetch-Site`, by which a browser tells how far away the page is that has it ask, also where it tells no origin; nothing where somebody
+    /// opens the door's own page.
+    pub site: Option<&'a [u8]>,
     /// The field `Authorization`.
     pub authorization: Option<&'a [u8]>,
 }
@@ -34,6 +37,9 @@ impl Guard {
             return Err(Refusal::Host);
         }
         if !self.admits_origin(credentials.origin) {
+            return Err(Refusal::Origin);
+        }
+        if !admits_site(credentials.site) {
             return Err(Refusal::Origin);
         }
         if !self.admits_token(credentials.authorization) {
@@ -80,6 +86,17 @@ impl Guard {
             Some(field) => is_bearer_of(field, token.as_bytes()),
             None => false,
         }
+    }
+}
+
+/// Whether a page so far away may ask: not one of another site, or of another port of this machine (Fetch Metadata Request Headers, section 2.3). What is no
+/// word of these is passed over, as that section has it.
+fn admits_site(site: Option<&[u8]>) -> bool
+    ensures { result ≡ admits_site (option_copied site.entry) }
+{
+    match site {
+        Some(site) => site != b"cross-site".as_slice() && site != b"same-site".as_slice(),
+        None => true,
     }
 }
 

@@ -1,7 +1,7 @@
 //! What the head of a request says.
 ghost use Rattle.std.specs.Prelude.{◌≡◌, ◌≤◌, All, length, option_copied};
 ghost use Rattle.httparse.specs.Spans.{IsHeaderWithin, IsRequestWithin};
-ghost use Rattle.amo_door.specs.Head.{IsBehind};
+ghost use Rattle.amo_door.specs.Head.{IsBehind, opens_page, says};
 
 use crate::{Call, Credentials, Guard, Method, Refusal, Routes, Served};
 use amo_text::read_decimal;
@@ -29,18 +29,55 @@ pub(crate) fn read_head(
     requires { IsRequestWithin input.now spans.now head.now }
 {
     let fields = &spans[..head.headers];
+    let (method, path) = (head.method.of(input), head.path.of(input));
     let credentials = Credentials {
         host: field(input, fields, b"host"),
         origin: field(input, fields, b"origin"),
+        site: site(input, fields, method, path),
         authorization: field(input, fields, b"authorization"),
     };
     reader.guard.check(&credentials)?;
-    let method = Method::read(head.method.of(input));
-    match Call::read(reader.routes, reader.served, method, head.path.of(input)) {
+    match Call::read(reader.routes, reader.served, Method::read(method), path) {
         Ok(Call::Events { after }) => Ok(Call::Events {
             after: line_behind(field(input, fields, b"last-event-id"), after),
         }),
+        // A part of a message is no message (RFC 9110, section 14.5).
+        Ok(Call::Put(_) | Call::PutNext { .. })
+            if field(input, fields, b"content-range").is_some() => { Err(Refusal::Unreadable) }
         read => read,
+    }
+}
+
+/// How far away the page is that has a browser ask, where that counts.
+fn site<'a>(input: &'a [u8], fields: &[HeaderSpan], method: &[u8], path: &[u8]) -> Option<&'a [u8]>
+    requires { All (IsHeaderWithin (length input.now)) fields.now }
+{
+    let site = field(input, fields, b"sec-fetch-site")?;
+    let mode = field(input, fields, b"sec-fetch-mode");
+    let destination = field(input, fields, b"sec-fetch-dest");
+    if opens_page(method, path, mode, destination) {
+        return None;
+    }
+    Some(site)
+}
+
+/// Whether a browser opens the door's own page in a window, and in no frame: a link to it may stand on any site (Fetch Metadata Request Headers, section 2).
+fn opens_page(method: &[u8], path: &[u8], mode: Option<&[u8]>, destination: Option<&[u8]>) -> bool
+    ensures { result ≡ opens_page method.now path.now (option_copied mode.entry) (option_copied destination.entry) }
+{
+    method == b"GET".as_slice()
+        && path == b"/".as_slice()
+        && says(mode, b"navigate")
+        && says(destination, b"document")
+}
+
+/// Whether a field is there, and has this value.
+fn says(field: Option<&[u8]>, value: &[u8]) -> bool
+    ensures { result ≡ says (option_copied field.entry) value.now }
+{
+    match field {
+        Some(text) => text == value,
+        None => false,
     }
 }
 

@@ -9,7 +9,7 @@ use std::fmt;
 /// Why a request is refused. Its text is a sentence for a person, and its word is for a program. Nothing was put or got by it.
 #[derive(Clone, Copy, PartialEq, Eq)]
 pub enum Refusal {
-    /// It is no request of HTTP/1.0 or 1.1.
+    /// It is no request of HTTP/1.0 or 1.1, or it brings a part of a message.
     Unreadable,
     /// Its query gives something under a name that no place takes.
     Unknown,
@@ -136,7 +136,8 @@ impl Refusal {
     /// Its sentence; nothing where that names a parameter.
     fn text(self) -> &'static str {
         match self {
-            Refusal::Unreadable => "this is no request of HTTP/1.1",
+            Refusal::Unreadable =>
+                "this is no request of HTTP/1.1, or one with a part of a message",
             Refusal::Unknown => "the query has a name that is not known here",
             Refusal::Token => "the host wants its token, as `Authorization: Bearer TOKEN`",
             Refusal::Origin => "pages of another origin may not ask here",

@@ -5,7 +5,7 @@ ghost use Rattle.http1.specs.declared.error.WriteError.TheVariants.{OutOfMemory}
 ghost use Rattle.http1.specs.Head.{pairs};
 ghost use Rattle.http1.specs.Server.{with_writing, writing};
 ghost use Rattle.amo_door.specs.Connection.{Extends};
-ghost use Rattle.amo_door.specs.Spelling.{Writes, after_answer, after_head, answer_fault, answer_text, behind_body, body_fault, body_text, close_fields, extra_fields, fields_of, head_fault, head_text, place_fields, reason_of, sent_body, size_of, type_fields};
+ghost use Rattle.amo_door.specs.Spelling.{Writes, after_answer, after_head, answer_fault, answer_text, behind_body, body_fault, body_text, close_fields, common_fields, extra_fields, fields_of, head_fault, head_text, page_fields, place_fields, reason_of, sent_body, size_of, type_fields};
 
 use crate::{Answer, EventPlace, Extra, Kind};
 use bytes::BytesMut;
@@ -63,8 +63,9 @@ fn fields_of<'a>(
     ensures memory { IfErr result (λ e. e ≡ OutOfMemory) }
 {
     let mut fields = Vec::new(alloc);
-    push(&mut fields, b"cache-control", b"no-store")?;
+    push_common(&mut fields)?;
     push_type(&mut fields, answer.kind)?;
+    push_page(&mut fields, answer.kind)?;
     push_extra(&mut fields, answer.extra, digits)?;
     push_close(&mut fields, closes)?;
     Ok(fields)
@@ -142,6 +143,15 @@ fn push_number<'a>(
     push(fields, name, digits.format(number).as_bytes())
 }
 
+/// Appends what each answer says: nobody is to keep it, nor to take it for anything but what its type says.
+fn push_common(fields: &mut Vec<Header<'_>>) -> Result<(), WriteError>
+    ensures ok { OnOk result (pairs fields.new.items ≡ pairs fields.old.items ++ common_fields) }
+    ensures memory { IfErr result (λ e. e ≡ OutOfMemory) }
+{
+    push(fields, b"cache-control", b"no-store")?;
+    push(fields, b"x-content-type-options", b"nosniff")
+}
+
 /// Appends the type of a body, where there is one.
 fn push_type(fields: &mut Vec<Header<'_>>, kind: Kind) -> Result<(), WriteError>
     ensures ok { OnOk result (pairs fields.new.items ≡ pairs fields.old.items ++ type_fields kind) }
@@ -150,6 +160,24 @@ fn push_type(fields: &mut Vec<Header<'_>>, kind: Kind) -> Result<(), WriteError>
     match kind {
         Kind::None => Ok(()),
         _ => push(fields, b"content-type", kind.media_type().as_bytes()),
+    }
+}
+
+/// Appends what a browser may do with a page: what it is made for, and in no frame of another page, which could have somebody click on it unseen.
+fn push_page(fields: &mut Vec<Header<'_>>, kind: Kind) -> Result<(), WriteError>
+    ensures ok { OnOk result (pairs fields.new.items ≡ pairs fields.old.items ++ page_fields kind) }
+    ensures memory { IfErr result (λ e. e ≡ OutOfMemory) }
+{
+    match kind {
+        Kind::Page => {
+            push(fields, b"x-frame-options", b"DENY")?;
+            push(
+                fields,
+                b"content-security-policy",
+                b"default-src 'none'; script-src 'unsafe-inline'; style-src 'unsafe-inline'; connect-src 'self'; img-src data:; form-action 'none'; base-uri 'none'; frame-ancestors 'none'",
+            )
+        }
+        _ => Ok(()),
     }
 }
 

@@ -1,7 +1,24 @@
--- How long a host with a door waits.
-use Rattle.std.specs.Prelude.{ℕ, ◌-◌, min}
+-- How long a host with a door waits, and for what its clients do.
+use Rattle.std.specs.Prelude.{◌≡◌, ℕ, ◌-◌, None, false, min}
 use Rattle.std.specs.Int.{div_ceil}
+use Rattle.amo_door.specs.declared.claim.Claim.{Claim}
+use Rattle.amo_door.specs.declared.claim.Decision.TheVariants.{Next}
+use Rattle.amo_door.specs.Numbers.{Table, decision, last_of}
+use Rattle.amo_live.specs.declared.service.Service.{Service}
+use Rattle.amo_object.specs.declared.step.End.{End}
+use Rattle.amo_serve.specs.States.{IsReached}
+use Rattle.amo_serve.specs.declared.waiting.Awaited.{Awaited}
+use Rattle.amo_serve.specs.declared.waiting.Awaited.TheVariants as awaited
 
 -- how many milliseconds there are from now until a time, rounded up: a minute at most, and none where that time is over
 abbrev pub milliseconds_until : ℕ → ℕ → ℕ
 milliseconds_until until now = div_ceil (min (until - now) 60000000) 1000
+
+-- a claim to take is for the next message of its stream
+abbrev pub IsNext : Table → Claim → Type 0
+IsNext table claim = decision table.life (last_of table claim.stream) claim None ≡ Next
+
+-- What a client may wait for on: what is not so yet. A claim that it waits for is for the next message.
+abbrev pub MayWait : {L S W : Type 0} → End → Service L S W → Table → Awaited → Type 0
+MayWait side service table (awaited.State stream) = IsReached side service stream false
+MayWait side service table (awaited.Take claim) = IsReached side service claim.stream false × IsNext table claim

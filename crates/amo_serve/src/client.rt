@@ -31,7 +31,7 @@ const MOST_DRAINED: usize = 256 * 1024;
 
 /// What a client is answered whose head did not come in time. It is no request's answer, so no connection spells it.
 const SLOW: &[u8] =
-    b"HTTP/1.1 408 Request Timeout\r\ncache-control: no-store\r\ncontent-type: application/json\r\nconnection: close\r\ncontent-length: 58\r\n\r\n{\"error\":\"slow\",\"text\":\"the request did not come in time\"}";
+    b"HTTP/1.1 408 Request Timeout\r\ncache-control: no-store\r\nx-content-type-options: nosniff\r\ncontent-type: application/json\r\nconnection: close\r\ncontent-length: 58\r\n\r\n{\"error\":\"slow\",\"text\":\"the request did not come in time\"}";
 
 /// A line of an event stream that tells nothing.
 const NOTHING: &[u8] = b":\n\n";
@@ -60,6 +60,8 @@ pub(crate) struct Client {
     pub(crate) waits: bool,
     /// What it follows is told from this number on.
     pub(crate) told: u64,
+    /// It was not told all of it yet: more would have waited to be sent than may.
+    pub(crate) is_behind: bool,
     stage: Stage,
     /// What its connection was at when it was looked at last, and how many requests were answered then.
     phase: Phase,
@@ -87,6 +89,7 @@ impl Client {
             reply: None,
             waits: false,
             told: 0,
+            is_behind: false,
             stage: Stage::Open,
             phase: Phase::Idle,
             answered: 0,
@@ -111,9 +114,11 @@ impl Client {
         self.is_awake = !self.is_gone() && (self.is_active || self.is_pressing());
     }
 
-    /// Whether it is to be looked at again at once: it may have asked already, is to be told what the journal tells, or has hung up and waits.
+    /// Whether it is to be looked at again at once: it may have asked already, is to be told what the journal tells or what else happened, or has hung up
+    /// and waits.
     pub(crate) fn is_pressing(&self) -> bool {
-        self.may_have_more() || self.seeks() || self.waits_in_vain()
+        let lacks_news = self.is_behind && self.takes_news();
+        self.may_have_more() || self.seeks() || lacks_news || self.waits_in_vain()
     }
 
     /// Whether it waits, and has hung up.
@@ -149,6 +154,16 @@ impl Client {
     /// Whether it is told what happens.
     pub(crate) fn is_following(&self) -> bool {
         self.stage == Stage::Open && self.connection.is_following()
+    }
+
+    /// Whether it may be told what happens: no more waits to be sent to it than may.
+    pub(crate) fn takes_news(&self) -> bool {
+        self.is_following() && !self.connection.has_much_to_send()
+    }
+
+    /// It is to be dropped.
+    pub(crate) fn let_go(&mut self) {
+        self.stage = Stage::Gone;
     }
 
     /// What the system is to wait for.
@@ -315,9 +330,14 @@ impl Client {
         self.look(now);
     }
 
-    /// Whether its next request may have come already.
+    /// Whether its next request may have come already, or none comes any more.
     fn may_have_more(&self) -> bool {
-        self.is_active && self.phase == Phase::Head
+        let has_more = match self.phase {
+            Phase::Head => true,
+            Phase::Idle => self.has_ended,
+            _ => false,
+        };
+        self.stage == Stage::Open && self.is_active && has_more
     }
 
     /// Tells it what happens, where it follows.

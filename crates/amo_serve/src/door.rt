@@ -51,9 +51,12 @@ const CROWDED_OUT: u64 = 100_000;
 /// So many of what the system waits for are the host's own. The clients stand behind them.
 const HOSTS_OWN: usize = 3;
 
+/// The place of the bell among these.
+const BELL: usize = 2;
+
 /// What a client beyond the bound is answered, whatever it asks. It is no request's answer, so no connection spells it.
 const CROWDED: &[u8] =
-    b"HTTP/1.1 503 Service Unavailable\r\ncache-control: no-store\r\ncontent-type: application/json\r\nretry-after: 1\r\nconnection: close\r\ncontent-length: 60\r\n\r\n{\"error\":\"crowded\",\"text\":\"too many ask at once: ask again\"}";
+    b"HTTP/1.1 503 Service Unavailable\r\ncache-control: no-store\r\nx-content-type-options: nosniff\r\ncontent-type: application/json\r\nretry-after: 1\r\nconnection: close\r\ncontent-length: 60\r\n\r\n{\"error\":\"crowded\",\"text\":\"too many ask at once: ask again\"}";
 
 /// The listener and its clients.
 #[derive(Drop)]
@@ -137,6 +140,9 @@ impl Door {
         if self.waited.is_empty() {
             self.watch(socket, bell)?;
         }
+        if let Some(waited) = self.waited.get_mut(BELL) {
+            waited.fd = bell;
+        }
         let mut until = due.unwrap_or(u64::MAX).min(self.deadline);
         for waiter in &self.waiters {
             until = until.min(waiter.until);
@@ -181,7 +187,7 @@ impl Door {
 
     /// Whether somebody rings the host's bell.
     pub(crate) fn hears_bell(&self) -> bool {
-        match self.waited.get(2) {
+        match self.waited.get(BELL) {
             Some(bell) => bell.revents != 0,
             None => false,
         }

@@ -69,9 +69,9 @@ impl News {
         Some(piece.text.as_slice())
     }
 
-    /// The number of the first that is kept, and no older than this one.
-    pub(crate) fn from(&self, number: u64) -> u64 {
-        number.max(self.first)
+    /// Whether all is kept that happened from this number on.
+    pub(crate) fn keeps(&self, number: u64) -> bool {
+        self.first <= number
     }
 
     /// The number of the first that stands behind a line of the journal. Where that is not kept any more, it is the first that is.

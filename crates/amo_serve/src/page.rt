@@ -48,8 +48,8 @@ form button { font: inherit; padding: .25rem .8rem; }
 <script>
 "use strict";
 const at = id => document.getElementById(id);
-const by = sessionStorage.getItem("by") || Array.from(crypto.getRandomValues(new Uint8Array(12)), b => b.toString(16).padStart(2, "0")).join("");
-sessionStorage.setItem("by", by);
+// Who calls: drawn at each load, since a browser hands what it keeps for a tab to the tab's double too.
+const by = Array.from(crypto.getRandomValues(new Uint8Array(12)), b => b.toString(16).padStart(2, "0")).join("");
 const meaning = { "–": "nothing yet", O: "the last message is on its way", Y: "the last message was got", N: "the last message was got or lost", R: "a message is ready", T: "all that came was taken" };
 let host, chosen = 1, events = 0, since = Date.now();
 const states = [], news = [];
@@ -67,6 +67,11 @@ async function ask(path, options) {
   return { body, answer };
 }
 
+// Whether a call need not be made again, since a refusal tells what came of it. A call that was made once came to nothing, but of a host that is crowded or
+// hears slowly nothing is known, nor by what answers in its place. Of one that was made before, which may have been heard then, only these words tell.
+const is_told = (fault, is_again) => is_again ? ["conflict", "ending", "full", "other_life", "too_long"].includes(fault.word)
+  : !!fault.word && fault.status !== 408 && (fault.status !== 503 || ["ending", "full"].includes(fault.word));
+
 // A call is kept until the host itself has answered it, also over a reload, so that what is asked again is the same call: that puts and takes nothing twice.
 async function once(kind, method, learn) {
   const before = kept(kind), call = before || await learn();
@@ -77,9 +82,9 @@ async function once(kind, method, learn) {
       sessionStorage.removeItem(kind);
       return { call, told };
     } catch (fault) {
-      // Of a host that is crowded or hears slowly nothing is known, nor by what answers in its place.
-      if (fault.word && fault.status !== 408 && (fault.status !== 503 || fault.word === "full")) sessionStorage.removeItem(kind);
-      if (fault.status || tries === 3) throw Object.assign(fault, { call, is_again: !!before || tries > 1 });
+      const is_again = !!before || tries > 1;
+      if (is_told(fault, is_again)) sessionStorage.removeItem(kind);
+      if (fault.status || tries === 3) throw Object.assign(fault, { call, is_again });
       await pause(500);
     }
   }
@@ -141,11 +146,17 @@ function tell(event) {
   if (it.stream) { news.push(it); if (news.length > 2000) news.splice(0, 1000); learn(it.stream).catch(() => {}); }
 }
 
+// What is told of a call that is kept: what it may have done, what tells that, and what asks the same again. That it was refused then is no news of it.
+const untold = (done, teller, asker, { is_again, word, message } = {}) => (!word ? "No answer came: " : is_again ? "No answer came, and then a refusal: " + message + ". But " : "It was put off: " + message + ". But ")
+  + done + ", which " + teller + " JOURNAL tells. " + asker + " asks the same again" + (is_again && word ? "; a new tab would do it once more." : ".");
+
 // What a call that has no answer may have done is told of; its text stays as it is until the call was answered.
-function show_kept() {
+function show_kept(fault) {
   const call = kept("put");
   at("text").readOnly = !!call;
-  if (call) { at("text").value = call.text; at("told").textContent = "No answer came: message " + call.number + " of stream " + call.stream + " may have been put. Put asks the same again."; }
+  if (!call) return;
+  at("text").value = call.text;
+  at("told").textContent = untold("message " + call.number + " of stream " + call.stream + " may have been put", "amo outcomes", "Put", fault);
 }
 
 // What became of a message of a life that is over.
@@ -182,7 +193,7 @@ at("put").addEventListener("submit", alone(async () => {
     at("told").textContent = "Message " + told.body.number + " of stream " + told.body.stream + " was put, by line " + told.body.line + " of the journal.";
     at("text").value = ""; at("text").readOnly = false;
   } catch (fault) {
-    if (kept("put")) return show_kept();
+    if (kept("put")) return show_kept(fault);
     at("text").readOnly = false;
     at("told").textContent = await refused(fault);
   }
@@ -196,7 +207,7 @@ at("take").addEventListener("submit", alone(async () => {
     });
     at("told").textContent = told ? "Message " + call.number + " of stream " + call.stream + ": " + told.body : "No message has come.";
   } catch (fault) {
-    at("told").textContent = kept("take") ? "No answer came. The button asks the same again."
+    at("told").textContent = kept("take") ? untold("a message may have been taken", "amo got", "The button", fault)
       : fault.is_again && ["other_life", "conflict"].includes(fault.word) ? "A message may have been taken before, which amo got JOURNAL tells." : "Not taken: " + fault.message + ".";
   }
 }));

@@ -57,13 +57,17 @@ impl Door {
         first
     }
 
-    /// Reads on for those who ask what became of messages of earlier lives, and tells them once all is read.
+    /// Reads on for those who ask what became of messages of earlier lives, and tells them once all is read. Nothing is read for those who ask of a life
+    /// that the host does not know.
     fn tell_fates<R: Files<File = File>>(
         &mut self,
         rt: &R,
         archive: &mut Archive,
         lines: u64,
     ) -> Result<(), AllocError> {
+        for client in self.clients.iter_mut() {
+            tell_unknown(client, archive)?;
+        }
         if !self.clients.iter().any(|client| client.seeks_fate()) {
             return Ok(());
         }
@@ -86,6 +90,18 @@ impl Door {
             }
         }
     }
+}
+
+/// Tells a client that the host does not know the life that it asks of, if it does not.
+fn tell_unknown(client: &mut Client, archive: &Archive) -> Result<(), AllocError> {
+    let is_known = match &client.reply {
+        Some(Reply::Fate { life, .. }) => archive.knows(life),
+        _ => true,
+    };
+    if is_known {
+        return Ok(());
+    }
+    tell_fate(client, archive)
 }
 
 /// Tells a client what became of a message of an earlier life, if it asks that.

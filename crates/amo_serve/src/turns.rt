@@ -13,7 +13,7 @@ use crate::news::News;
 use crate::responder::{Reply, Responder};
 use amo_archive::Archive;
 use amo_door::Happening;
-use amo_live::{Bell, Durable, Ended, Limits, Lineage, LiveFault, Notices};
+use amo_live::{Aside, Bell, Durable, Ended, Limits, Lineage, LiveFault, Notices};
 use amo_net::Link;
 use std::fs::File;
 use std::rt::{Clock, Files};
@@ -44,20 +44,21 @@ pub fn serve_door<C: Clock + Eprint + Files<File = File>, L: Link, S: Durable, W
     ensures words { OnOk result (BearsNew W.is_drawn (words_of responder.old.service) (words_of responder.new.service) responder.old.service.host.pass responder.new.service.host.pass) }
 {
     let start = started(rt)?;
+    let errors = Aside::new(rt);
     let mut notices = Notices::new();
     let mut farewell = Farewell::new(limits);
     'turns: for _turn in 0..u64::MAX {
         let now = microseconds(rt, &start)?;
-        notices.tell(rt, &responder.service, now);
+        notices.tell(&errors, &responder.service, now);
         if let Some(ended) = responder.ended(&mut farewell, now) {
-            responder.tell_of_open(rt, ended);
+            responder.tell_of_open(&errors, ended);
             door.send_rest(now)?;
             return Ok(ended);
         }
         let due = farewell.until(responder.service.next_due());
         door.wait(rt, &mut responder.service, socket, bell.number(), due, now)?;
         let now = microseconds(rt, &start)?;
-        responder.ends = hear_bell(rt, door, bell, responder.ends)?;
+        responder.ends = hear_bell(&errors, door, bell, responder.ends)?;
         turn_or_tell(rt, responder, door, archive, limits.sync, now)?;
     }
     Ok(Ended::OnItsWay)
@@ -208,17 +209,26 @@ fn hand(news: &News, client: &mut Client, next: u64, now: u64) {
     }
 }
 
-/// Tells a client that follows what happened since it was told last, up to what happens next.
+/// Tells a client that follows what happened since it was told last, up to what happens next, as far as there is room for it: a later turn goes on. Where
+/// some of that is not kept any more the client is let go, since it would take the rest for all.
 fn tell_news(news: &News, client: &mut Client, next: u64) {
-    if !client.is_following() || client.told >= next {
+    if !client.is_following() {
         return;
     }
-    for number in news.from(client.told)..next {
+    if !news.keeps(client.told) {
+        client.let_go();
+        return;
+    }
+    for number in client.told..next {
+        if !client.takes_news() {
+            break;
+        }
         if let Some(text) = news.text(number) {
             client.tell(text);
         }
+        client.told = number.saturating_add(1);
     }
-    client.told = next;
+    client.is_behind = client.told < next;
 }
 
 impl<L: Link, S: Durable, W: Lineage> Responder<L, S, W> {

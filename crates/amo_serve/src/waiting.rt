@@ -1,14 +1,15 @@
 //! Clients' requests, and those who wait for what they asked.
-ghost use Rattle.std.specs.Prelude.{◌≡◌, OnOk};
+ghost use Rattle.std.specs.Prelude.{◌≡◌, IsTrue, OnOk, false};
 ghost use Rattle.amo_live.specs.Host.{IsNoted};
 ghost use Rattle.amo_live.specs.Service.{words_of};
 ghost use Rattle.amo_live.specs.Words.{BearsNew};
 ghost use Rattle.amo_serve.specs.Serving.{Serves};
+ghost use Rattle.amo_serve.specs.Waiting.{IsNext, MayWait};
 
 use crate::client::Client;
 use crate::door::{Door, push};
 use crate::responder::{Reply, Responder, Taken};
-use amo_door::{Answer, Claim, Reader, Step};
+use amo_door::{Answer, Claim, Decision, Reader, Step};
 use amo_live::{Durable, Lineage, LiveFault};
 use amo_net::Link;
 use std::alloc::{AllocError, AllocFailed};
@@ -24,16 +25,6 @@ pub(crate) enum Awaited {
     State(u32),
     /// That the message that it claims is there.
     Take(Claim),
-}
-
-impl Awaited {
-    /// The stream.
-    fn stream(&self) -> u32 {
-        match self {
-            Awaited::State(stream) => *stream,
-            Awaited::Take(claim) => claim.stream,
-        }
-    }
 }
 
 /// A client that waits.
@@ -156,7 +147,7 @@ impl<L: Link, S: Durable, W: Lineage> Responder<L, S, W> {
             until,
         } = waiter;
         let is_late = until <= now || self.ends;
-        let waited = if is_late || has_hung_up || self.is_reached(awaited.stream()) {
+        let waited = if is_late || has_hung_up || self.is_over(&awaited) {
             self.look_at_wait(door.presence(client), awaited, is_late, now)?
         } else {
             Waited::Still(awaited)
@@ -173,6 +164,23 @@ impl<L: Link, S: Durable, W: Lineage> Responder<L, S, W> {
             )?,
         }
         Ok(())
+    }
+
+    /// Whether a wait is over, whatever its time: what is waited for is so, or nothing is to come for its claim, since that message was taken meanwhile.
+    fn is_over(&self, awaited: &Awaited) -> bool
+        ensures { result ≡ false → MayWait self.now.identity.side self.now.service self.now.numbers awaited.now }
+    {
+        match awaited {
+            Awaited::State(stream) => self.is_reached(*stream),
+            Awaited::Take(claim) => self.is_reached(claim.stream) || !self.is_next(claim),
+        }
+    }
+
+    /// Whether a claim to take is for the next message of its stream.
+    fn is_next(&self, claim: &Claim) -> bool
+        ensures { IsTrue result → IsNext self.now.numbers claim.now }
+    {
+        self.has_stream(claim.stream) && self.numbers.decide_take(claim) == Decision::Next
     }
 
     /// What comes of a wait now, whose client is there or not, and whose time is over or not. Who has hung up takes nothing.

@@ -14,6 +14,7 @@ returns-in-Some-behind c =
         rest = rest;
         begins = sym c.as_slice-body.ensures.value ∙ c.in-Some-behind_front.ensures ∙ ap (λ (t : List ℕ). got_front stream ++ t) c.in-Some-behind.ensures.found
             ∙ sym (append_assoc (got_front stream) (codes "]") rest);
-        ends = subst (λ (t : List ℕ). TellsLines c.args.from c.in-Some.lines t) c.as_slice-body.ensures.value c.in-Some.ensures;
+        ends = subst (λ (t : List ℕ). TellsLines c.args.from c.in-Some.lines t) c.as_slice-body.ensures.value c.in-Some.ensures.tells;
       };
+      goes_on = c.in-Some.ensures.goes_on;
     }

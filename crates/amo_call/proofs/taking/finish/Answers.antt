@@ -8,5 +8,5 @@ keep-requires g c =
     IsAnswered c.args.kept c.requires.taking.0 c.requires.saved refl c.requires.taking.1 (record {
       response = c.args.response;
       answered = c.requires.answered;
-      told = record { status = c.requires.status; line_is = c.in-Some.is; body = body };
+      told = record { status = c.requires.status; names = c.in-Some.ensures; body = body };
     })

@@ -1,6 +1,6 @@
 use Rattle.std.proofs.Common.{◌≡◌, true, inl, inr, refl, arith}
 use Rattle.amo_call.specs.declared.taking.TakeTold.TheVariants as told
-use Rattle.amo_call.specs.Takes.{IsConflict, IsFound, OfCall}
+use Rattle.amo_call.specs.Takes.{IsConflict, IsEmpty, IsFound, OfCall}
 use Rattle.amo_call.proofs.Takes.{goes_again, is_answered_ok}
 use Rattle.amo_call.proofs.taking.look_at_answer.Goals as goal
 
@@ -9,15 +9,8 @@ returns-then-is_nothing-clause-told g c =
     let C = g.C.Caller in
     let caller = c.take_again.new.caller in
     let kept = c.args.kept in
-    goes_again C.heard c.args.by.now (C.is_silent caller) (C.saved caller) c.take_again.result kept told.Nothing c.requires.taking (record {
-      call = kept;
-      is_reached = IsFound kept refl;
-      from = c.requires.taking.0;
-      taking = c.requires.taking.1;
-      response = c.args.response;
-      answered = c.requires.answered;
-      status = c.is_nothing.ensures.0 c.if-is_nothing.true;
-    }) c.take_again.ensures.again
+    goes_again C.heard c.args.by.now (C.is_silent caller) (C.saved caller) c.take_again.result kept told.Nothing c.requires.taking
+    (IsEmpty kept c.requires.taking.0 (IsFound kept refl) c.requires.taking.1 c.args.response c.requires.answered (c.is_nothing.ensures.0 c.if-is_nothing.true)) c.take_again.ensures.again
 
 pub returns-in-200-clause-told : goal.returns-in-200-clause-told
 returns-in-200-clause-told g c =

@@ -12,7 +12,7 @@ use Rattle.amo_call.specs.Request.{got_target}
 use Rattle.amo_call.specs.Naming.{TakesAnew}
 use Rattle.amo_call.specs.Takes.{IsForgotten, IsFound, IsGot, IsRead, IsTaking, IsUnread, OfPage, TellsNothingGot}
 use Rattle.amo_call.proofs.Puts.{at_some}
-use Rattle.amo_call.proofs.Takes.{goes_on_ok, is_got_ok, is_last}
+use Rattle.amo_call.proofs.Takes.{goes_on_behind, is_got_ok, is_last}
 use Rattle.amo_call.proofs.taking.look_back.Goals as goal
 
 pub pages-init : goal.pages-init
@@ -103,8 +103,8 @@ returns-then-not-page-clause-told g c =
     let none : TellsNothingGot stream line page response = record { told = tells; none = c.in_default-first.is; whole = whole } in
     let last : page.lines.more ≡ false = is_last page.lines.more c.if-not-page.true in
     let C = g.C.Caller in
-    let caller = c.begin.new.caller in
-    goes_on_ok C.heard stream c.args.by.now page.lines.behind (C.is_silent caller) (C.saved caller) c.begin.result kept (record {
+    let caller = c.begin_behind.new.caller in
+    goes_on_behind C.heard stream c.args.by.now page.lines.behind (C.is_silent caller) (C.saved caller) c.begin_behind.result kept (record {
       from = first;
       taking = taking;
       over = c.requires.over;
@@ -118,7 +118,7 @@ returns-then-not-page-clause-told g c =
         last = last;
         behind_is = refl;
       };
-    }) c.begin.ensures.told
+    }) c.begin_behind.ensures.told
 
 pub pages-preserved : goal.pages-preserved
 pages-preserved g c =
@@ -169,8 +169,8 @@ keep-requires g c =
       first = subst (λ (t : GotMessage). page.first ≡ Some t) (sym c.in-Some-first.got-is) c.in-Some-first.is;
     })
 
-pub begin-requires : goal.begin-requires
-begin-requires g c =
+pub begin_behind-requires : goal.begin_behind-requires
+begin_behind-requires g c =
     let kept = c.args.kept in
     let stream = kept.claim.stream in
     let first = c.in-Taking.first in
