@@ -66,8 +66,8 @@ class Sender(Door):
 
     def put(self, name, message):
         """Puts this, if nothing was put under this name or that is gone, and answers what is known of it, as `outcome` does."""
-        if len(message) > 1024:
-            raise ValueError("a message has 1,024 bytes at most")
+        if not isinstance(message, bytes) or len(message) > 1024:
+            raise ValueError("a message is bytes, 1,024 at most")
         self.base.execute("INSERT OR IGNORE INTO puts (name, message) VALUES (?, ?)", (name, message))
         if self.base.execute("SELECT message FROM puts WHERE name = ?", (name,)).fetchone() != (message,):
             raise ValueError(f"another message was put as {name}")
@@ -78,6 +78,7 @@ class Sender(Door):
             self.base.execute("UPDATE puts SET state = 'asked', life = ?, number = ?, by = ? WHERE name = ?", (*self.claim("put"), name))
             self.finish()
             state, again = self.outcome(name), ("new",)
+            time.sleep(0.1 if state in again else 0)
         return state
 
     def finish(self):
@@ -109,11 +110,15 @@ class Receiver(Door):
         while True:
             life, number, by, behind = self.base.execute("SELECT * FROM takes").fetchone()
             status, fields, told = self.ask("POST", f"{self.stream}/take?life={life}&by={by}&number={number}&wait={wait}", (200, 204, 410))
+            if status == 200 and (f"/v1/streams/{fields['Amo-Stream']}", fields["Amo-Number"]) != (self.stream, str(number)):
+                raise RuntimeError(f"what came is no answer to the take of number {number}")
             if status != 410:
                 return (int(fields["Amo-Line"]), told) if status == 200 else None
             # That life is over. What was taken in it, and is not done, comes before anything is taken in the next.
             if missed := self.missed(behind):
                 return missed
+            # A host that starts again and again is not asked without a pause.
+            time.sleep(0.1)
             self.base.execute("UPDATE takes SET life = ?, number = ?, by = ?", self.claim("taken"))
 
     def missed(self, behind):

@@ -6,7 +6,10 @@
 # is started or goes on behind that would put it twice.
 # A stream has to have one writer, which ends one FILE, with status 0, before it begins the next. Behind a start of the host the answer is about whatever was put
 # under the number of the call: of another writer, or of a later FILE, it would be told as if this message had been put.
-set -eu
+# What the door answers is not trusted: what is no life and no number goes into no sum and into no address.
+set -euC
+LC_ALL=C
+export LC_ALL
 
 url=$1 stream=$2 file=$3 text=$4
 
@@ -15,15 +18,26 @@ member() {
     sed 's/.*"'"$1"'":"\{0,1\}\([^",}]*\).*/\1/'
 }
 
+# Ends where the door's answer is none.
+strange() {
+    echo "put.sh: what came is no answer of a sender's door: nothing was put" >&2
+    exit 1
+}
+
 # One at a time has FILE: who waited here may find what the one before it was told. A call that is on its way when its script is killed has it until it ends.
 exec 9>>"$file.lock"
 flock 9
 
 [ ! -e "$file.done" ] || exec cat "$file.done"
+# What a kill left of these, or somebody else put there, is not written through.
+rm -f "$file.new" "$file.answer"
 if [ ! -e "$file" ]; then
     state=$(curl -sSf --retry 9 --retry-connrefused "$url/v1/streams/$stream")
     life=$(printf %s "$state" | member life)
-    number=$(($(printf %s "$state" | member put) + 1))
+    last=$(printf %s "$state" | member put)
+    case $life in '' | *[!A-Za-z0-9_-]*) strange ;; esac
+    case $last in '' | *[!0-9]* | 0?*) strange ;; esac
+    number=$((last + 1))
     by=$(od -An -N12 -tx1 /dev/urandom | tr -d ' \n')
     printf '%s\n' "/v1/streams/$stream/messages/$number?life=$life&by=$by" >"$file.new"
     sync "$file.new"
@@ -40,6 +54,8 @@ if [ "$status" = 410 ]; then
     case $(member outcome <"$file.answer") in
     never | gone)
         rm "$file.answer" "$file"
+        # A door that answers each call like that is not asked without a pause.
+        sleep 1
         exec "$0" "$@"
         ;;
     got | open | unknown | settled) status=200 ;;

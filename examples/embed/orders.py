@@ -9,6 +9,7 @@ An order is new, sent (nothing is known of it yet), done, or in doubt: it may ha
 """
 
 import json
+import queue
 import sqlite3
 import subprocess
 import sys
@@ -58,14 +59,27 @@ def settle(orders, amo, journal, peer):
         orders.mark(number, {"got": "done", "gone": "new", "open": "sent"}.get(outcome, "doubt"), line)
 
 
+def read(lines, answers):
+    """Hands on each line, and that there is none any more, whatever ended the reading: else who waits for one would wait for ever."""
+    try:
+        for line in lines:
+            answers.put(line)
+    finally:
+        answers.put(None)
+
+
 def start(command):
     """Starts a host, and waits until it has its journal. One of an earlier life of this program may still have it: that one ends with its input."""
     while True:
-        host = subprocess.Popen([*command, "--json"], stdin=subprocess.PIPE, stdout=subprocess.PIPE, stderr=subprocess.PIPE, text=True)
+        host = subprocess.Popen([*command, "--json"], stdin=subprocess.PIPE, stdout=subprocess.PIPE, stderr=subprocess.PIPE, encoding="utf-8", errors="replace")
         for line in host.stderr:
             sys.stderr.write(line)
             if line.startswith("amo: listens on"):
                 threading.Thread(target=sys.stderr.writelines, args=[host.stderr], daemon=True).start()
+                # It waits for who reads its answers, and takes no line meanwhile: they are read while lines are handed on.
+                answers = queue.SimpleQueue()
+                threading.Thread(target=read, args=[host.stdout, answers], daemon=True).start()
+                host.answers = iter(answers.get, None)
                 return host
         if host.wait() == 2:
             sys.exit("the host refuses its arguments")
@@ -77,7 +91,7 @@ def send(orders, journal, peer, command):
     host, sent = start(command), {}
 
     def hand_on(stream):
-        if new := next(queue, None):
+        if new := next(left, None):
             # First the table: were the line first, and this program killed behind it, the order would be sent again.
             orders.mark(new[0], "sent")
             sent[new[0]] = None
@@ -86,10 +100,10 @@ def send(orders, journal, peer, command):
     try:
         time.sleep(0.2)  # It notes the crash before it: what waited then is gone.
         settle(orders, command[0], journal, peer)
-        queue = iter(orders.of("new"))
+        left = iter(orders.of("new"))
         for stream in range(1, int(command[command.index("--streams") + 1]) + 1):
             hand_on(stream)
-        while sent and (line := host.stdout.readline()):
+        while sent and (line := next(host.answers, None)):
             told = json.loads(line)
             if told["event"] == "refused":
                 sys.exit(f"order {told.get('id')}: {told['reason']}")
