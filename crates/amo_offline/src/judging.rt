@@ -11,10 +11,11 @@ use crate::pieces::Journal;
 use crate::watched::Watched;
 use amo_audit::{
     Judgement, PiecesAudit, Reach, Verdict, Whose, audit, audit_alone, explain, explain_both,
-    outcomes_of, report, tell, tell_judgement, whose_are,
+    merge, outcomes_of, report, tell, tell_judgement, whose_are,
 };
-use amo_journal::{JournalFault, open, read_journal};
+use amo_journal::{JournalFault, read_journal};
 use amo_text::Out;
+use amo_world::Event;
 use std::cell::Cell;
 use std::fs::File;
 use std::io;
@@ -120,21 +121,19 @@ fn add_piece(audit: &mut PiecesAudit, file: &mut File) -> io::Result<()>
     Ok(())
 }
 
-/// Tells where the line stands that was named of a journal in pieces, or where two journals are at fault of which one is in pieces.
+/// Tells where the line stands that was named of a journal in pieces, or where two journals are at fault.
 fn tell_place<R: AllocGlobal + Eprint>(rt: &R, first: &Journal, second: Option<&Journal>) {
     match second {
-        Some(second) if first.is_in_pieces() || second.is_in_pieces() => {
-            tell_place_in_two(rt, first, second);
-        }
+        Some(second) => tell_place_in_two(rt, first, second),
         None if first.is_in_pieces() => {
             first.tell_place(rt, line_of(audit(rt.alloc(), first.text())));
         }
-        _ => {}
+        None => {}
     }
 }
 
-/// Tells where two journals are at fault: the line at which one is no journal, or goes on with what the other one has not sent; or the first
-/// line of each that is at fault whatever the other one says.
+/// Tells where two journals are at fault: the line at which one is no journal, or goes on with what the other one has not sent; or that of the event which is
+/// at fault in both together.
 fn tell_place_in_two<R: AllocGlobal + Eprint>(rt: &R, first: &Journal, second: &Journal) {
     match outcomes_of(rt.alloc(), first.text(), second.text()) {
         Ok(told) => match told.reach {
@@ -156,12 +155,73 @@ fn tell_place_judged<R: AllocGlobal + Eprint>(
     match judgement {
         Judgement::First(verdict) => first.tell_place(rt, line_of(verdict)),
         Judgement::Second(verdict) => second.tell_place(rt, line_of(verdict)),
-        Judgement::Whole(_) => {
+        Judgement::Whole(verdict) => tell_place_merged(rt, line_of(verdict), first, second),
+        Judgement::Shared | Judgement::Stuck => {}
+    }
+}
+
+/// Tells where the event stands that has this line where two journals are merged. Where they do not merge to their ends it tells the first line of each that is at
+/// fault whatever the other one says.
+fn tell_place_merged<R: AllocGlobal + Eprint>(
+    rt: &R,
+    line: usize,
+    first: &Journal,
+    second: &Journal,
+) {
+    match merged_place(rt, line, first, second) {
+        Some(MergedPlace::First(line)) => first.tell_place(rt, line),
+        Some(MergedPlace::Second(line)) => second.tell_place(rt, line),
+        None => {
             first.tell_place(rt, fault_alone_at(rt, first));
             second.tell_place(rt, fault_alone_at(rt, second));
         }
-        Judgement::Shared | Judgement::Stuck => {}
     }
+}
+
+/// In which of two journals an event stands, and at which line.
+enum MergedPlace {
+    First(usize),
+    Second(usize),
+}
+
+/// Where the event stands that has this line where two journals are merged.
+fn merged_place<R: AllocGlobal>(
+    rt: &R,
+    line: usize,
+    first: &Journal,
+    second: &Journal,
+) -> Option<MergedPlace> {
+    let ours = read_journal(rt.alloc(), first.text()).ok()?;
+    let theirs = read_journal(rt.alloc(), second.text()).ok()?;
+    let merged = merge(rt.alloc(), ours.as_slice(), theirs.as_slice()).ok()?;
+    let headings = (first.heading_lines(), second.heading_lines());
+    let place = line.checked_sub(headings.0.max(headings.1).saturating_add(1))?;
+    let event = merged.as_slice().get(place)?;
+    let mut of_first = 0;
+    for earlier in &merged.as_slice()[..place] {
+        if is_next(ours.as_slice(), of_first, earlier) {
+            of_first = of_first.saturating_add(1);
+        }
+    }
+    if is_next(ours.as_slice(), of_first, event) {
+        Some(MergedPlace::First(line_behind(headings.0, of_first)))
+    } else {
+        let of_second = place.saturating_sub(of_first);
+        Some(MergedPlace::Second(line_behind(headings.1, of_second)))
+    }
+}
+
+/// Whether this event of two journals that are merged is the one that stands at this place of the first of them: a side of a stream has events in one alone.
+fn is_next(events: &[Event], place: usize, event: &Event) -> bool {
+    match events.get(place) {
+        Some(next) => next.side == event.side && next.stream == event.stream,
+        None => false,
+    }
+}
+
+/// The line, from 1, of the event that stands behind so many lines of a heading and so many events.
+fn line_behind(heading: usize, events: usize) -> usize {
+    heading.saturating_add(events).saturating_add(1)
 }
 
 /// The first line of a journal with a wrong reply, or with a word that is used again; or 0.
@@ -169,10 +229,9 @@ fn fault_alone_at<R: AllocGlobal>(rt: &R, journal: &Journal) -> usize {
     let Ok(events) = read_journal(rt.alloc(), journal.text()) else {
         return 0;
     };
-    let heading = open(journal.text()).version.lines_before();
     match line_of(audit_alone(rt.alloc(), events.as_slice())) {
         0 => 0,
-        line => line.saturating_add(heading),
+        line => line.saturating_add(journal.heading_lines()),
     }
 }
 

@@ -153,9 +153,11 @@ impl Names {
 
     /// Whether it can be read again where a line is to be found: where it is in several files, none of these is a pipe or a device.
     pub(crate) fn can_be_read_again<R: Files>(&self, rt: &R) -> bool {
-        if !self.are_several() {
-            return true;
-        }
+        !self.are_several() || self.are_files(rt)
+    }
+
+    /// Whether each of them is a file, and no pipe, device or directory.
+    pub(crate) fn are_files<R: Files>(&self, rt: &R) -> bool {
         for name in &self.pieces {
             if !is_file(rt, name.as_str()) {
                 return false;

@@ -2,9 +2,11 @@
 use crate::fault::OfflineFault;
 use crate::identity::length_on_disk;
 use crate::names::{Names, open_piece};
-use amo_journal::open;
+use amo_journal::{Lines, open, read_line};
+use amo_object::End;
 use amo_pieces::Pieces;
 use amo_telling::whole_lines;
+use amo_text::next_line;
 use std::fs::File;
 use std::io::{self, Read, Take};
 use std::rt::Files;
@@ -89,6 +91,11 @@ impl Journal {
         }
     }
 
+    /// How many lines stand in front of those of its events.
+    pub(crate) fn heading_lines(&self) -> usize {
+        open(self.text()).version.lines_before()
+    }
+
     /// The name beside which its file of lives stands: of a list that of the last piece, else its own.
     pub(crate) fn name_of_lives(&self) -> &str {
         self.names.name_of_lives()
@@ -97,6 +104,23 @@ impl Journal {
     /// Whether it is in more files than one.
     pub(crate) fn is_in_pieces(&self) -> bool {
         self.names.are_several()
+    }
+
+    /// Whether its files can be read again, since none of them is a pipe or a device.
+    pub(crate) fn can_be_read_again<R: Files>(&self, rt: &R) -> bool {
+        self.names.are_files(rt)
+    }
+
+    /// Whether its first event is a sender's.
+    pub(crate) fn is_of_sender<R: AllocGlobal>(&self, rt: &R) -> Result<bool, OfflineFault> {
+        let Lines { version, text } = open(self.text());
+        let Some((line, _)) = next_line(text) else {
+            return Ok(false);
+        };
+        match read_line(rt.alloc(), version, line)? {
+            Some(read) => Ok(read.event.side == End::Sender),
+            None => Ok(false),
+        }
     }
 
     /// Tells on standard error in which piece this line of its text stands, if it is a line, and which line of the piece that is.

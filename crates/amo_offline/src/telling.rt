@@ -40,14 +40,13 @@ pub fn tell_outcomes_of<R: AllocGlobal + Eprint + Files<File = File> + Print, E:
     };
     match settings.second.as_ref() {
         Some(file) => {
-            // That a receiver got a message is not told before its line is sure to stay.
-            let first = Journal::read_kept(rt, settings.first.as_str())?;
-            let second = Journal::read_kept(rt, file.as_str())?;
+            let names = [settings.first.as_str(), file.as_str()];
+            let ([first, second], later) = read_both(rt, names)?;
             let doubts = Doubts::read(rt, first.name_of_lives())?;
             let others = Doubts::read(rt, second.name_of_lives())?;
             let sides = [
-                Side::new(&first, settings.first.as_str(), &doubts, &others),
-                Side::new(&second, file.as_str(), &others, &doubts),
+                Side::new(&first, names[0], &doubts, &others, later == Later::First),
+                Side::new(&second, names[1], &others, &doubts, later == Later::Second),
             ];
             let status = tell_outcomes_by_both(rt, sides, choice, errors)?;
             first.tell_missing(rt);
@@ -63,6 +62,29 @@ pub fn tell_outcomes_of<R: AllocGlobal + Eprint + Files<File = File> + Print, E:
     }
 }
 
+/// Which of two journals was read later.
+#[derive(Clone, Copy, PartialEq, Eq)]
+enum Later {
+    First,
+    Second,
+}
+
+/// Reads what is on the disk of the journals of these names: that a message was got is not told before its line is sure to stay. A sender's is read later
+/// than its receiver's, so that it has each line whose packet that one delivers, while both are written, too. A pipe is read once, and so may be earlier.
+fn read_both<R: AllocGlobal + Files<File = File>>(
+    rt: &R,
+    names: [&str; 2],
+) -> Result<([Journal; 2], Later), OfflineFault> {
+    let second = Journal::read_kept(rt, names[1])?;
+    let first = Journal::read_kept(rt, names[0])?;
+    if second.is_of_sender(rt)? && second.can_be_read_again(rt) {
+        drop(second);
+        let second = Journal::read_kept(rt, names[1])?;
+        return Ok(([first, second], Later::Second));
+    }
+    Ok(([first, second], Later::First))
+}
+
 /// One of two journals.
 #[derive(Clone, Copy)]
 struct Side<'a> {
@@ -70,11 +92,19 @@ struct Side<'a> {
     name: &'a str,
     doubts: &'a Doubts,
     spans: &'a [Span],
+    /// Whether it was read later than the other one.
+    is_later: bool,
 }
 
 impl<'a> Side<'a> {
     /// The journal of this name, with its own doubtful lines; where the other journal has any, each line is doubtful.
-    fn new(journal: &'a Journal, name: &'a str, doubts: &'a Doubts, others: &Doubts) -> Side<'a> {
+    fn new(
+        journal: &'a Journal,
+        name: &'a str,
+        doubts: &'a Doubts,
+        others: &Doubts,
+        is_later: bool,
+    ) -> Side<'a> {
         let spans = if others.spans().is_empty() {
             doubts.spans()
         } else {
@@ -85,14 +115,23 @@ impl<'a> Side<'a> {
             name,
             doubts,
             spans,
+            is_later,
         }
     }
 
-    /// Its whole lines. The host may be at work, and writing the last one.
+    /// Its whole lines. The host may be at work, and writing the last one. Where it was read later and the other journal goes on all the same, it has lost lines.
     fn asked(&self) -> Asked<'a> {
         Asked {
             bytes: self.journal.lines(),
             doubts: self.spans,
+            if_short: if self.is_later { EVERY_LINE } else { self.spans },
+        }
+    }
+
+    /// Tells that it has lost lines, if it was read later than the other one, which goes on.
+    fn tell_short<R: Eprint>(&self, rt: &R) {
+        if self.is_later {
+            let _ = rt.eprintln(Told::Short(self.name));
         }
     }
 }
@@ -127,8 +166,14 @@ fn tell_outcomes_by_both<R: AllocGlobal + Eprint + Print, E: Write + Drop>(
 fn tell_reach<R: Eprint>(rt: &R, first: Side<'_>, second: Side<'_>, reach: Reach) {
     match reach {
         Reach::Whole => {}
-        Reach::First(line) => tell_end(rt, first.journal, first.name, line),
-        Reach::Second(line) => tell_end(rt, second.journal, second.name, line),
+        Reach::First(line) => {
+            tell_end(rt, first.journal, first.name, line);
+            second.tell_short(rt);
+        }
+        Reach::Second(line) => {
+            tell_end(rt, second.journal, second.name, line);
+            first.tell_short(rt);
+        }
     }
     first.doubts.tell_lack(rt);
     second.doubts.tell_lack(rt);
@@ -159,6 +204,7 @@ fn tell_outcomes_by_one<R: AllocGlobal + Eprint + Files<File = File> + Print, E:
     let asked = Asked {
         bytes: journal.lines(),
         doubts: doubts.spans(),
+        if_short: doubts.spans(),
     };
     match write_outcomes_alone::<R, Brand>(rt, asked, choice, Blank::new(1))? {
         SenderFound::Good => {
@@ -195,7 +241,11 @@ fn tell_outcomes_within<R: AllocGlobal + Eprint + Print, E: Write + Drop>(
 
 /// A journal of which no line is doubtful.
 fn without_doubts(bytes: &[u8]) -> Asked<'_> {
-    Asked { bytes, doubts: &[] }
+    Asked {
+        bytes,
+        doubts: &[],
+        if_short: &[],
+    }
 }
 
 /// Tells the verdict on a journal, and in which piece the line stands that it names, and answers the status to end with.
@@ -259,6 +309,9 @@ enum Told<'a> {
     /// In the file of this name, nothing is told of this line and of those behind it.
     #[error("amo: {0}: not told from line {1} on: it delivers what the other journal has not sent")]
     Further(&'a str, usize),
+    /// The file of this name has lost lines.
+    #[error("amo: {0}: it lacks lines, as one that was restored from a copy does: none of its puts is told to be gone")]
+    Short(&'a str),
     /// The file of this name has the lines of one side.
     #[error("amo: {0}: one side's journal: with the other side's too, each put is got, gone or open")]
     Alone(&'a str),

@@ -21,6 +21,7 @@ use Rattle.amo_audit.specs.Judgement.{AreApart, judgement_status}
 use Rattle.amo_audit.specs.Outcomes.{FindsBoth, GoesOnSoundly}
 use Rattle.amo_audit.specs.Reach.{AreBeginnings, Reaches, counted}
 use Rattle.amo_lives.specs.declared.doubt.Span.{Span}
+use Rattle.amo_telling.specs.declared.asked.Asked.{Asked}
 use Rattle.amo_telling.specs.declared.choice.Choice.{Choice}
 use Rattle.amo_telling.specs.declared.put_outcome.PutOutcome.{PutOutcome}
 use Rattle.amo_telling.specs.declared.put_outcome.PutOutcome.TheVariants.{ByBoth, BySender, InDoubt}
@@ -156,7 +157,21 @@ pub record IsTelling (reach : Reach) (choice : Choice) (first second : List ℕ)
       × Tells (IsKnownOfSecond found (reverse merged) y) (by choice doubts') [] their_front of_second
   pub is : text ≡ of_first ++ of_second
 
+-- the doubtful lines of the first of two journals, and of the second, where there are others if the other one goes on behind it
+abbrev pub first_doubts : Reach → List Span → List Span → List Span
+first_doubts (Second line) doubts if_short = if_short
+first_doubts _ doubts if_short = doubts
+
+abbrev pub second_doubts : Reach → List Span → List Span → List Span
+second_doubts (First line) doubts if_short = if_short
+second_doubts _ doubts if_short = doubts
+
+-- the text tells of two journals that were asked, where both are judged so far
+abbrev pub IsToldOf : Reach → Choice → Asked → Asked → List ℕ → Type 0
+IsToldOf reach choice first second text = IsTelling reach choice first.bytes.now second.bytes.now (first_doubts reach first.doubts.now first.if_short.now)
+    (second_doubts reach second.doubts.now second.if_short.now) text
+
 -- what is written where this is told
-abbrev pub TellsIf : Telling → Choice → List ℕ → List ℕ → List Span → List Span → List ℕ → Type 0
-TellsIf (Told reach) choice first second doubts doubts' text = IsTelling reach choice first second doubts doubts' text
-TellsIf (Nothing judgement) choice first second doubts doubts' text = (text ≡ []) × FindsBoth first second judgement × (judgement_status judgement ≢ 4)
+abbrev pub TellsIf : Telling → Choice → Asked → Asked → List ℕ → Type 0
+TellsIf (Told reach) choice first second text = IsToldOf reach choice first second text
+TellsIf (Nothing judgement) choice first second text = (text ≡ []) × FindsBoth first.bytes.now second.bytes.now judgement × (judgement_status judgement ≢ 4)

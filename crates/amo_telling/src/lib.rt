@@ -11,7 +11,8 @@
 //! - [`Untold`] reads a sender's journal part by part, from where a life begins, and writes a line for each put that no ack answered: what a
 //!   sender that starts again tells. Of lines in front of those it recalls the ones that matter. [`Progress`] is how far it reads.
 //!
-//! Where one of two journals goes on, the other may be a copy that lacks lines, and no put is told to be gone that may have been got there.
+//! Where one of two journals goes on, the other may be a copy that lacks lines, and no put is told to be gone that may have been got there. Who
+//! knows that the other lacks some has none of its own puts told to be gone either ([`Asked::if_short`]).
 //! What a loss of power may have changed is told of no put: of journals of which [`Asked`] names doubtful lines, what would be gone there is unknown.
 //!
 //! The number is that of the line in its journal, as it stands there in front. So it stays the same while a journal goes on, and an

@@ -6,7 +6,7 @@ ghost use Rattle.amo_world.specs.declared.event.Event.{Event};
 ghost use Rattle.amo_journal.specs.Lines.{Tell};
 ghost use Rattle.amo_audit.specs.Judgement.{judgement_status};
 ghost use Rattle.amo_audit.specs.Outcomes.{FindsBoth};
-ghost use Rattle.amo_telling.specs.Outcomes.{IsTelling, TellsIf, by};
+ghost use Rattle.amo_telling.specs.Outcomes.{IsToldOf, TellsIf, by};
 ghost use Rattle.amo_telling.specs.Told.{TellsOne, first_ends, second_ends};
 
 use crate::further::{follow_senders, told_further};
@@ -28,7 +28,8 @@ const NO_MEMORY: u8 = 4;
 /// answer tells how far the beginnings reach, as [`amo_audit::outcomes_of`] has it.
 ///
 /// Where one of them goes on behind these, the other one may be a copy that lacks lines. So a put of the one that goes on is told to be got where
-/// any event of it says so, as an ack does, and none that it says was sent is told to be gone.
+/// any event of it says so, as an ack does, and none that it says was sent is told to be gone. Of the other one the doubtful lines are those of
+/// [`Asked::if_short`].
 ///
 /// Of files with a fault, whatever follows in them, nothing is written. The answer is what is found of both, which
 /// [`amo_audit::tell_judgement`] tells.
@@ -41,10 +42,10 @@ pub fn tell_outcomes<W: Sink>(
     choice: Choice,
     sink: &mut W,
 ) -> Result<Telling, JournalFault>
-    ensures told { IfOk result (λ telling. (text : List ℕ) × TellsIf telling choice first.entry.bytes.now second.entry.bytes.now first.entry.doubts.now second.entry.doubts.now text
+    ensures told { IfOk result (λ telling. (text : List ℕ) × TellsIf telling choice first.entry second.entry text
         × Appends (W.written sink.old) (W.written sink.new) text) }
     ensures begun { OnErr result (Keeps (W.written sink.old) (W.written sink.new)
-        ⊎ ((text : List ℕ) × ((reach : Reach) × IsTelling reach choice first.entry.bytes.now second.entry.bytes.now first.entry.doubts.now second.entry.doubts.now text)
+        ⊎ ((text : List ℕ) × ((reach : Reach) × IsToldOf reach choice first.entry second.entry text)
         × AppendsFront (W.written sink.old) (W.written sink.new) text)) }
     ensures refused { IsErrOf result JournalFault.NoMemory → Keeps (W.written sink.old) (W.written sink.new) }
     ensures faults { IfErr result (λ fault. (fault ≡ JournalFault.NoMemory) ⊎ (fault ≡ JournalFault.Device)) }
@@ -71,14 +72,14 @@ fn text_of(
     second: Asked<'_>,
     choice: Choice,
 ) -> Result<(Vec<u8>, Reach), Judgement>
-    ensures told { IfOk result (λ told. IsTelling told.1 choice first.entry.bytes.now second.entry.bytes.now first.entry.doubts.now second.entry.doubts.now told.0.items) }
+    ensures told { IfOk result (λ told. IsToldOf told.1 choice first.entry second.entry told.0.items) }
     ensures found { IfErr result (FindsBoth first.entry.bytes.now second.entry.bytes.now) }
 {
     let told = outcomes_of(alloc, first.bytes, second.bytes)?;
     match told_of_both(
         alloc,
-        (open(first.bytes), first.doubts),
-        (open(second.bytes), second.doubts),
+        (open(first.bytes), first.doubts_of_first(told.reach)),
+        (open(second.bytes), second.doubts_of_second(told.reach)),
         told.reach,
         choice,
         told.all.as_slice(),
