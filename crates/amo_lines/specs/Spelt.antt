@@ -59,13 +59,18 @@ abbrev pub word_of : Bool → Word
 word_of true = word.Yes
 word_of false = word.No
 
+-- the front of the object that shows a message which was got by this line of the journal
+abbrev pub got_front : ℕ → ℕ → List ℕ
+got_front stream line = codes "{\"number\":" ++ decimal line ++ codes ",\"stream\":" ++ decimal stream ++ codes ",\"event\":\"got\","
+
 -- the line of a message that is shown as a text
-abbrev pub text_line : Spelling → ℕ → List ℕ → List ℕ
-text_line spelling stream message = if spelling.json then object_front stream None ++ codes "got\",\"text\":\"" ++ flat_map escaped message ++ codes "\"}\n" else (decimal stream ++ codes " " ++ message ++ codes "\n")
+abbrev pub text_line : Spelling → ℕ → ℕ → List ℕ → List ℕ
+text_line spelling stream line message =
+    if spelling.json then got_front stream line ++ codes "\"text\":\"" ++ flat_map escaped message ++ codes "\"}\n" else (decimal stream ++ codes " " ++ message ++ codes "\n")
 
 -- the line of a message that is shown in HEX
-abbrev pub hex_line : Spelling → ℕ → List ℕ → List ℕ
-hex_line spelling stream message = if spelling.json then object_front stream None ++ codes "got\",\"hex\":\"" ++ hex message ++ codes "\"}\n" else (decimal stream ++ codes " 0x" ++ hex message ++ codes "\n")
+abbrev pub hex_line : Spelling → ℕ → ℕ → List ℕ → List ℕ
+hex_line spelling stream line message = if spelling.json then got_front stream line ++ codes "\"hex\":\"" ++ hex message ++ codes "\"}\n" else (decimal stream ++ codes " 0x" ++ hex message ++ codes "\n")
 
 -- whether a character is not shown as it is: on a line a control character, but for a tab; in an object the same of the characters of one byte, and a tab
 abbrev pub is_hidden : Bool → ℕ → Bool
@@ -75,6 +80,6 @@ is_hidden json c = if json then is_ascii_control c else (is_control c && not (c 
 abbrev pub is_text : Bool → List ℕ → Bool
 is_text json message = is_utf8 message && not (list_any (is_hidden json) (chars message))
 
--- the line of a message: of its text, if it is one, and else in HEX
-abbrev pub message_line : Spelling → ℕ → List ℕ → List ℕ
-message_line spelling stream message = if is_text spelling.json message then text_line spelling stream message else hex_line spelling stream message
+-- what shows a message that was got by this line of the journal: its text, if it is one, and else HEX
+abbrev pub message_line : Spelling → ℕ → ℕ → List ℕ → List ℕ
+message_line spelling stream line message = if is_text spelling.json message then text_line spelling stream line message else hex_line spelling stream line message

@@ -3,7 +3,7 @@ ghost use Rattle.std.specs.Prelude.{◌≡◌, ◌++◌, IfOk, OnOk};
 ghost use Rattle.std.specs.List.{flat_map, list_any};
 ghost use Rattle.std.specs.Str.{chars};
 ghost use Rattle.amo_lines.specs.Line.{BlamesField, NamesBy, ReadsAs, ReadsPlain};
-ghost use Rattle.amo_lines.specs.Spelt.{escaped, hex_line, id_member, is_hidden, is_text, message_line, object_front, ok_line, refused_front, refused_line, settled_line, text_line, word_line, word_of, word_text};
+ghost use Rattle.amo_lines.specs.Spelt.{escaped, got_front, hex_line, id_member, is_hidden, is_text, message_line, object_front, ok_line, refused_front, refused_line, settled_line, text_line, word_line, word_of, word_text};
 
 use crate::id::Id;
 use crate::object::read_object;
@@ -236,19 +236,21 @@ fn push_refused_front(shown: &mut Vec<u8>, id: &Id, line: u64) -> Result<(), All
     push_id(shown, id)
 }
 
-/// Appends the line that shows a message which was got: its text, or its bytes in HEX where they are none, or one that a terminal would not just show.
+/// Appends the line that shows a message which was got: its text, or its bytes in HEX where they are none, or one that a terminal would not just show. An object
+/// has the number of the line, too, by which it stands in the journal.
 pub fn push_message(
     shown: &mut Vec<u8>,
     stream: u32,
+    line: u64,
     message: &Message,
     spelling: Spelling,
 ) -> Result<(), AllocError>
-    ensures { OnOk result (shown.new.items ≡ shown.old.items ++ message_line spelling stream message.now) }
+    ensures { OnOk result (shown.new.items ≡ shown.old.items ++ message_line spelling stream line message.now) }
 {
     if is_text(message.bytes(), spelling.json) {
-        push_text(shown, stream, message.bytes(), spelling)
+        push_text(shown, stream, line, message.bytes(), spelling)
     } else {
-        push_bytes(shown, stream, message.bytes(), spelling)
+        push_bytes(shown, stream, line, message.bytes(), spelling)
     }
 }
 
@@ -256,14 +258,15 @@ pub fn push_message(
 fn push_text(
     shown: &mut Vec<u8>,
     stream: u32,
+    line: u64,
     text: &[u8],
     spelling: Spelling,
 ) -> Result<(), AllocError>
-    ensures { OnOk result (shown.new.items ≡ shown.old.items ++ text_line spelling stream text.now) }
+    ensures { OnOk result (shown.new.items ≡ shown.old.items ++ text_line spelling stream line text.now) }
 {
     if spelling.json {
-        push_object_front(shown, stream, &Id::none())?;
-        shown.extend_from_slice(b"got\",\"text\":\"")?;
+        push_got_front(shown, stream, line)?;
+        shown.extend_from_slice(b"\"text\":\"")?;
         push_escaped(shown, text)?;
         shown.extend_from_slice(b"\"}\n")
     } else {
@@ -278,14 +281,15 @@ fn push_text(
 fn push_bytes(
     shown: &mut Vec<u8>,
     stream: u32,
+    line: u64,
     bytes: &[u8],
     spelling: Spelling,
 ) -> Result<(), AllocError>
-    ensures { OnOk result (shown.new.items ≡ shown.old.items ++ hex_line spelling stream bytes.now) }
+    ensures { OnOk result (shown.new.items ≡ shown.old.items ++ hex_line spelling stream line bytes.now) }
 {
     if spelling.json {
-        push_object_front(shown, stream, &Id::none())?;
-        shown.extend_from_slice(b"got\",\"hex\":\"")?;
+        push_got_front(shown, stream, line)?;
+        shown.extend_from_slice(b"\"hex\":\"")?;
         push_hex(shown, bytes)?;
         shown.extend_from_slice(b"\"}\n")
     } else {
@@ -294,6 +298,17 @@ fn push_bytes(
         push_hex(shown, bytes)?;
         shown.extend_from_slice(b"\n")
     }
+}
+
+/// Appends the front of the object that shows a message, up to that: the number of its line in the journal, its stream, and that it was got.
+fn push_got_front(shown: &mut Vec<u8>, stream: u32, line: u64) -> Result<(), AllocError>
+    ensures { OnOk result (shown.new.items ≡ shown.old.items ++ got_front stream line) }
+{
+    shown.extend_from_slice(b"{\"number\":")?;
+    push_decimal(shown, line)?;
+    shown.extend_from_slice(b",\"stream\":")?;
+    push_decimal(shown, stream as u64)?;
+    shown.extend_from_slice(b",\"event\":\"got\",")
 }
 
 /// Appends the front of an object about a stream, up to what happened.

@@ -223,21 +223,21 @@ one_message : (m n : List ℕ) → Some m ≡ Some n → m ≡ n
 one_message m n e = cc
 
 module _ (spelling : Spelling) (v w : PassState) (stream : ℕ) (old new : Told) where
-  pub get_shows : (answer : Answer) (m : List ℕ) → Some m ≡ message_in answer → Grown v w Receiver stream act.Get answer → new ≡ told_line (message_line spelling stream m) old → ShowsMore spelling v w old new
-  get_shows None m got grown is = absurd (no got)
+  pub get_shows : (answer : Answer) (line : ℕ) (m : List ℕ) → Some m ≡ message_in answer → Grown v w Receiver stream act.Get answer → new ≡ told_line (message_line spelling stream line m) old → ShowsMore spelling v w old new
+  get_shows None line m got grown is = absurd (no got)
     where
       no : Some m ≡ None → ⊥
       no e = cc
-  get_shows (Some (reply.Got n, position)) m got grown is =
-      shows_reply spelling v w old new (event v.number Receiver stream act.Get (reply.Got n)) grown (is ∙ ap (λ (k : List ℕ). told_line (message_line spelling stream k) old) (one_message m n got))
-  get_shows (Some (reply.Ok, position)) m got grown is = cc
-  get_shows (Some (reply.Full, position)) m got grown is = cc
-  get_shows (Some (reply.Down, position)) m got grown is = cc
-  get_shows (Some (reply.Nothing, position)) m got grown is = cc
-  get_shows (Some (reply.Yes, position)) m got grown is = cc
-  get_shows (Some (reply.No, position)) m got grown is = cc
-  get_shows (Some (reply.NotYet, position)) m got grown is = cc
-  get_shows (Some (reply.Done, position)) m got grown is = cc
+  get_shows (Some (reply.Got n, position)) line m got grown is =
+      shows_reply spelling v w old new (event v.number Receiver stream act.Get (reply.Got n)) grown (line, is ∙ ap (λ (k : List ℕ). told_line (message_line spelling stream line k) old) (one_message m n got))
+  get_shows (Some (reply.Ok, position)) line m got grown is = cc
+  get_shows (Some (reply.Full, position)) line m got grown is = cc
+  get_shows (Some (reply.Down, position)) line m got grown is = cc
+  get_shows (Some (reply.Nothing, position)) line m got grown is = cc
+  get_shows (Some (reply.Yes, position)) line m got grown is = cc
+  get_shows (Some (reply.No, position)) line m got grown is = cc
+  get_shows (Some (reply.NotYet, position)) line m got grown is = cc
+  get_shows (Some (reply.Done, position)) line m got grown is = cc
 
   pub nothing_shows : (answer : Answer) → None ≡ message_in answer → Grown v w Receiver stream act.Get answer → new ≡ old → ShowsMore spelling v w old new
   nothing_shows None got grown is = shows_idle spelling v w old new grown is
@@ -319,7 +319,7 @@ module _ (front : List ℕ) where
   says_behind : (spelling : Spelling) (stream : ℕ) (said : Said) (old new : Told) → Says spelling stream said old new → Says spelling stream said (behind front old) (behind front new)
   says_behind spelling stream says_nothing old new told = ap (behind front) told
   says_behind spelling stream says_put old new (id, line, told) = (id, line, ap (behind front) told ∙ ap (λ (l : List ℕ). let t : Told = record { text = l; owed = (told_put spelling stream id line old).owed } in t) (sym (append_assoc front old.text (ok_line spelling stream id line))))
-  says_behind spelling stream (says_message m) old new told = ap (behind front) told ∙ behind_line (message_line spelling stream m) old
+  says_behind spelling stream (says_message m) old new (line, told) = (line, ap (behind front) told ∙ behind_line (message_line spelling stream line m) old)
   says_behind spelling stream (says_answer w) old new told = ap (behind front) told ∙ behind_answer spelling stream w old
 
   tells_behind : (seen : List Event) (spelling : Spelling) (e : Event) (old new : Told) → Tells seen spelling e old new → Tells seen spelling e (behind front old) (behind front new)
@@ -379,7 +379,7 @@ grows_settled false spelling stream told = ([], sym (append-nil told.text))
 grows_said : (spelling : Spelling) (stream : ℕ) (said : Said) (old new : Told) → Says spelling stream said old new → (more : List ℕ) × (new.text ≡ old.text ++ more)
 grows_said spelling stream says_nothing old new told = ([], ap (λ (t : Told). t.text) told ∙ sym (append-nil old.text))
 grows_said spelling stream says_put old new (id, line, told) = (ok_line spelling stream id line, ap (λ (t : Told). t.text) told)
-grows_said spelling stream (says_message m) old new told = (message_line spelling stream m, ap (λ (t : Told). t.text) told)
+grows_said spelling stream (says_message m) old new (line, told) = (message_line spelling stream line m, ap (λ (t : Told). t.text) told)
 grows_said spelling stream (says_answer w) old new told = (word_line spelling stream (first_id stream old.owed) w, ap (λ (t : Told). t.text) told)
 
 grows_told : (seen : List Event) (spelling : Spelling) (e : Event) (old new : Told) → Tells seen spelling e old new → (more : List ℕ) × (new.text ≡ old.text ++ more)

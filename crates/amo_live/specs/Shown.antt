@@ -68,12 +68,12 @@ said_of Ack Yes = says_answer word.Yes
 said_of Ack No = says_answer word.No
 said_of _ _ = says_nothing
 
--- It is told so: of a put by some line of the journal and with the id that it came with, and of an answer with the id of the stream's first message that had
+-- It is told so: of a put and of a get by some line of the journal, of a put with the id that it came with, and of an answer with the id of the stream's first message that had
 -- none.
 abbrev pub Says : Spelling → ℕ → Said → Told → Told → Type 0
 Says spelling stream says_nothing old new = new ≡ old
 Says spelling stream says_put old new = (id : Name) × (line : ℕ) × (new ≡ told_put spelling stream id line old)
-Says spelling stream (says_message m) old new = new ≡ told_line (message_line spelling stream m) old
+Says spelling stream (says_message m) old new = (line : ℕ) × (new ≡ told_line (message_line spelling stream line m) old)
 Says spelling stream (says_answer w) old new = new ≡ told_answer spelling stream w old
 
 -- what a packet tells of so many messages: an ack what it says of them, a line for each; any other nothing

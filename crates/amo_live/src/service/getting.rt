@@ -122,7 +122,7 @@ impl<L: Link, S: Sink, W: Lineage> Service<L, S, W> {
         };
         self.got = self.got.saturating_add(1);
         self.unshown = Some(self.unshown.unwrap_or(line));
-        push_message(&mut self.shown, stream, &message, self.setup.spelling)?;
+        push_message(&mut self.shown, stream, line, &message, self.setup.spelling)?;
         if let Some(lane) = self.lane(stream) {
             let held = lane.held.saturating_sub(1);
             self.set_lane(stream, Lane { held, ..lane });

@@ -24,7 +24,7 @@ returns-clause-shown g c =
     let pass : c.match-lane.self.host.pass ≡ c.get.new.self.pass = elim c.match-lane.branch [ in-Some-lane w ↦ search rules | in_default-lane w ↦ search rules ] in
     let shown : shown_by c.match-lane.self ≡ with_line = elim c.match-lane.branch [ in-Some-lane w ↦ search rules | in_default-lane w ↦ search rules ] in
     shows_as spelling spelling first c.get.new.self.pass first c.match-lane.self.host.pass old with_line old (shown_by c.match-lane.self) refl refl pass refl shown
-    (get_shows spelling first c.get.new.self.pass c.args.stream old with_line answer c.in-Some.message (sym c.in-Some.is ∙ got) grown (ap (λ (l : List ℕ). let t : Told = record { text = l; owed = old.owed } in t) c.in_ok-push_message.ensures))
+    (get_shows spelling first c.get.new.self.pass c.args.stream old with_line answer c.next_line-line.result c.in-Some.message (sym c.in-Some.is ∙ got) grown (ap (λ (l : List ℕ). let t : Told = record { text = l; owed = old.owed } in t) c.in_ok-push_message.ensures))
 
 pub returns-in_default-clause-words : goal.returns-in_default-clause-words
 returns-in_default-clause-words g c =
