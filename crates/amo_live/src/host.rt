@@ -246,13 +246,15 @@ impl<L: Link, S: Durable> Host<L, S> {
 
     /// Hands all packets that are to leave to the link, in their order, and answers how often it failed. Of all that the host did by then
     /// the system has the lines: so each of these packets is one that an event emitted whose line is there, also where this process dies now. Those events
-    /// are all that happened in its book by now, and a right history.
+    /// are all that happened in its book by now, and a right history. The link's device failed no more often than it answers.
     pub fn send(&mut self) -> u64
         requires noted { IsNoted S.written self.old }
         requires flushed { S.flushed self.old.journal.sink ≡ S.written self.old.journal.sink }
         ensures emitted { Each (WasEmitted self.old.pass) self.old.outbox.leaving }
         ensures whole { IsWhole self.new.pass }
         ensures sent { self.new ≡ record self.old { other = self.new.other; link = self.new.link; outbox = record self.old.outbox { leaving = [] } } }
+        ensures counted { L.failures self.new.link ≤ L.failures self.old.link + result }
+        ensures few { result ≤ length self.old.outbox.leaving }
     {
         self.book.meet(&mut self.other, &mut self.pass);
         let leaving = self.outbox.leaving() as u64;

@@ -1,5 +1,5 @@
 //! Packets that are to leave, and those that may leave again.
-ghost use Rattle.std.specs.Prelude.{◌≡◌, ◌<◌, ◌++◌, ◌∷◌, [], take, length, slice_get, Some, true, false, IfOk, OnOk, OnErr};
+ghost use Rattle.std.specs.Prelude.{◌≡◌, ◌<◌, ◌≤◌, ◌+◌, ◌++◌, ◌∷◌, [], take, length, slice_get, Some, true, false, IfOk, OnOk, OnErr};
 ghost use Rattle.amo_book.specs.Book.{Each};
 ghost use Rattle.amo_live.specs.Emitted.{IsRecent, Learns, RecentState, nothing_recent, packet_in};
 
@@ -107,17 +107,19 @@ impl Outbox {
         self.parcels.len()
     }
 
-    /// Hands all packets that are to leave to a link, in their order, and answers how often it failed. Then there are none.
+    /// Hands all packets that are to leave to a link, in their order, and answers how often it failed: its device did so no more often. Then there are none.
     pub fn send<L: Link>(&mut self, link: &mut L) -> u64
-        ensures { self.new ≡ record self.old { leaving = [] } }
+        ensures none { self.new ≡ record self.old { leaving = [] } }
+        ensures counted { L.failures link.new ≤ L.failures link.old + result }
+        ensures few { result ≤ length self.old.leaving }
     {
-        let mut failed = 0u64;
-        for parcel in self.parcels.iter() {
-            if link.send(parcel.bytes()).is_err() {
-                failed = failed.saturating_add(1);
+        let mut failed = 0usize;
+        'parcels: for place in 0..self.parcels.len() {
+            if link.send(self.parcels[place].bytes()).is_err() {
+                failed += 1;
             }
         }
         self.parcels.clear();
-        failed
+        failed as u64
     }
 }
