@@ -137,8 +137,7 @@ pub record HasReceive (rows : List Row) (receive : ReceiveSettings) : Type 0 whe
   pub count : HasNumberOrNone rows (codes "count") receive.count
   pub some : IfSome receive.count (λ count. 1 ≤ count)
 
--- the matches of `serve` have these values, each within its limits. Nothing is shown, in whatever spelling, nor are its figures, and its longest interval is as
--- where none is given.
+-- the matches of `serve` have these values, each within its limits. Nothing is shown, in whatever spelling, nor are its figures
 pub record HasServedHost (rows : List Row) (host : HostSettings) : Type 0 where
   pub listen : HasAddress rows (codes "listen") 0 (string_bytes host.listen)
   pub peer : HasAddress rows (codes "peer") 1 (string_bytes host.peer)
@@ -146,12 +145,12 @@ pub record HasServedHost (rows : List Row) (host : HostSettings) : Type 0 where
   pub streams : HasNumber rows (codes "streams") host.streams
   pub journal : HasJournal rows (string_bytes host.journal)
   pub tick : HasNumber rows (codes "tick") host.tick
+  pub tick_most : HasNumberOrNone rows (codes "tick-most") host.tick_most
   pub sync : HasFlag rows (codes "sync") host.sync
   pub wait : HasNumberOrNone rows (codes "wait") host.wait
   pub piece : HasNumberOrNone rows (codes "piece") host.piece
   pub plain : host.json ≡ false
   pub quiet : host.stats ≡ None
-  pub usual : host.tick_most ≡ None
   pub within : IsHostWithin host
 
 -- the matches of `serve` have this side: a sender takes messages one by one, and may start batches; a receiver takes all that come, batches too

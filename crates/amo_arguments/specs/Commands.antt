@@ -94,6 +94,10 @@ run links =
 abbrev pub placed : Text → App
 placed name = with_rule (with_rule (with_rule (with_rule (new_app name) (text (codes "listen"))) (text (codes "peer"))) (number (codes "streams") 1 256)) (text (codes "journal"))
 
+-- how long a packet of a host waits for its answer, at first and at most
+abbrev pub timed : App → App
+timed app = with_rule (with_rule app tick) (optional_number (codes "tick-most") 1 3600000000)
+
 -- how long a host waits at its end, and how long a piece of its journal is
 abbrev pub limited : App → App
 limited app = with_rule (with_rule app (optional_number (codes "wait") 0 1000000)) (optional_number (codes "piece") 1024 1000000000000)
@@ -101,8 +105,7 @@ limited app = with_rule (with_rule app (optional_number (codes "wait") 0 1000000
 -- and what else both may be told
 abbrev pub host : Text → App
 host name =
-    with_rule (limited (with_rule (with_rule (with_rule (with_rule (placed name) tick) (optional_number (codes "tick-most") 1 3600000000))
-    (flag (codes "json"))) (flag (codes "sync")))) (optional_number (codes "stats") 1 1000000)
+    with_rule (limited (with_rule (with_rule (timed (placed name)) (flag (codes "json"))) (flag (codes "sync")))) (optional_number (codes "stats") 1 1000000)
 
 abbrev pub send : App
 send = with_rule (with_rule (with_rule (with_rule (host (codes "send")) (flag (codes "each"))) (flag (codes "many"))) (flag (codes "batch"))) (flag (codes "hex"))
@@ -116,7 +119,7 @@ stop = with_rule (new_app (codes "stop")) file
 -- a host with a door: its side, its door, and what both hosts of a pair are told
 abbrev pub serve : App
 serve =
-    limited (with_rule (with_rule (with_rule (with_rule (with_rule (with_rule (placed (codes "serve")) (text (codes "side"))) (text (codes "door"))) (optional_text (codes "token-file"))) tick)
+    limited (with_rule (with_rule (timed (with_rule (with_rule (with_rule (placed (codes "serve")) (text (codes "side"))) (text (codes "door"))) (optional_text (codes "token-file"))))
     (flag (codes "batch"))) (flag (codes "sync")))
 
 -- a call of a door: which, with the message of a put, of which stream, by which file and token, and how

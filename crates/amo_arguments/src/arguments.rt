@@ -262,6 +262,7 @@ fn parse_served_host(alloc: Global, matches: &ArgMatches<'_>) -> Result<HostSett
     let streams = number_of(alloc, matches, "streams", 1, STREAMS)?;
     let journal = journal_of(alloc, matches)?;
     let tick = number_of(alloc, matches, "tick", 1, TICK)?;
+    let tick_most = tick_most_of(alloc, matches, tick)?;
     let sync = flag_of(alloc, matches, "sync")?;
     let wait = number_or_none_of(alloc, matches, "wait", 0, WAIT)?;
     let piece = number_or_none_of(alloc, matches, "piece", LEAST_PIECE, PIECE)?;
@@ -271,7 +272,7 @@ fn parse_served_host(alloc: Global, matches: &ArgMatches<'_>) -> Result<HostSett
         streams,
         journal: String::from_str(alloc, journal)?,
         tick,
-        tick_most: None,
+        tick_most,
         json: false,
         sync,
         piece,
@@ -404,30 +405,26 @@ fn parse_host(alloc: Global, matches: &ArgMatches<'_>) -> Result<HostSettings, U
 {
     let json = flag_of(alloc, matches, "json")?;
     let plain = parse_served_host(alloc, matches)?;
-    let (tick_most, stats) = times_of(alloc, matches, plain.tick)?;
+    let stats = number_or_none_of(alloc, matches, "stats", 1, STATS)?;
     Ok(HostSettings {
-        tick_most,
         json,
         stats,
         ..plain
     })
 }
 
-/// The longest interval of a host whose first one is `tick`, and the seconds between its figures.
-fn times_of(
+/// The longest interval of a host whose first one is `tick`.
+fn tick_most_of(
     alloc: Global,
     matches: &ArgMatches<'_>,
     tick: u32,
-) -> Result<(Option<u64>, Option<u64>), Unfit>
-    ensures ceiling { IfOk result (λ times. HasNumberOrNone (rows_of (found_of matches.now)) (codes "tick-most") times.0) }
-    ensures fits { IfOk result (λ times. IfSome times.0 (λ most. (1 ≤ most) × (most ≤ 3600000000) × (tick ≤ most))) }
-    ensures stats { IfOk result (λ times. HasNumberOrNone (rows_of (found_of matches.now)) (codes "stats") times.1) }
-    ensures often { IfOk result (λ times. IfSome times.1 (λ stats. (1 ≤ stats) × (stats ≤ 1000000))) }
+) -> Result<Option<u64>, Unfit>
+    ensures ceiling { IfOk result (HasNumberOrNone (rows_of (found_of matches.now)) (codes "tick-most")) }
+    ensures fits { IfOk result (λ most. IfSome most (λ most. (1 ≤ most) × (most ≤ 3600000000) × (tick ≤ most))) }
 {
     let most = number_or_none_of(alloc, matches, "tick-most", 1, TICK_MOST)?;
     check_ceiling(alloc, tick, most)?;
-    let stats = number_or_none_of(alloc, matches, "stats", 1, STATS)?;
-    Ok((most, stats))
+    Ok(most)
 }
 
 /// The text of an argument of a command.

@@ -184,7 +184,7 @@ fn receive<'a>(alloc: Global) -> Description<'a>
 fn serve<'a>(alloc: Global) -> Description<'a>
     ensures { described.Describes described.serve result.command }
 {
-    let served = placed(
+    let asked = placed(
         alloc,
         "serve",
         texts::SERVE_ABOUT,
@@ -208,18 +208,18 @@ fn serve<'a>(alloc: Global) -> Description<'a>
         "token-file",
         "FILE",
         "The token that each request has to bring stands there",
-    ))
-    .arg(tick(alloc))
-    .flag(
-        alloc,
-        "batch",
-        "Sends the messages that wait on a stream together, up to four",
-    )
-    .flag(
-        alloc,
-        "sync",
-        "Puts the journal on its disk before answers and packets leave",
-    );
+    ));
+    let served = timed(alloc, asked)
+        .flag(
+            alloc,
+            "batch",
+            "Sends the messages that wait on a stream together, up to four",
+        )
+        .flag(
+            alloc,
+            "sync",
+            "Puts the journal on its disk before answers and packets leave",
+        );
     limited(alloc, served)
 }
 
@@ -288,29 +288,21 @@ fn host<'a>(
 ) -> Description<'a>
     ensures { described.Describes (described.host name.entry.now) result.command }
 {
-    let timed = placed(
+    let here = placed(
         alloc,
         name,
         about,
         after_help,
         "Where it listens, as 127.0.0.1:7001",
-    )
-    .arg(tick(alloc))
-    .optional_number(
-        alloc,
-        "tick-most",
-        "MICROSECONDS",
-        1,
-        TICK_MOST,
-        "How long it waits at most before it is sent once more, 1 to 3600000000; 64 ticks if absent",
-    )
-    .flag(alloc, "json", "Prints each line as a JSON object")
-    .flag(
-        alloc,
-        "sync",
-        "Puts the journal on its disk before packets leave",
     );
-    limited(alloc, timed).optional_number(
+    let shown = timed(alloc, here)
+        .flag(alloc, "json", "Prints each line as a JSON object")
+        .flag(
+            alloc,
+            "sync",
+            "Puts the journal on its disk before packets leave",
+        );
+    limited(alloc, shown).optional_number(
         alloc,
         "stats",
         "SECONDS",
@@ -347,6 +339,20 @@ fn placed<'a>(
             "FILE",
             "Its journal, which is begun, or gone on with",
         )
+}
+
+/// This command with how long a packet waits for its answer, at first and at most.
+fn timed<'a>(alloc: Global, description: Description<'a>) -> Description<'a>
+    ensures { (app : App) → described.Describes app description.entry.command → described.Describes (described.timed app) result.command }
+{
+    description.arg(tick(alloc)).optional_number(
+        alloc,
+        "tick-most",
+        "MICROSECONDS",
+        1,
+        TICK_MOST,
+        "How long it waits at most before it is sent once more, 1 to 3600000000; 64 ticks if absent",
+    )
 }
 
 /// This command with how long a host waits at its end, and how long a piece of its journal is.

@@ -192,7 +192,8 @@ pub(crate) const RECEIVE_ABOUT: &str =
 pub(crate) const RECEIVE_AFTER_HELP: &str =
     "Output, a line for each message that it got, in the order put of each stream:
   STREAM TEXT    or STREAM 0xHEX where it is no UTF-8 or has a control character other than a tab
-With --json: {\"stream\":1,\"event\":\"got\",\"text\":\"TEXT\"}, or \"hex\":\"HEX\" in place of the text.
+With --json: {\"number\":12,\"stream\":1,\"event\":\"got\",\"text\":\"TEXT\"}, or \"hex\":\"HEX\" in place of
+the text, with the number of its line in the journal.
 
 The host reads no standard input. It ends once it got as many messages as --count says, and those
 that came in one batch with the last of them, and then waits for what is still on its way: as long as
@@ -276,7 +277,8 @@ Give the address by the name or number by which it is asked: a request for anoth
 
 ADDR is HOST:PORT. What comes from elsewhere than from --peer is dropped, but nothing is authenticated:
 use a network that keeps forgers out. An answer leaves once the journal has the lines of all that it
-tells of; with --sync, once they are on the disk. Journals, pieces and kills are as of `amo send`.
+tells of; with --sync, once they are on the disk. Journals, pieces, kills, --tick and --tick-most are as
+of `amo send`. Its figures are at /metrics.
 
 It goes on until `amo stop FILE` has it come to its end, or until it is ended: SIGTERM and SIGINT do so at
 once, which is a crash like any other. At its end it waits as --wait says for what is on its way: without

@@ -5,8 +5,8 @@ pub returns : goal.returns
 returns c =
     let one = c.text.ensures _ c.placed.ensures in
     let two = c.text-2.ensures _ one in
-    let three = with_argument _ _ _ _ _ c.arg.ensures c.optional_text.ensures.rule c.optional_text.ensures.local two in
-    let four = with_argument _ _ _ _ _ c.arg-2.ensures c.tick.ensures.rule c.tick.ensures.local three in
+    let three = with_argument _ _ _ _ _ c.arg-asked.ensures c.optional_text.ensures.rule c.optional_text.ensures.local two in
+    let four = c.timed.ensures _ three in
     let five = c.flag.ensures _ four in
     let six = c.flag-served.ensures _ five in
     c.limited.ensures _ six
