@@ -10,18 +10,20 @@ pub(crate) const PAGE: &str = r##"<!doctype html>
 <title>amo</title>
 <link rel="icon" href="data:,">
 <style>
-:root { color-scheme: light dark; --page: #fff; --ink: #1b1f24; --pale: #57606a; --line: #d0d7de; --none: #eef1f4; --open: #ffe8a3; --yes: #b7ebc3; --no: #ffc9c4; --ready: #b9dcff; }
-@media (prefers-color-scheme: dark) { :root { --page: #14181d; --ink: #e6edf3; --pale: #9aa4af; --line: #3a424b; --none: #21272e; --open: #6b5310; --yes: #1f5c33; --no: #7a2b27; --ready: #174a7c; } }
+:root { color-scheme: light dark; --page: #fff; --ink: #1b1f24; --pale: #57606a; --line: #d0d7de; --none: #eef1f4; --open: #ffe8a3; --yes: #b7ebc3; --no: #ffc9c4; --ready: #b9dcff; --taken: #e2d6fa; }
+@media (prefers-color-scheme: dark) { :root { --page: #14181d; --ink: #e6edf3; --pale: #9aa4af; --line: #3a424b; --none: #21272e; --open: #6b5310; --yes: #1f5c33; --no: #7a2b27; --ready: #174a7c; --taken: #4b3a78; } }
 body { background: var(--page); color: var(--ink); font: 15px/1.45 system-ui, sans-serif; margin: 1.5rem auto; max-width: 64rem; padding: 0 1rem; }
 [hidden] { display: none !important; }
 h1 { font-size: 1.3rem; margin: 0 0 .3rem; } h2 { font-size: 1.05rem; margin: 1.4rem 0 .4rem; }
 p, dl { margin: .3rem 0; } .pale { color: var(--pale); }
-#grid { display: grid; gap: 3px; grid-template-columns: repeat(auto-fill, minmax(2.7rem, 1fr)); }
+#grid { display: grid; gap: 3px; grid-template-columns: repeat(auto-fill, minmax(1.8rem, 1fr)); }
 #grid button { background: var(--none); border: 1px solid var(--line); border-radius: 4px; color: var(--ink); cursor: pointer; font: inherit; line-height: 1.15; padding: .15rem 0; }
 #grid button small { color: var(--pale); display: block; font-size: .68rem; }
-.O small, .Y small, .N small, .R small { color: inherit !important; }
+.O small, .Y small, .N small, .R small, .T small { color: inherit !important; }
 #grid button[aria-pressed=true] { outline: 2px solid var(--ink); }
-.O { background: var(--open) !important; } .Y { background: var(--yes) !important; } .N { background: var(--no) !important; } .R { background: var(--ready) !important; }
+.O { background: var(--open) !important; } .Y { background: var(--yes) !important; } .N { background: var(--no) !important; } .R { background: var(--ready) !important; } .T { background: var(--taken) !important; }
+#key { color: var(--pale); display: flex; flex-wrap: wrap; gap: .2rem 1rem; list-style: none; margin: .3rem 0 .5rem; padding: 0; }
+#key b { background: var(--none); border: 1px solid var(--line); border-radius: 4px; color: var(--ink); display: inline-block; font-weight: normal; line-height: 1.15; margin-right: .35rem; text-align: center; width: 1.4rem; }
 dl { display: grid; grid-template-columns: max-content 1fr; gap: .1rem 1rem; } dt { color: var(--pale); } dd { margin: 0; font-variant-numeric: tabular-nums; overflow-wrap: anywhere; }
 form { display: flex; flex-wrap: wrap; gap: .5rem; } input { background: var(--page); border: 1px solid var(--line); border-radius: 4px; color: inherit; flex: 1 1 16rem; font: inherit; padding: .25rem .4rem; }
 input::placeholder { color: var(--pale); opacity: 1; } input[readonly] { background: var(--none); }
@@ -35,8 +37,8 @@ form button { font: inherit; padding: .25rem .8rem; }
 <p id="about" class="pale">What this host is stands at <a href="/v1">/v1</a>, what it counted at <a href="/metrics">/metrics</a>, and how stream 1 is at <a href="/v1/streams/1">/v1/streams/1</a>. With scripts this page shows all streams, and puts messages.</p>
 <section id="all" hidden>
 <dl id="facts"></dl>
-<h2>Streams</h2>
-<p class="pale" id="key"></p>
+<h2>Streams, each with a letter and its number</h2>
+<ul id="key"></ul>
 <div id="grid"></div>
 <h2 id="name"></h2>
 <dl id="detail"></dl>
@@ -54,6 +56,7 @@ const meaning = { "–": "nothing yet", O: "the last message is on its way", Y: 
 let host, chosen = 1, events = 0, since = Date.now();
 const states = [], news = [];
 const kept = kind => JSON.parse(sessionStorage.getItem(kind) || "null");
+const count = (many, what) => many.toLocaleString("en") + " " + what + (many === 1 ? "" : "s");
 const pause = time => new Promise(done => setTimeout(done, time));
 const letter = state => !state ? "–" : "put" in state ? { open: "O", yes: "Y", no: "N" }[state.last] || "–" : state.ready ? "R" : state.taken ? "T" : "–";
 const fill = (list, facts) => list.replaceChildren(...facts.flatMap(([name, value]) => { const dt = document.createElement("dt"), dd = document.createElement("dd"); dt.textContent = name; dd.textContent = value; return [dt, dd]; }));
@@ -110,8 +113,8 @@ function detail() {
   at("name").textContent = "Stream " + chosen + ": " + meaning[letter(state)];
   if (!state) return;
   fill(at("detail"), "put" in state
-    ? [["put in this life", state.put], ["waiting", state.waiting], ["the last one", state.last || "none"]]
-    : [["taken in this life", state.taken], ["the next one", state.ready ? "ready" : "not yet come"]]);
+    ? [["put in this life", count(state.put, "message")], ["waiting", count(state.waiting, "message")], ["the last one", state.last || "none"]]
+    : [["taken in this life", count(state.taken, "message")], ["the next one", state.ready ? "ready" : "not yet come"]]);
   chart();
 }
 
@@ -136,8 +139,8 @@ function chart() {
 
 function facts() {
   const seconds = (Date.now() - since) / 1000;
-  fill(at("facts"), [["life", host.life], ["version", host.version], ["the other host", host.peer], ["since", new Date(host.since * 1000).toLocaleString()], ["streams", host.streams],
-    ["events seen here", events + ", " + (events / Math.max(seconds, 1)).toFixed(1) + " a second"]]);
+  fill(at("facts"), [["life", host.life], ["version", host.version], ["the other host", host.peer], ["since", new Date(host.since * 1000).toLocaleString()], ["the host has", count(host.streams, "stream")],
+    ["this page saw", count(events, "event") + ", " + (events / Math.max(seconds, 1)).toFixed(1) + " events a second"]]);
 }
 
 function tell(event) {
@@ -229,7 +232,11 @@ async function watch(lines) {
   at("side").textContent = sends ? "sends" : "receives";
   document.title = "amo " + host.side + " " + location.host;
   at("about").hidden = true; at("all").hidden = false; at(sends ? "put" : "take").hidden = false;
-  at("key").textContent = (sends ? ["–", "O", "Y", "N"] : ["–", "R", "T"]).map(it => it + ": " + meaning[it]).join(" · ");
+  for (const what of sends ? ["–", "O", "Y", "N"] : ["–", "R", "T"]) {
+    const row = document.createElement("li"), sign = document.createElement("b");
+    sign.className = sign.textContent = what; row.append(sign, meaning[what]);
+    at("key").append(row);
+  }
   for (let stream = 1; stream <= host.streams; stream += 1) {
     const button = document.createElement("button"), small = document.createElement("small");
     button.type = "button"; button.append("–", small); small.textContent = stream;
