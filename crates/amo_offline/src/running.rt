@@ -39,8 +39,7 @@ pub fn run_to_file<
     } else {
         keep(rt, version, file, ran.events.as_slice())?;
     }
-    let events = ran.events.len().saturating_add(ran.receivers.len());
-    match println!(rt; "events {events}, link faults {}", ran.link_faults) {
+    match println!(rt; "{ran}") {
         Ok(()) => Ok(0),
         Err(error) => Err(OfflineFault::of_output(error)),
     }

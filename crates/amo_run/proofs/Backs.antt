@@ -6,6 +6,7 @@ use Rattle.amo_book.specs.Closed.{AllCharges}
 use Rattle.amo_host.specs.Station.{Station}
 use Rattle.amo_journal.specs.declared.version.Version.{Version}
 use Rattle.amo_run.specs.declared.home.Home.{Home}
+use Rattle.amo_run.specs.declared.roster.Roster.{Roster}
 use Rattle.amo_run.specs.Crew.{IsBack, IsOurs, dealt}
 use Rattle.amo_run.specs.Whole.{Ends}
 use Rattle.amo_run.proofs.Crews.{charges_all, ties_each}
@@ -15,9 +16,9 @@ each_dealt : {A W : Type 0} (version : Version) (b : BookState) (f : A → Stati
 each_dealt version b f [] h = tt
 each_dealt version b f (x ∷ xs) h = each_both (IsChargeOf b.id b.sides) (f x).charges (dealt (map f xs)) h.0.0 (each_dealt version b f xs h.1)
 
-pub ends : {A W : Type 0} (version : Version) (f : A → Station W) (b : BookState) (jobs : List A) (h : Home) → AllCharges (dealt (map f jobs)) (length b.sides)
-    → Each (λ (x : A). IsOurs version b (f x)) jobs → IsBack version b (dealt (map f jobs)) h → Ends version b h
-ends version f b jobs h whole ours back = record {
+pub ends : {A W : Type 0} (r : Roster) (version : Version) (f : A → Station W) (b : BookState) (jobs : List A) (h : Home) → AllCharges (dealt (map f jobs)) (length b.sides)
+    → Each (λ (x : A). IsOurs version b (f x)) jobs → IsBack r version b (dealt (map f jobs)) h → Ends r version b h
+ends r version f b jobs h whole ours back = record {
   passes = back.sofar.passes;
   count = back.count;
   events = back.sofar.events;

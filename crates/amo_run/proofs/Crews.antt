@@ -10,12 +10,14 @@ use Rattle.amo_book.specs.Closed.{IsOf, AllPasses, AllCharges}
 use Rattle.amo_book.specs.Pass.{PassState}
 use Rattle.amo_host.specs.Station.{Station}
 use Rattle.amo_run.specs.declared.home.Home.{Home}
+use Rattle.amo_run.specs.declared.roster.Roster.{Roster}
 use Rattle.std.proofs.lemmas.List.Elements.{All-nil, All-append}
 use Rattle.amo_journal.specs.declared.version.Version.{Version}
 use Rattle.amo_run.specs.Fits.{Fits, AllFit}
 use Rattle.amo_run.specs.Told.{told, Tells}
-use Rattle.amo_run.specs.Engine.{tie, ties, Recorded}
+use Rattle.amo_run.specs.Engine.{IsDriven, tie, ties, Recorded}
 use Rattle.amo_run.specs.Crew.{Made, Adds, EachAt, IsNew, IsHome, joined, dealt, lent, SoFar}
+use Rattle.amo_run.specs.Roster.{IsWhose}
 use Rattle.amo_run.specs.Versions.{version_of}
 use Rattle.amo_run.specs.declared.work.PumpThread.{PumpThread}
 
@@ -46,6 +48,14 @@ module _ {A : Type 0} (P : ℕ → A → Type 0) where
   at_less k n [] x is h = (tt, subst (λ m. P m x) (omega arith) h.0)
   at_less k n (y ∷ ys) x is h = let t = at_less (suc k) n ys x (omega arith) h.1 in ((h.0, t.0), t.1)
 
+  pub at_both : (k n : ℕ) (xs ys : List A) → n ≡ k + length xs → EachAt P k xs → EachAt P n ys → EachAt P k (xs ++ ys)
+  at_both k n [] ys is h m = subst (λ j. EachAt P j ys) (is ∙ omega arith) m
+  at_both k n (x ∷ xs) ys is h m = (h.0, at_both (suc k) n xs ys (omega arith) h.1 m)
+
+  pub at_of : (k : ℕ) (xs : List A) → ((j : ℕ) (x : A) → slice_get xs j ≡ Some x → P (k + j) x) → EachAt P k xs
+  at_of k [] h = tt
+  at_of k (x ∷ xs) h = (subst (λ j. P j x) (omega arith) (h 0 x refl), at_of (suc k) xs (λ j y e. subst (λ i. P i y) (omega arith) (h (suc j) y e)))
+
   back_is : (xs : List A) (x : A) → reverse (xs ++ x ∷ []) ≡ x ∷ reverse xs
   back_is xs x = reverse-append xs (x ∷ [])
 
@@ -54,6 +64,14 @@ module _ {A : Type 0} (P : ℕ → A → Type 0) where
 
   pub back_less : (k : ℕ) (xs : List A) (x : A) → EachAt P k (reverse (xs ++ x ∷ [])) → P k x × EachAt P (suc k) (reverse xs)
   back_less k xs x h = subst (EachAt P k) (back_is xs x) h
+
+pub map_at : {A B : Type 0} (P : ℕ → B → Type 0) (f : A → B) (k : ℕ) (xs : List A) → EachAt P k (map f xs) → EachAt (λ n x. P n (f x)) k xs
+map_at P f k [] h = tt
+map_at P f k (x ∷ xs) h = (h.0, map_at P f (suc k) xs h.1)
+
+pub at_map : {A B : Type 0} (P : ℕ → B → Type 0) (f : A → B) (k : ℕ) (xs : List A) → EachAt (λ n x. P n (f x)) k xs → EachAt P k (map f xs)
+at_map P f k [] h = tt
+at_map P f k (x ∷ xs) h = (h.0, at_map P f (suc k) xs h.1)
 
 at_filled : {A : Type 0} (f : ℕ → A) (k : ℕ) (xs : List A) → ((j : ℕ) → j < length xs → slice_get xs j ≡ Some (f (k + j))) → EachAt (λ p x. x ≡ f p) k xs
 at_filled f k [] h = tt
@@ -93,30 +111,31 @@ charges_all n xs ys all e place lt = let h = all place lt in let t = tied_at xs 
 told_home : (b : BookState) (p : ℕ) (c : PassState) (xs : List (ℕ × Event)) → Tells (first_pass b.id p) c xs → IsHome b p c
 told_home b p c xs t = record { book = t.book; number = t.number }
 
-made_home : {A : Type 0} (version : Version) (b : BookState) (p : ℕ) (c : PassState) (made : Result (Vec (ℕ × Event) A) NoMemory) → Made version b.sides (first_pass b.id p) c made → IsHome b p c
-made_home version b p c (Ok made) t = told_home b p c made.items t.0
-made_home version b p c (Err fault) t = told_home b p c t.0 t.1
+made_home : {A : Type 0} (version : Version) (may_be : Event → Type 0) (b : BookState) (p : ℕ) (c : PassState) (made : Result (Vec (ℕ × Event) A) NoMemory) → Made version b.sides may_be (first_pass b.id p) c made → IsHome b p c
+made_home version may_be b p c (Ok made) t = told_home b p c made.items t.0
+made_home version may_be b p c (Err fault) t = told_home b p c t.0 t.1
 
-made_joined : {A : Type 0} (version : Version) (b : BookState) (p : ℕ) (cs : List PassState) (c : PassState) (made : Result (Vec (ℕ × Event) A) NoMemory) (es es' : List (ℕ × Event))
-    → Made version b.sides (first_pass b.id p) c made → Adds made es es' → es ≡ joined cs → es' ≡ joined (cs ++ c ∷ [])
-made_joined version b p cs c (Ok made) es es' t a e = a ∙ (ap₂ (λ x y. x ++ y) e (sym t.0.grew) ∙ sym (joined_more cs c))
-made_joined version b p cs c (Err fault) es es' t a e = absurd a
+made_joined : {A : Type 0} (version : Version) (may_be : Event → Type 0) (b : BookState) (p : ℕ) (cs : List PassState) (c : PassState) (made : Result (Vec (ℕ × Event) A) NoMemory) (es es' : List (ℕ × Event))
+    → Made version b.sides may_be (first_pass b.id p) c made → Adds made es es' → es ≡ joined cs → es' ≡ joined (cs ++ c ∷ [])
+made_joined version may_be b p cs c (Ok made) es es' t a e = a ∙ (ap₂ (λ x y. x ++ y) e (sym t.0.grew) ∙ sym (joined_more cs c))
+made_joined version may_be b p cs c (Err fault) es es' t a e = absurd a
 
-pub home_more : {A : Type 0} (version : Version) (b : BookState) (cs : List PassState) (c : PassState) (made : Result (Vec (ℕ × Event) A) NoMemory)
-    → EachAt (IsHome b) 0 cs → Made version b.sides (first_pass b.id (length cs)) c made → EachAt (IsHome b) 0 (cs ++ c ∷ [])
-home_more version b cs c made h t = at_more (IsHome b) 0 (length cs) cs c (omega arith) h (made_home version b (length cs) c made t)
+pub home_more : {A : Type 0} (version : Version) (may_be : Event → Type 0) (b : BookState) (cs : List PassState) (c : PassState) (made : Result (Vec (ℕ × Event) A) NoMemory)
+    → EachAt (IsHome b) 0 cs → Made version b.sides may_be (first_pass b.id (length cs)) c made → EachAt (IsHome b) 0 (cs ++ c ∷ [])
+home_more version may_be b cs c made h t = at_more (IsHome b) 0 (length cs) cs c (omega arith) h (made_home version may_be b (length cs) c made t)
 
-pub events_more : {A : Type 0} (version : Version) (b : BookState) (cs : List PassState) (c : PassState) (made : Result (Vec (ℕ × Event) A) NoMemory) (es es' : List (ℕ × Event)) (lost kept : Bool)
-    → Made version b.sides (first_pass b.id (length cs)) c made → (lost ≡ false → es ≡ joined cs) → (kept ≡ true → Adds made es es') → lost ≡ false → kept ≡ true → es' ≡ joined (cs ++ c ∷ [])
-events_more version b cs c made es es' lost kept t e a l k = made_joined version b (length cs) cs c made es es' t (a k) (e l)
+pub events_more : {A : Type 0} (version : Version) (may_be : Event → Type 0) (b : BookState) (cs : List PassState) (c : PassState) (made : Result (Vec (ℕ × Event) A) NoMemory) (es es' : List (ℕ × Event)) (lost kept : Bool)
+    → Made version b.sides may_be (first_pass b.id (length cs)) c made → (lost ≡ false → es ≡ joined cs) → (kept ≡ true → Adds made es es') → lost ≡ false → kept ≡ true → es' ≡ joined (cs ++ c ∷ [])
+events_more version may_be b cs c made es es' lost kept t e a l k = made_joined version may_be b (length cs) cs c made es es' t (a k) (e l)
 
-made_fit : {A : Type 0} (version : Version) (b : BookState) (v c : PassState) (made : Result (Vec (ℕ × Event) A) NoMemory) (es es' : List (ℕ × Event)) → Made version b.sides v c made → Adds made es es' → AllFit version b.sides es → AllFit version b.sides es'
-made_fit version b v c (Ok made) es es' t a f = subst (AllFit version b.sides) (sym a) (All-append (λ (one : ℕ × Event). Fits version b.sides one.1) es made.items f t.1)
-made_fit version b v c (Err fault) es es' t a f = absurd a
+made_fit : {A : Type 0} (version : Version) (may_be : Event → Type 0) (b : BookState) (v c : PassState) (made : Result (Vec (ℕ × Event) A) NoMemory) (es es' : List (ℕ × Event)) → Made version b.sides may_be v c made → Adds made es es' → AllFit version b.sides may_be es
+    → AllFit version b.sides may_be es'
+made_fit version may_be b v c (Ok made) es es' t a f = subst (AllFit version b.sides may_be) (sym a) (All-append (λ (one : ℕ × Event). Fits version b.sides may_be one.1) es made.items f t.1)
+made_fit version may_be b v c (Err fault) es es' t a f = absurd a
 
-pub fit_more : {A : Type 0} (version : Version) (b : BookState) (v c : PassState) (made : Result (Vec (ℕ × Event) A) NoMemory) (es es' : List (ℕ × Event)) (lost kept : Bool)
-    → Made version b.sides v c made → (lost ≡ false → AllFit version b.sides es) → (kept ≡ true → Adds made es es') → lost ≡ false → kept ≡ true → AllFit version b.sides es'
-fit_more version b v c made es es' lost kept t f a l k = made_fit version b v c made es es' t (a k) (f l)
+pub fit_more : {A : Type 0} (version : Version) (may_be : Event → Type 0) (b : BookState) (v c : PassState) (made : Result (Vec (ℕ × Event) A) NoMemory) (es es' : List (ℕ × Event)) (lost kept : Bool)
+    → Made version b.sides may_be v c made → (lost ≡ false → AllFit version b.sides may_be es) → (kept ≡ true → Adds made es es') → lost ≡ false → kept ≡ true → AllFit version b.sides may_be es'
+fit_more version may_be b v c made es es' lost kept t f a l k = made_fit version may_be b v c made es es' t (a k) (f l)
 
 -- passes that made no call are at home
 new_home : (b : BookState) (k : ℕ) (cs : List PassState) → EachAt (IsNew b) k cs → EachAt (IsHome b) k cs
@@ -127,27 +146,27 @@ new_joined : (b : BookState) (k : ℕ) (cs : List PassState) → EachAt (IsNew b
 new_joined b k [] h = refl
 new_joined b k (c ∷ cs) h = ap₂ (λ x y. x ++ y) (ap told h.0) (new_joined b (suc k) cs h.1)
 
-pub sofar_new : (version : Version) (b : BookState) (h : Home) → EachAt (IsNew b) 0 h.passes.items → h.events.items ≡ [] → SoFar version b h
-sofar_new version b h p e = record {
+pub sofar_new : (r : Roster) (version : Version) (b : BookState) (h : Home) → EachAt (IsNew b) 0 h.passes.items → h.events.items ≡ [] → SoFar r version b h
+sofar_new r version b h p e = record {
   passes = new_home b 0 h.passes.items p;
   events = λ l. e ∙ sym (new_joined b 0 h.passes.items p);
-  fit = λ l. subst (AllFit version b.sides) (sym e) (All-nil (λ (one : ℕ × Event). Fits version b.sides one.1));
+  fit = λ l. subst (AllFit version b.sides (IsWhose r)) (sym e) (All-nil (λ (one : ℕ × Event). Fits version b.sides (IsWhose r) one.1));
 }
 
-pub sofar_same : (version : Version) (b : BookState) (h h' : Home) → h'.passes ≡ h.passes → h'.events ≡ h.events → (h'.is_short ≡ false → h.is_short ≡ false) → SoFar version b h → SoFar version b h'
-sofar_same version b h h' p e l s = record {
+pub sofar_same : (r : Roster) (version : Version) (b : BookState) (h h' : Home) → h'.passes ≡ h.passes → h'.events ≡ h.events → (h'.is_short ≡ false → h.is_short ≡ false) → SoFar r version b h → SoFar r version b h'
+sofar_same r version b h h' p e l s = record {
   passes = subst (λ v. EachAt (IsHome b) 0 v.items) (sym p) s.passes;
   events = λ n. ap (λ v. v.items) e ∙ (s.events (l n) ∙ ap (λ v. joined v.items) (sym p));
-  fit = λ n. subst (AllFit version b.sides) (sym (ap (λ v. v.items) e)) (s.fit (l n));
+  fit = λ n. subst (AllFit version b.sides (IsWhose r)) (sym (ap (λ v. v.items) e)) (s.fit (l n));
 }
 
 -- a record that began empty is what the pass tells
-pub told_all : {W : Type 0} (book : BookState) (s t : Station W) (v w : PassState) (old new : List (ℕ × Event)) → Recorded book v w s t old new → old ≡ [] → Tells v w new × AllFit (version_of s) book.sides new
-told_all book s t v w old new r none = let same : new ≡ r.more = r.added ∙ ap (λ l. l ++ r.more) none in (subst (Tells v w) (sym same) r.advances.tells, subst (AllFit (version_of s) book.sides) (sym same) r.advances.fit)
+pub told_all : {W : Type 0} (book : BookState) (s t : Station W) (v w : PassState) (old new : List (ℕ × Event)) → Recorded book v w s t old new → old ≡ [] → Tells v w new × AllFit (version_of s) book.sides (IsDriven (ties s.charges)) new
+told_all book s t v w old new r none = let same : new ≡ r.more = r.added ∙ ap (λ l. l ++ r.more) none in (subst (Tells v w) (sym same) r.advances.tells, subst (AllFit (version_of s) book.sides (IsDriven (ties s.charges))) (sym same) r.advances.fit)
 
-pub made_kept : {A : Type 0} (version : Version) (sides : List (End × ℕ)) (v w : PassState) (made : Result (Vec (ℕ × Event) A) NoMemory) (new : List (ℕ × Event)) → IfOk made (λ m. m.items ≡ new) → Tells v w new × AllFit version sides new → Made version sides v w made
-made_kept version sides v w (Ok made) new is t = (subst (Tells v w) (sym is) t.0, subst (AllFit version sides) (sym is) t.1)
-made_kept version sides v w (Err fault) new is t = (new, t.0)
+pub made_kept : {A : Type 0} (version : Version) (sides : List (End × ℕ)) (may_be : Event → Type 0) (v w : PassState) (made : Result (Vec (ℕ × Event) A) NoMemory) (new : List (ℕ × Event)) → IfOk made (λ m. m.items ≡ new) → Tells v w new × AllFit version sides may_be new → Made version sides may_be v w made
+made_kept version sides may_be v w (Ok made) new is t = (subst (Tells v w) (sym is) t.0, subst (AllFit version sides may_be) (sym is) t.1)
+made_kept version sides may_be v w (Err fault) new is t = (new, t.0)
 
 pub each_less : {A : Type 0} (P : A → Type 0) (xs : List A) (x : A) → Each P (xs ++ x ∷ []) → Each P xs × P x
 each_less P [] x h = (tt, h.0)

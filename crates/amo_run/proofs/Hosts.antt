@@ -1,16 +1,21 @@
 -- The pumps of a host have its charges.
-use Rattle.std.proofs.Common.{◌≡◌, ℕ, Bool, zero, suc, ◌+◌, ◌*◌, ◌/◌, ◌%◌, ◌<◌, ◌≤◌, List, [], ◌∷◌, ◌++◌, length, map, slice_get, Some, refl, sym, ap, ◌∙◌, subst, append_assoc, arith}
+use Rattle.std.proofs.Common.{◌≡◌, ℕ, Bool, zero, suc, ◌+◌, ◌*◌, ◌/◌, ◌%◌, ◌-◌, ◌<◌, ◌≤◌, List, [], ◌∷◌, ◌++◌, length, map, slice_get, Some, refl, sym, ap, ◌∙◌, subst, append_assoc, arith}
 use Rattle.std.proofs.lemmas.List.{length-append, length-map}
 use Rattle.std.proofs.lemmas.Nat.{div-add-mod', mod_below}
-use Rattle.std.proofs.Math.Nat.{mul_comm}
+use Rattle.std.proofs.lemmas.Option.{slice_get_within}
+use Rattle.std.proofs.Math.Nat.{add-mul-mod_self_left, mod-eq_of_lt, mul_comm}
+use Rattle.amo_object.specs.declared.step.End.{End}
 use Rattle.amo_book.specs.Book.{BookState, Each}
 use Rattle.amo_book.specs.Charge.{ChargeState, IsChargeOf}
 use Rattle.amo_book.specs.Closed.{HasCharge}
 use Rattle.amo_host.specs.Charges.{CanBeDriven}
 use Rattle.amo_host.specs.Division.{Divides, CanBeDivided}
 use Rattle.amo_host.specs.Station.{Station, IsStation}
-use Rattle.amo_run.specs.Crew.{IsOurs, dealt}
+use Rattle.amo_run.specs.Crew.{EachAt, IsDriver, IsOurs, dealt}
+use Rattle.amo_run.specs.Roster.{pump_of, pumps_before}
 use Rattle.amo_run.specs.Versions.{version_for, starting}
+use Rattle.amo_run.specs.declared.part.Part.{Part}
+use Rattle.amo_run.proofs.Crews.{at_both, at_map, at_of, map_at}
 
 pub each_at : {A : Type 0} (P : A → Type 0) (xs : List A) (k : ℕ) (x : A) → Each P xs → slice_get xs k ≡ Some x → P x
 each_at P [] k x h e = cc
@@ -76,6 +81,17 @@ module _ {W : Type 0} (charges : List ChargeState) (window pumps : ℕ) (words :
   stations_ours batch b d h = each_map (IsOurs {W = W} (version_for batch) b) (starting batch) stations (each_of (λ (s : Station W). IsOurs {W = W} (version_for batch) b (starting batch s)) stations (λ p s e.
       (each_of (IsChargeOf b.id b.sides) s.charges (λ k x at. each_at (IsChargeOf b.id b.sides) charges (p + pumps * k) x h (sym ((d.part p s e).each k) ∙ at)), still batch s (d.begins p s e).station, refl)))
 
+  -- each takes its turn among the streams of the host
+  stations_drive : (batch : Bool) (part : Part) (side : End) (p : ℕ) (s : Station W) → Divides charges window pumps words stations → ((k : ℕ) (c : ChargeState) → slice_get charges k ≡ Some c → (c.side ≡ side) × (c.stream ≡ k + 1))
+      → slice_get stations p ≡ Some s → IsDriver {W = W} part pumps (pumps_before part pumps side + p) (starting batch s)
+  stations_drive batch part side p s d streams e = each_of (λ (c : ChargeState). pumps_before part pumps side + p ≡ pump_of part pumps c.side c.stream) s.charges (λ k c at.
+      let t = streams (p + pumps * k) c (sym ((d.part p s e).each k) ∙ at) in let stream = t.1 in
+      let before : pumps_before part pumps c.side ≡ pumps_before part pumps side = ap (pumps_before part pumps) t.0 in
+      let less : c.stream - 1 ≡ p + pumps * k = omega arith in
+      let count = d.count in let within = slice_get_within stations p s e in let below : p < pumps = omega arith in
+      let turn : (c.stream - 1) % pumps ≡ p = ap (λ (n : ℕ). n % pumps) less ∙ (add-mul-mod_self_left p pumps k ∙ mod-eq_of_lt below) in
+      omega arith)
+
   stations_have : Divides charges window pumps words stations → 1 ≤ pumps → (place : ℕ) → HasCharge charges place → HasCharge (dealt stations) place
   stations_have d some place h =
       let count = d.count in let k = h.0 in
@@ -102,6 +118,16 @@ module _ {A W : Type 0} (f : A → Station W) (old new : List A) (stations : Lis
   ours batch b charges window pumps words e d h was =
       let Ours : Station W → Type 0 = IsOurs {W = W} (version_for batch) b in
       map_each Ours f new (subst (Each Ours) (sym e) (each_both Ours (map f old) (map (starting batch) stations) (each_map Ours f old was) (stations_ours charges window pumps words stations batch b d h)))
+
+  pub drivers : (batch : Bool) (part : Part) (side : End) (charges : List ChargeState) (window pumps : ℕ) (words : List W) → map f new ≡ map f old ++ map (starting batch) stations → Divides charges window pumps words stations
+      → ((k : ℕ) (c : ChargeState) → slice_get charges k ≡ Some c → (c.side ≡ side) × (c.stream ≡ k + 1)) → length old ≡ pumps_before part pumps side
+      → EachAt (λ n (x : A). IsDriver part pumps n (f x)) 0 old → EachAt (λ n (x : A). IsDriver part pumps n (f x)) 0 new
+  drivers batch part side charges window pumps words e d streams before was =
+      let Drives : ℕ → Station W → Type 0 = λ n s. IsDriver {W = W} part pumps n s in
+      let long = length-map old f in
+      let more : EachAt Drives (pumps_before part pumps side) (map (starting batch) stations) = at_map Drives (starting batch) (pumps_before part pumps side) stations
+      (at_of (λ n (s : Station W). Drives n (starting batch s)) (pumps_before part pumps side) stations (λ p s at. stations_drive charges window pumps words stations batch part side p s d streams at)) in
+      map_at Drives f 0 new (subst (EachAt Drives 0) (sym e) (at_both Drives 0 (pumps_before part pumps side) (map f old) (map (starting batch) stations) (omega arith) (at_map Drives f 0 old was) more))
 
   pub counted : map f new ≡ map f old ++ stations → length new ≡ length old + length stations
   counted e = sym (length-map new f) ∙ (ap length e ∙ (length-append (map f old) stations ∙ ap (λ n. n + length stations) (length-map old f)))

@@ -4,6 +4,7 @@ pub mod Hosts
 pub mod Lines
 pub mod Merges
 pub mod Openings
+pub mod Rosters
 pub mod Spellings
 pub mod Tellings
 pub mod Turning

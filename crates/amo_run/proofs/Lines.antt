@@ -18,20 +18,20 @@ below_all : (n : ℕ) (history : List Event) → AllBelow n history → All (λ 
 below_all n [] h = All-nil (λ (e : Event). e.pass < n)
 below_all n (e ∷ past) h = All-cons (λ (x : Event). x.pass < n) e past h.0 (below_all n past h.1)
 
-line : (version : Version) (b : BookState) (e : Event) → IsLawful b.sides b.passes → Fits version b.sides e → e.pass < b.passes → CanSpell version e
-line version b e lawful fits below = let many = lawful.many in record {
+line : (version : Version) (may_be : Event → Type 0) (b : BookState) (e : Event) → IsLawful b.sides b.passes → Fits version b.sides may_be e → e.pass < b.passes → CanSpell version e
+line version may_be b e lawful fits below = let many = lawful.many in record {
   pass = omega arith;
   stream = lawful.sides_are.streams fits.place e.side e.stream fits.at;
   act = fits.act;
   reply = fits.reply;
 }
 
-pub all_lines : (version : Version) (b : BookState) (history events : List Event) (placed sorted : List (ℕ × Event)) → IsLawful b.sides b.passes → AllFit version b.sides placed → IsPermutation placed sorted
+pub all_lines : (version : Version) (may_be : Event → Type 0) (b : BookState) (history events : List Event) (placed sorted : List (ℕ × Event)) → IsLawful b.sides b.passes → AllFit version b.sides may_be placed → IsPermutation placed sorted
     → events ≡ map (λ (one : ℕ × Event). one.1) sorted → events ≡ reverse history → AllBelow b.passes history → All (CanSpell version) events
-all_lines version b history events placed sorted lawful fit moved bare in_order below =
-    let fits : All (Fits version b.sides) events = subst (All (Fits version b.sides)) (sym bare) (All-map (Fits version b.sides) (λ (one : ℕ × Event). one.1) sorted (All-permutation (λ (one : ℕ × Event). Fits version b.sides one.1) placed sorted moved fit)) in
+all_lines version may_be b history events placed sorted lawful fit moved bare in_order below =
+    let fits : All (Fits version b.sides may_be) events = subst (All (Fits version b.sides may_be)) (sym bare) (All-map (Fits version b.sides may_be) (λ (one : ℕ × Event). one.1) sorted (All-permutation (λ (one : ℕ × Event). Fits version b.sides may_be one.1) placed sorted moved fit)) in
     let passes : All (λ (e : Event). e.pass < b.passes) events = subst (All (λ (e : Event). e.pass < b.passes)) (sym in_order) (All-permutation (λ (e : Event). e.pass < b.passes) history (reverse history) (IsPermutation-reverse history) (below_all b.passes history below)) in
-    λ k d lt. line version b (slice_index_or events k d) lawful (fits k d lt) (passes k d lt)
+    λ k d lt. line version may_be b (slice_index_or events k d) lawful (fits k d lt) (passes k d lt)
 
 pub no_lines : (version : Version) (events : List Event) → events ≡ [] → All (CanSpell version) events
 no_lines version events none = subst (All (CanSpell version)) (sym none) (All-nil (CanSpell version))

@@ -123,6 +123,11 @@ side_all : (id : TableId) (side : End) (k m n : ℕ) → Each (IsOfSide side) (c
 side_all id side k m zero = tt
 side_all id side k m (suc n) = (refl, side_all id side (suc k) (suc m) n)
 
+charge_at : (id : TableId) (side : End) (k m n j : ℕ) (c : ChargeState) → slice_get (charges_of id k (sides_from side m n)) j ≡ Some c → (c.side ≡ side) × (c.stream ≡ m + j)
+charge_at id side k m zero j c e = cc
+charge_at id side k m (suc n) zero c e = let is : first_charge id k side m ≡ c = cc in (sym (ap (λ (x : ChargeState). x.side) is), sym (ap (λ (x : ChargeState). x.stream) is) ∙ omega arith)
+charge_at id side k m (suc n) (suc j) c e = let t = charge_at id side (suc k) (suc m) n j c e in let at = t.1 in (t.0, omega arith)
+
 stream_at : (id : TableId) (side : End) (k m n j d : ℕ) → j < n → get_or (map (λ (c : ChargeState). c.stream) (charges_of id k (sides_from side m n))) j d ≡ m + j
 stream_at id side k m zero j d lt = absurd (omega arith)
 stream_at id side k m (suc n) zero d lt = omega arith
@@ -156,16 +161,17 @@ all_places id sides cs h place lt =
     let here : slice_get sides place ≡ Some side = slice_get-get_or sides place (Sender, 0) lt in
     (place, first_charge id place side.0 side.1, h.1 place side.0 side.1 here, refl)
 
-host_of : (book : BookState) (id : TableId) (side : End) (k n : ℕ) (cs : List ChargeState) → 1 ≤ n → cs ≡ charges_of id k (sides_from side 1 n) → Each (IsChargeOf book.id book.sides) cs → IsHostOf book cs
+host_of : (book : BookState) (id : TableId) (side : End) (k n : ℕ) (cs : List ChargeState) → 1 ≤ n → cs ≡ charges_of id k (sides_from side 1 n) → Each (IsChargeOf book.id book.sides) cs → IsHostOf side book cs
 host_of book id side k n cs some is ours = record {
   ours = ours;
   rest = subst (Each IsAtRest) (sym is) (rest_all id side k 1 n);
   driven = subst (λ l. CanBeDriven l window) (sym is) (driven_all id side k n some);
+  streams = λ j c e. let t = charge_at id side k 1 n j c (sym (ap (λ l. slice_get l j) is) ∙ e) in let at = t.1 in (t.0, omega arith);
 }
 
 -- the charges of both hosts, parted between them
 pub both_hosts : (n : ℕ) (book : BookState) (charges senders receivers : List ChargeState) → 1 ≤ n → book.sides ≡ both_sides n → AreFirstCharges book.id book.sides charges → Each (IsChargeOf book.id book.sides) charges
-    → senders ++ receivers ≡ charges → length senders ≡ n → IsHostOf book senders × IsHostOf book receivers × (length receivers ≡ n)
+    → senders ++ receivers ≡ charges → length senders ≡ n → IsHostOf Sender book senders × IsHostOf Receiver book receivers × (length receivers ≡ n)
 both_hosts n book charges senders receivers some is firsts ours parts long =
     let first = sides_from Sender 1 n in let second = sides_from Receiver 1 n in
     let listed : AreFirstCharges book.id (both_sides n) charges = subst (λ l. AreFirstCharges book.id l charges) is firsts in
@@ -180,7 +186,7 @@ both_hosts n book charges senders receivers some is firsts ours parts long =
 
 -- the charges of one host
 pub one_host : (side : End) (n : ℕ) (book : BookState) (charges : List ChargeState) → 1 ≤ n → book.sides ≡ sides_from side 1 n → AreFirstCharges book.id book.sides charges → Each (IsChargeOf book.id book.sides) charges
-    → IsHostOf book charges × (length charges ≡ n)
+    → IsHostOf side book charges × (length charges ≡ n)
 one_host side n book charges some is firsts ours =
     let listed : AreFirstCharges book.id (sides_from side 1 n) charges = subst (λ l. AreFirstCharges book.id l charges) is firsts in
     let all : charges ≡ charges_of book.id 0 (sides_from side 1 n) = dealt_are book.id 0 (sides_from side 1 n) charges listed.0 (λ j s stream e. listed.1 j s stream e ∙ ap (λ (m : ℕ). Some (first_charge book.id m s stream)) (omega arith)) in

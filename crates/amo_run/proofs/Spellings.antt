@@ -22,12 +22,14 @@ use Rattle.amo_book.specs.declared.fault.AckFault.TheVariants as ack_fault
 use Rattle.amo_journal.specs.declared.version.Version.{Version}
 use Rattle.amo_journal.specs.declared.version.Version.TheVariants.{One}
 use Rattle.amo_journal.specs.Journal.{HasAct, HasReply}
+use Rattle.amo_run.specs.Crew.{IsCall}
 use Rattle.amo_run.specs.Fits.{Fits, AllFit}
+use Rattle.amo_run.specs.Roster.{is_call}
 use Rattle.amo_run.specs.Told.{made_by}
 use Rattle.amo_run.proofs.Turning.{fit_none, fit_one}
 
-pub fit_both : (version : Version) (sides : List (End × ℕ)) (xs ys : List (ℕ × Event)) → AllFit version sides xs → AllFit version sides ys → AllFit version sides (xs ++ ys)
-fit_both version sides xs ys f g = All-append (λ (one : ℕ × Event). Fits version sides one.1) xs ys f g
+pub fit_both : (version : Version) (sides : List (End × ℕ)) (may_be : Event → Type 0) (xs ys : List (ℕ × Event)) → AllFit version sides may_be xs → AllFit version sides may_be ys → AllFit version sides may_be (xs ++ ys)
+fit_both version sides may_be xs ys f g = All-append (λ (one : ℕ × Event). Fits version sides may_be one.1) xs ys f g
 
 -- ---- a side is one of the book's, or none of them
 abbrev Stands : List (End × ℕ) → End → ℕ → Type 0
@@ -70,15 +72,15 @@ stands : (sides : List (End × ℕ)) (side : End) (stream : ℕ) → ((Stands si
 stands sides side stream h = surely (look sides side stream) h
 
 -- ---- the events of calls
-one_fits : (sides : List (End × ℕ)) (pass : ℕ) (side : End) (stream n : ℕ) (a : Act) (r : Reply) → ((Stands sides side stream → ⊥) → ⊥) → HasAct One side stream a → HasReply a r → AllFit One sides ((n, event pass side stream a r) ∷ [])
-one_fits sides pass side stream n a r there acts replies = let at = stands sides side stream there in fit_one One sides n (event pass side stream a r) (record { place = at.0; at = at.1; act = acts; reply = replies })
+one_fits : (sides : List (End × ℕ)) (pass : ℕ) (side : End) (stream n : ℕ) (a : Act) (r : Reply) → ((Stands sides side stream → ⊥) → ⊥) → HasAct One side stream a → HasReply a r → is_call a ≡ true → AllFit One sides IsCall ((n, event pass side stream a r) ∷ [])
+one_fits sides pass side stream n a r there acts replies call = let at = stands sides side stream there in fit_one One sides IsCall n (event pass side stream a r) (record { place = at.0; at = at.1; act = acts; reply = replies; made = call })
 
-pub put_fits : (b : BookState) (pass stream : ℕ) (m : List ℕ) (r : Result ℕ PutFault) → ((HasSide b Sender stream → ⊥) → IsPutNoStream r) → IsMessage m → AllFit One b.sides (made_by pass Sender stream (act.Put m) (put_answer r))
-put_fits b pass stream m (Ok n) there k = one_fits b.sides pass Sender stream n (act.Put m) reply.Ok there k tt
-put_fits b pass stream m (Err (put_fault.Full n x)) there k = one_fits b.sides pass Sender stream n (act.Put m) reply.Full there k tt
-put_fits b pass stream m (Err (put_fault.Down n x)) there k = one_fits b.sides pass Sender stream n (act.Put m) reply.Down there k tt
-put_fits b pass stream m (Err (put_fault.Busy x)) there k = fit_none One b.sides
-put_fits b pass stream m (Err (put_fault.NoStream x)) there k = fit_none One b.sides
+pub put_fits : (b : BookState) (pass stream : ℕ) (m : List ℕ) (r : Result ℕ PutFault) → ((HasSide b Sender stream → ⊥) → IsPutNoStream r) → IsMessage m → AllFit One b.sides IsCall (made_by pass Sender stream (act.Put m) (put_answer r))
+put_fits b pass stream m (Ok n) there k = one_fits b.sides pass Sender stream n (act.Put m) reply.Ok there k tt refl
+put_fits b pass stream m (Err (put_fault.Full n x)) there k = one_fits b.sides pass Sender stream n (act.Put m) reply.Full there k tt refl
+put_fits b pass stream m (Err (put_fault.Down n x)) there k = one_fits b.sides pass Sender stream n (act.Put m) reply.Down there k tt refl
+put_fits b pass stream m (Err (put_fault.Busy x)) there k = fit_none One b.sides IsCall
+put_fits b pass stream m (Err (put_fault.NoStream x)) there k = fit_none One b.sides IsCall
 
 -- what a get answered has its line, where its message is one
 pub get_replies : (r : Result (List ℕ × ℕ) GetFault) → IfOk r (λ t. IsMessage t.0) → IfSome (get_answer r) (λ k. HasReply act.Get k.0)
@@ -88,17 +90,17 @@ get_replies (Err (get_fault.Down n)) k = tt
 get_replies (Err get_fault.Busy) k = tt
 get_replies (Err get_fault.NoStream) k = tt
 
-pub get_fits : (b : BookState) (pass stream : ℕ) (r : Result (List ℕ × ℕ) GetFault) → ((HasSide b Receiver stream → ⊥) → IsErrOf r get_fault.NoStream) → IfSome (get_answer r) (λ k. HasReply act.Get k.0) → AllFit One b.sides (made_by pass Receiver stream act.Get (get_answer r))
-get_fits b pass stream (Ok (m, n)) there k = one_fits b.sides pass Receiver stream n act.Get (reply.Got m) (λ none. let e = there none in cc) tt k
-get_fits b pass stream (Err (get_fault.Nothing n)) there k = one_fits b.sides pass Receiver stream n act.Get reply.Nothing (λ none. let e = there none in cc) tt tt
-get_fits b pass stream (Err (get_fault.Down n)) there k = one_fits b.sides pass Receiver stream n act.Get reply.Down (λ none. let e = there none in cc) tt tt
-get_fits b pass stream (Err get_fault.Busy) there k = fit_none One b.sides
-get_fits b pass stream (Err get_fault.NoStream) there k = fit_none One b.sides
+pub get_fits : (b : BookState) (pass stream : ℕ) (r : Result (List ℕ × ℕ) GetFault) → ((HasSide b Receiver stream → ⊥) → IsErrOf r get_fault.NoStream) → IfSome (get_answer r) (λ k. HasReply act.Get k.0) → AllFit One b.sides IsCall (made_by pass Receiver stream act.Get (get_answer r))
+get_fits b pass stream (Ok (m, n)) there k = one_fits b.sides pass Receiver stream n act.Get (reply.Got m) (λ none. let e = there none in cc) tt k refl
+get_fits b pass stream (Err (get_fault.Nothing n)) there k = one_fits b.sides pass Receiver stream n act.Get reply.Nothing (λ none. let e = there none in cc) tt tt refl
+get_fits b pass stream (Err (get_fault.Down n)) there k = one_fits b.sides pass Receiver stream n act.Get reply.Down (λ none. let e = there none in cc) tt tt refl
+get_fits b pass stream (Err get_fault.Busy) there k = fit_none One b.sides IsCall
+get_fits b pass stream (Err get_fault.NoStream) there k = fit_none One b.sides IsCall
 
-pub ack_fits : (b : BookState) (pass stream : ℕ) (r : Result (Bool × ℕ) AckFault) → ((HasSide b Sender stream → ⊥) → IsErrOf r ack_fault.NoStream) → AllFit One b.sides (made_by pass Sender stream act.Ack (ack_answer r))
-ack_fits b pass stream (Ok (true, n)) there = one_fits b.sides pass Sender stream n act.Ack reply.Yes (λ none. let e = there none in cc) tt tt
-ack_fits b pass stream (Ok (false, n)) there = one_fits b.sides pass Sender stream n act.Ack reply.No (λ none. let e = there none in cc) tt tt
-ack_fits b pass stream (Err (ack_fault.NotYet n)) there = one_fits b.sides pass Sender stream n act.Ack reply.NotYet (λ none. let e = there none in cc) tt tt
-ack_fits b pass stream (Err (ack_fault.Down n)) there = one_fits b.sides pass Sender stream n act.Ack reply.Down (λ none. let e = there none in cc) tt tt
-ack_fits b pass stream (Err ack_fault.Busy) there = fit_none One b.sides
-ack_fits b pass stream (Err ack_fault.NoStream) there = fit_none One b.sides
+pub ack_fits : (b : BookState) (pass stream : ℕ) (r : Result (Bool × ℕ) AckFault) → ((HasSide b Sender stream → ⊥) → IsErrOf r ack_fault.NoStream) → AllFit One b.sides IsCall (made_by pass Sender stream act.Ack (ack_answer r))
+ack_fits b pass stream (Ok (true, n)) there = one_fits b.sides pass Sender stream n act.Ack reply.Yes (λ none. let e = there none in cc) tt tt refl
+ack_fits b pass stream (Ok (false, n)) there = one_fits b.sides pass Sender stream n act.Ack reply.No (λ none. let e = there none in cc) tt tt refl
+ack_fits b pass stream (Err (ack_fault.NotYet n)) there = one_fits b.sides pass Sender stream n act.Ack reply.NotYet (λ none. let e = there none in cc) tt tt refl
+ack_fits b pass stream (Err (ack_fault.Down n)) there = one_fits b.sides pass Sender stream n act.Ack reply.Down (λ none. let e = there none in cc) tt tt refl
+ack_fits b pass stream (Err ack_fault.Busy) there = fit_none One b.sides IsCall
+ack_fits b pass stream (Err ack_fault.NoStream) there = fit_none One b.sides IsCall

@@ -1,5 +1,6 @@
 -- What a pump's calls do to its pass and its charges.
 use Rattle.std.proofs.Common.{◌≡◌, ℕ, Bool, true, false, zero, suc, ◌<◌, ◌≤◌, ◌^◌, List, [], ◌∷◌, ◌++◌, Contains, Option, Some, None, slice_get, slice_set, refl, sym, ap, ap₂, ◌∙◌, subst, append_assoc, append-nil}
+use Rattle.atomic_table.specs.Seated.{TableId}
 use Rattle.amo_object.specs.declared.step.End.{End}
 use Rattle.amo_object.specs.declared.step.End.TheVariants as end
 use Rattle.amo_packet.specs.declared.packet.OwnedPacket.{OwnedPacket}
@@ -36,8 +37,9 @@ use Rattle.amo_journal.specs.Journal.{HasAct, HasReply, IsPacketOf}
 use Rattle.amo_journal.specs.Version.{newest, HasBatches}
 use Rattle.amo_journal.proofs.Packets.{packet_spelt}
 use Rattle.amo_run.specs.Fits.{Fits, AllFit}
+use Rattle.amo_run.specs.Roster.{is_call}
 use Rattle.amo_run.specs.Told.{Tells}
-use Rattle.amo_run.specs.Engine.{tie, ties, Works, Advances, BringsBytesTo, NoneIsDue, Recorded, IsSmall, act_told, done_at, told_of, has_resent}
+use Rattle.amo_run.specs.Engine.{IsDriven, tie, ties, Works, Advances, BringsBytesTo, NoneIsDue, Recorded, IsSmall, act_told, done_at, told_of, has_resent}
 use Rattle.amo_run.specs.Versions.{version_for, version_of}
 use Rattle.amo_run.proofs.Hosts.{each_at}
 use Rattle.amo_run.proofs.Tellings.{tells_none, tells_one, tells_more}
@@ -48,11 +50,11 @@ ties_set [] k c d at same = refl
 ties_set (x ∷ xs) zero c d at same = let is : x ≡ c = cc in ap (λ t. t ∷ ties xs) (same ∙ sym (ap tie is))
 ties_set (x ∷ xs) (suc k) c d at same = ap (λ l. tie x ∷ l) (ties_set xs k c d at same)
 
-pub fit_none : (version : Version) (sides : List (End × ℕ)) → AllFit version sides []
-fit_none version sides = All-nil (λ (one : ℕ × Event). Fits version sides one.1)
+pub fit_none : (version : Version) (sides : List (End × ℕ)) (may_be : Event → Type 0) → AllFit version sides may_be []
+fit_none version sides may_be = All-nil (λ (one : ℕ × Event). Fits version sides may_be one.1)
 
-pub fit_one : (version : Version) (sides : List (End × ℕ)) (n : ℕ) (e : Event) → Fits version sides e → AllFit version sides ((n, e) ∷ [])
-fit_one version sides n e f = All-cons (λ (one : ℕ × Event). Fits version sides one.1) (n, e) [] f (fit_none version sides)
+pub fit_one : (version : Version) (sides : List (End × ℕ)) (may_be : Event → Type 0) (n : ℕ) (e : Event) → Fits version sides may_be e → AllFit version sides may_be ((n, e) ∷ [])
+fit_one version sides may_be n e f = All-cons (λ (one : ℕ × Event). Fits version sides may_be one.1) (n, e) [] f (fit_none version sides may_be)
 
 resends : (version : Version) (side : End) (stream : ℕ) → HasAct version side stream act.Resend
 resends version end.Sender stream = tt
@@ -93,69 +95,71 @@ batches_told false is = cc
 
 module _ {W : Type 0} (book : BookState) (s t : Station W) (v w : PassState) where
   pub same_advances : Works book w t → t.batches ≡ s.batches → t.charges ≡ s.charges → w ≡ v → Advances book v w s t []
-  same_advances b plain c h = record { together = b; charges = ap ties c; batches = plain; tells = tells_none v w h; fit = fit_none (version_of s) book.sides }
+  same_advances b plain c h = record { together = b; charges = ap ties c; batches = plain; tells = tells_none v w h; fit = fit_none (version_of s) book.sides (IsDriven (ties s.charges)) }
 
   nothing : (old new : List ℕ) → Works book w t → Nothing s t v w old new → Advances book v w s t []
   nothing old new b h = same_advances b (ap (λ (x : Station W). x.batches) h.0) (ap (λ (x : Station W). x.charges) h.0) h.1
 
   -- an event at a charge of the book
   happened : (r : Station W) (old new : List ℕ) (place now : ℕ) (a : Act) (resent : Bool) (side : End) (stream : ℕ) (done : Done) → r.charges ≡ s.charges → r.batches ≡ s.batches → Works book v s → Works book w t
-      → Happened r t v w old new place now a resent side stream done → done.position < 2 ^ 64 → HasAct (version_of s) side stream a → HasReply a reply.Done
+      → Happened r t v w old new place now a resent side stream done → done.position < 2 ^ 64 → HasAct (version_of s) side stream a → HasReply a reply.Done → is_call a ≡ false
       → Advances book v w s t ((done.position, event v.number side stream a reply.Done) ∷ [])
-  happened r old new place now a resent side stream done same plain was b h small acts replies =
+  happened r old new place now a resent side stream done same plain was b h small acts replies turn =
       let e : Event = event v.number h.charge.side h.charge.stream a reply.Done in
       let one : Tells v w ((done.position, e) ∷ []) = tells_one v w e done.position h.driven.grown h.driven.answered refl small in
       let at : slice_get s.charges place ≡ Some h.charge = sym (ap (λ l. slice_get l place) same) ∙ h.at in
       let ours : IsChargeOf book.id book.sides h.charge = each_at (IsChargeOf book.id book.sides) s.charges place h.charge was.0.1 at in
       let there : ◌≡◌ {A = End × ℕ} (side, stream) (h.charge.side, h.charge.stream) = ap₂ (λ (p : End) (q : ℕ). (p, q)) h.of_side h.of_stream in
+      let tied : slice_get (ties s.charges) place ≡ Some (tie h.charge) = slice_get-map tie s.charges place ∙ ap (option_map tie) at in
+      let driven : slice_get (ties s.charges) place ≡ Some (h.charge.book, (h.charge.place, (side, stream))) = subst (λ (x : End × ℕ). slice_get (ties s.charges) place ≡ Some (h.charge.book, (h.charge.place, x))) (sym there) tied in
       record {
         together = b;
         charges = ap ties h.charges ∙ (ties_set r.charges place h.charge (record h.charge { mode = done.mode }) h.at refl ∙ ap ties same);
         batches = h.batches ∙ plain;
         tells = subst (λ (x : End × ℕ). Tells v w ((done.position, event v.number x.0 x.1 a reply.Done) ∷ [])) (sym there) one;
-        fit = fit_one (version_of s) book.sides done.position (event v.number side stream a reply.Done) (record { place = h.charge.place; at = ours.1 ∙ sym (ap Some there); act = acts; reply = replies });
+        fit = fit_one (version_of s) book.sides (IsDriven (ties s.charges)) done.position (event v.number side stream a reply.Done) (record { place = h.charge.place; at = ours.1 ∙ sym (ap Some there); act = acts; reply = replies; made = (turn, (place, h.charge.book, h.charge.place, driven)) });
       }
 
-  fate : (a : Act) (k : Kind) (stream now : ℕ) (turned : Turned) → act_told k None ≡ Some a → ((side : End) (named : ℕ) → HasAct (version_of s) side named a) → HasReply a reply.Done → Works book v s → Works book w t
+  fate : (a : Act) (k : Kind) (stream now : ℕ) (turned : Turned) → act_told k None ≡ Some a → ((side : End) (named : ℕ) → HasAct (version_of s) side named a) → HasReply a reply.Done → is_call a ≡ false → Works book v s → Works book w t
       → GoesDownOrUp a k stream now s t v w turned → IsSmall turned → Advances book v w s t (told_of v.number None turned)
-  fate a k stream now Idle is acts replies was b h small = absurd h
-  fate a k stream now (Unread f) is acts replies was b h small = absurd h
-  fate a k stream now Stranger is acts replies was b h small = same_advances b (ap (λ (x : Station W). x.batches) h.1) (ap (λ (x : Station W). x.charges) h.1) h.2
-  fate a k stream now (Did side named j done) is acts replies was b (place, at, same, of, none, words, rest) small =
-      subst (λ (o : Option Act). Advances book v w s t (done_at v.number side named done.position o)) (sym (ap (λ x. act_told x None) of ∙ is)) (happened s rest.0 rest.1 place now a false side named done refl refl was b rest.2 small.0 (acts side named) replies)
+  fate a k stream now Idle is acts replies turn was b h small = absurd h
+  fate a k stream now (Unread f) is acts replies turn was b h small = absurd h
+  fate a k stream now Stranger is acts replies turn was b h small = same_advances b (ap (λ (x : Station W). x.batches) h.1) (ap (λ (x : Station W). x.charges) h.1) h.2
+  fate a k stream now (Did side named j done) is acts replies turn was b (place, at, same, of, none, words, rest) small =
+      subst (λ (o : Option Act). Advances book v w s t (done_at v.number side named done.position o)) (sym (ap (λ x. act_told x None) of ∙ is)) (happened s rest.0 rest.1 place now a false side named done refl refl was b rest.2 small.0 (acts side named) replies turn)
 
   pub crash_advances : (stream now : ℕ) (turned : Turned) → Works book v s → Works book w t → GoesDownOrUp act.Crash kind.Crash stream now s t v w turned → IsSmall turned
       → Advances book v w s t (told_of v.number None turned)
-  crash_advances stream now turned was b h small = fate act.Crash kind.Crash stream now turned refl (crashes (version_of s)) tt was b h small
+  crash_advances stream now turned was b h small = fate act.Crash kind.Crash stream now turned refl (crashes (version_of s)) tt refl was b h small
 
   pub recover_advances : (stream now : ℕ) (turned : Turned) → Works book v s → Works book w t → GoesDownOrUp act.Recover kind.Recover stream now s t v w turned → IsSmall turned
       → Advances book v w s t (told_of v.number None turned)
-  recover_advances stream now turned was b h small = fate act.Recover kind.Recover stream now turned refl (recovers (version_of s)) tt was b h small
+  recover_advances stream now turned was b h small = fate act.Recover kind.Recover stream now turned refl (recovers (version_of s)) tt refl was b h small
 
   pub failed_advances : (old new : List ℕ) → Works book w t → NoEvent s t v w old new → Advances book v w s t []
   failed_advances old new b h = same_advances b h.batches h.charges h.pass
 
   -- a start, of one message or of a batch
   started_advances : (to_come : W → ℕ → Option ℕ) (now : ℕ) (old new : List ℕ) (word : ℕ) (a : Act) (side : End) (stream : ℕ) (done : Done) → Works book v s → Works book w t → IsRight w.seen
-      → Starts to_come now s t v w old new word a side stream done → done.position < 2 ^ 64 → ((before : Stream) → reply_of before side a ≡ Some reply.Done → HasAct (version_of s) side stream a) → HasReply a reply.Done
+      → Starts to_come now s t v w old new word a side stream done → done.position < 2 ^ 64 → ((before : Stream) → reply_of before side a ≡ Some reply.Done → HasAct (version_of s) side stream a) → HasReply a reply.Done → is_call a ≡ false
       → Advances book v w s t ((done.position, event v.number side stream a reply.Done) ∷ [])
-  started_advances to_come now old new word a side stream done was b right (place, next, drew, h) small acts replies =
+  started_advances to_come now old new word a side stream done was b right (place, next, drew, h) small acts replies turn =
       let e : Event = event v.number h.charge.side h.charge.stream a reply.Done in
       let before : Stream = stream_before h.driven.grown.earlier e in
       let last : IsRight (e ∷ h.driven.grown.earlier) = subst IsRight h.driven.grown.seen right in
       let replied : reply_of before side a ≡ Some reply.Done = ap (λ (x : End). reply_of before x a) h.of_side ∙ last.0 in
-      happened (moved_past s place) old new place now a false side stream done refl refl was b h small (acts before replied) replies
+      happened (moved_past s place) old new place now a false side stream done refl refl was b h small (acts before replied) replies turn
 
   pub alone_advances : (to_come : W → ℕ → Option ℕ) (now : ℕ) (old new : List ℕ) (turned : Turned) → Works book v s → Works book w t → IsRight w.seen → TurnsAlone to_come now s t v w old new turned → IsSmall turned
       → Advances book v w s t (told_of v.number None turned)
   alone_advances to_come now old new Idle was b right h small = nothing old new b h.1
   alone_advances to_come now old new (Unread f) was b right h small = absurd h
   alone_advances to_come now old new Stranger was b right h small = absurd h
-  alone_advances to_come now old new (Did side stream kind.Resend done) was b right (place, next, words, h) small = happened s old new place now act.Resend true side stream done refl refl was b h small.0 (resends (version_of s) side stream) tt
+  alone_advances to_come now old new (Did side stream kind.Resend done) was b right (place, next, words, h) small = happened s old new place now act.Resend true side stream done refl refl was b h small.0 (resends (version_of s) side stream) tt refl
   alone_advances to_come now old new (Did side stream (kind.Start word) done) was b right (plain, started) small =
-      started_advances to_come now old new word (act.Start word) side stream done was b right started small.0 (λ before replied. starts (version_of s) before side stream word replied small.1) tt
+      started_advances to_come now old new word (act.Start word) side stream done was b right started small.0 (λ before replied. starts (version_of s) before side stream word replied small.1) tt refl
   alone_advances to_come now old new (Did side stream (kind.Batch word) done) was b right (together, started) small =
-      started_advances to_come now old new word (act.Batch word) side stream done was b right started small.0 (λ before replied. starts_batch (version_of s) before side stream word (batches_told s.batches together) replied small.1) tt
+      started_advances to_come now old new word (act.Batch word) side stream done was b right started small.0 (λ before replied. starts_batch (version_of s) before side stream word (batches_told s.batches together) replied small.1) tt refl
   alone_advances to_come now old new (Did side stream (kind.Deliver word) done) was b right h small = absurd h
   alone_advances to_come now old new (Did side stream kind.Crash done) was b right h small = absurd h
   alone_advances to_come now old new (Did side stream kind.Recover done) was b right h small = absurd h
@@ -195,7 +199,7 @@ module _ {W : Type 0} (book : BookState) (s t : Station W) (v w : PassState) whe
       let same : q.stream ≡ stream = for_stream s place q h.charge was.1 meant h.at ∙ sym h.of_stream in
       let packet : IsPacketOf (version_of s) stream q = record { version_is = told; spellable = whole.0.0; bytes = whole.0.1; stream = same } in
       subst (λ (x : OwnedPacket). Advances book v w s t ((done.position, event v.number side stream (act.Deliver x word) reply.Done) ∷ [])) (sym (one q spelt))
-      (happened s old new place now (act.Deliver q word) false side stream done refl refl was b h small.0 (delivers (version_of s) side stream q word packet small.1) tt)
+      (happened s old new place now (act.Deliver q word) false side stream done refl refl was b h small.0 (delivers (version_of s) side stream q word packet small.1) tt refl)
   with_advances to_come known now bytes old new p (Did side stream kind.Crash done) was b are first one h small = absurd h
   with_advances to_come known now bytes old new p (Did side stream kind.Recover done) was b are first one h small = absurd h
 
@@ -211,7 +215,8 @@ module _ {W : Type 0} (book : BookState) (s t : Station W) (v w : PassState) whe
 
 pub recorded_more : {W : Type 0} (book : BookState) (r s t : Station W) (u v w : PassState) (a b c : List (ℕ × Event)) → Recorded book u v r s a b → Recorded book v w s t b c → Recorded book u w r t a c
 recorded_more book r s t u v w a b c x y =
-    let later : AllFit (version_of r) book.sides y.more = subst (λ (together : Bool). AllFit (version_for together) book.sides y.more) x.advances.batches y.advances.fit in
+    let driven : AllFit (version_of s) book.sides (IsDriven (ties r.charges)) y.more = subst (λ (tied : List (TableId × (ℕ × (End × ℕ)))). AllFit (version_of s) book.sides (IsDriven tied) y.more) x.advances.charges y.advances.fit in
+    let later : AllFit (version_of r) book.sides (IsDriven (ties r.charges)) y.more = subst (λ (together : Bool). AllFit (version_for together) book.sides (IsDriven (ties r.charges)) y.more) x.advances.batches driven in
     record {
       more = x.more ++ y.more;
       added = y.added ∙ (ap (λ l. l ++ y.more) x.added ∙ append_assoc a x.more y.more);
@@ -220,7 +225,7 @@ recorded_more book r s t u v w a b c x y =
         charges = y.advances.charges ∙ x.advances.charges;
         batches = y.advances.batches ∙ x.advances.batches;
         tells = tells_more u v w x.more y.more x.advances.tells y.advances.tells;
-        fit = All-append (λ (one : ℕ × Event). Fits (version_of r) book.sides one.1) x.more y.more x.advances.fit later;
+        fit = All-append (λ (one : ℕ × Event). Fits (version_of r) book.sides (IsDriven (ties r.charges)) one.1) x.more y.more x.advances.fit later;
       };
     }
 

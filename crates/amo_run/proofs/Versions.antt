@@ -1,23 +1,18 @@
 -- What the first version of journals has lines for, each version has.
-use Rattle.std.proofs.Common.{ℕ, List, Result, Ok, Err, Vec, slice_index_or, arith}
+use Rattle.std.proofs.Common.{ℕ, arith}
 use Rattle.amo_object.specs.declared.step.End.{End}
 use Rattle.amo_object.specs.declared.step.End.TheVariants.{Sender, Receiver}
 use Rattle.amo_packet.specs.declared.packet.OwnedPacket.{OwnedPacket}
 use Rattle.amo_core.specs.declared.act.Act.{Act}
 use Rattle.amo_core.specs.declared.act.Act.TheVariants as act
-use Rattle.amo_world.specs.declared.event.Event.{Event}
-use Rattle.amo_world.specs.declared.fault.NoMemory.{NoMemory}
-use Rattle.amo_book.specs.Pass.{PassState}
 use Rattle.amo_journal.specs.declared.version.Version.{Version}
 use Rattle.amo_journal.specs.declared.version.Version.TheVariants.{One, Two}
 use Rattle.amo_journal.specs.Journal.{HasAct, IsPacketOf}
-use Rattle.amo_run.specs.Crew.{Made}
-use Rattle.amo_run.specs.Fits.{Fits, AllFit}
 
 packet_in : (stream : ℕ) (p : OwnedPacket) → IsPacketOf One stream p → IsPacketOf Two stream p
 packet_in stream p h = let first = h.version_is in record { version_is = omega arith; spellable = h.spellable; bytes = h.bytes; stream = h.stream }
 
-act_in : (version : Version) (side : End) (stream : ℕ) (a : Act) → HasAct One side stream a → HasAct version side stream a
+pub act_in : (version : Version) (side : End) (stream : ℕ) (a : Act) → HasAct One side stream a → HasAct version side stream a
 act_in One side stream a h = h
 act_in Two Sender stream (act.Put m) h = h
 act_in Two Sender stream act.Ack h = tt
@@ -37,14 +32,3 @@ act_in Two Receiver stream act.Resend h = tt
 act_in Two Receiver stream (act.Deliver packet word) h = (packet_in stream packet h.0, h.1)
 act_in Two Receiver stream act.Crash h = tt
 act_in Two Receiver stream act.Recover h = tt
-
-fits_in : (version : Version) (sides : List (End × ℕ)) (e : Event) → Fits One sides e → Fits version sides e
-fits_in version sides e f = record { place = f.place; at = f.at; act = act_in version e.side e.stream e.act f.act; reply = f.reply }
-
-all_fit_in : (version : Version) (sides : List (End × ℕ)) (made : List (ℕ × Event)) → AllFit One sides made → AllFit version sides made
-all_fit_in version sides made f k d lt = fits_in version sides (slice_index_or made k d).1 (f k d lt)
-
--- what a client made
-pub made_in : {A : Type 0} (version : Version) (sides : List (End × ℕ)) (v w : PassState) (made : Result (Vec (ℕ × Event) A) NoMemory) → Made One sides v w made → Made version sides v w made
-made_in version sides v w (Ok made) h = (h.0, all_fit_in version sides made.items h.1)
-made_in version sides v w (Err fault) h = h

@@ -1,5 +1,5 @@
 -- What turns do to a pump, its pass and the record of its events.
-use Rattle.std.specs.Prelude.{◌≡◌, ℕ, ◌<◌, ◌^◌, Bool, true, false, List, [], ◌∷◌, ◌++◌, map, Contains, Option, Some, None, Result, Ok, Err}
+use Rattle.std.specs.Prelude.{◌≡◌, ℕ, ◌<◌, ◌^◌, Bool, true, false, List, [], ◌∷◌, ◌++◌, map, slice_get, Contains, Option, Some, None, Result, Ok, Err}
 use Rattle.atomic_table.specs.Seated.{TableId}
 use Rattle.amo_object.specs.declared.step.End.{End}
 use Rattle.amo_packet.specs.declared.packet.OwnedPacket.{OwnedPacket}
@@ -22,6 +22,7 @@ use Rattle.amo_host.specs.declared.turned.Turned.{Turned}
 use Rattle.amo_host.specs.declared.turned.Turned.TheVariants.{Did}
 use Rattle.amo_run.specs.declared.engine.Turn.{Turn}
 use Rattle.amo_run.specs.Fits.{AllFit}
+use Rattle.amo_run.specs.Roster.{is_call}
 use Rattle.amo_run.specs.Told.{Tells, listed}
 use Rattle.amo_run.specs.Versions.{version_of}
 
@@ -32,18 +33,22 @@ tie c = (c.book, (c.place, (c.side, c.stream)))
 abbrev pub ties : List ChargeState → List (TableId × (ℕ × (End × ℕ)))
 ties charges = map tie charges
 
+-- the event is no call, and it is one at the side of a charge with one of these ties
+abbrev pub IsDriven : List (TableId × (ℕ × (End × ℕ))) → Event → Type 0
+IsDriven tied e = (is_call e.act ≡ false) × ((k : ℕ) × (book : TableId) × (place : ℕ) × (slice_get tied k ≡ Some (book, (place, (e.side, e.stream)))))
+
 -- a pump, whose charges are this book's as the pass is
 abbrev pub Works : {W : Type 0} → BookState → PassState → Station W → Type 0
 Works book v s = BelongTogether book v s × IsStation s
 
--- The pass's own events have grown by these, each of a side of the book, and with a line in the pump's version of journals. Pass and pump still belong
--- together, the charges are those that the pump had, and it starts as it did.
+-- The pass's own events have grown by these, each of the side of a charge of the pump, which is one of the book, and with a line in the pump's version of
+-- journals. Pass and pump still belong together, the charges are those that the pump had, and it starts as it did.
 pub record Advances {W : Type 0} (book : BookState) (v w : PassState) (s t : Station W) (made : List (ℕ × Event)) : Type 0 where
   pub together : Works book w t
   pub charges : ties t.charges ≡ ties s.charges
   pub batches : t.batches ≡ s.batches
   pub tells : Tells v w made
-  pub fit : AllFit (version_of s) book.sides made
+  pub fit : AllFit (version_of s) book.sides (IsDriven (ties s.charges)) made
 
 -- the same, and the record has grown by these events
 pub record Recorded {W : Type 0} (book : BookState) (v w : PassState) (s t : Station W) (old new : List (ℕ × Event)) : Type 0 where

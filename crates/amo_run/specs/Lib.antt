@@ -5,6 +5,7 @@ pub mod Fault
 pub mod Fits
 pub mod Parts
 pub mod Ran
+pub mod Roster
 pub mod Sides
 pub mod Told
 pub mod Versions

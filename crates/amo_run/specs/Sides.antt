@@ -1,5 +1,5 @@
 -- The sides of the streams of a run.
-use Rattle.std.specs.Prelude.{ℕ, zero, suc, List, [], ◌∷◌, ◌++◌}
+use Rattle.std.specs.Prelude.{◌≡◌, ℕ, zero, suc, ◌+◌, List, [], ◌∷◌, ◌++◌, slice_get, Some}
 use Rattle.amo_object.specs.declared.step.End.{End}
 use Rattle.amo_object.specs.declared.step.End.TheVariants.{Sender, Receiver}
 use Rattle.amo_book.specs.Book.{BookState, Each}
@@ -19,8 +19,9 @@ both_sides n = sides_from Sender 1 n ++ sides_from Receiver 1 n
 abbrev pub window : ℕ
 window = 16
 
--- the charges are a host's, at rest, and a pump can drive them
-pub record IsHostOf (book : BookState) (charges : List ChargeState) : Type 0 where
+-- the charges are those of this side of the streams from 1 on, at rest, and a pump can drive them
+pub record IsHostOf (side : End) (book : BookState) (charges : List ChargeState) : Type 0 where
   pub ours : Each (IsChargeOf book.id book.sides) charges
   pub rest : Each IsAtRest charges
   pub driven : CanBeDriven charges window
+  pub streams : (k : ℕ) (c : ChargeState) → slice_get charges k ≡ Some c → (c.side ≡ side) × (c.stream ≡ k + 1)

@@ -8,6 +8,7 @@ ghost use Rattle.amo_journal.specs.declared.version.Version.{Version};
 ghost use Rattle.amo_journal.specs.Journal.{HasReply};
 ghost use Rattle.amo_world.specs.declared.event.Event.{Event};
 ghost use Rattle.amo_book.specs.Calls.{get_answer};
+ghost use Rattle.amo_run.specs.Crew.{IsCall};
 ghost use Rattle.amo_run.specs.Fits.{AllFit};
 ghost use Rattle.amo_run.specs.Told.{Tells, listed, made_by};
 
@@ -19,8 +20,8 @@ use amo_world::{Act, Event, NoMemory, Reply};
 use std::alloc::Global;
 use std::sync::Wait;
 
-/// Makes the calls of a script until it has no more, and answers the events that they made, each with its position. Each has a line in a
-/// journal of either version.
+/// Makes the calls of a script until it has no more, and answers the events that they made, each with its position. Each is a put, a get or a
+/// question for the last put, and has a line in a journal of either version.
 ///
 /// Nothing bounds a script, so this may never return. Where memory is refused the list is given up; the events stay in
 /// the history.
@@ -34,7 +35,7 @@ pub fn client<S: Script, R: Wait>(
 ) -> Result<Vec<(u64, Event)>, NoMemory>
     requires book { pass.old.book ≡ book.now.id }
     ensures told { IfOk result (λ made. Tells pass.old pass.new made.items) }
-    ensures fit { IfOk result (λ made. AllFit Version.One book.now.sides made.items) }
+    ensures fit { IfOk result (λ made. AllFit Version.One book.now.sides IsCall made.items) }
     ensures lost { OnErr result ((made : List (ℕ × Event)) × Tells pass.old pass.new made) }
 {
     let mut made = Vec::new(alloc);
@@ -61,7 +62,7 @@ fn answer<S: Script>(
 ) -> Result<Option<(u64, Event)>, NoMemory>
     requires book { pass.old.book ≡ book.now.id }
     ensures told { IfOk result (λ one. Tells pass.old pass.new (listed one)) }
-    ensures fit { IfOk result (λ one. AllFit Version.One book.now.sides (listed one)) }
+    ensures fit { IfOk result (λ one. AllFit Version.One book.now.sides IsCall (listed one)) }
     ensures memory { OnErr result (pass.new ≡ pass.old) }
 {
     match call {
@@ -82,7 +83,7 @@ fn put<S: Script>(
 ) -> Result<Option<(u64, Event)>, NoMemory>
     requires book { pass.old.book ≡ book.now.id }
     ensures told { IfOk result (λ one. Tells pass.old pass.new (listed one)) }
-    ensures fit { IfOk result (λ one. AllFit Version.One book.now.sides (listed one)) }
+    ensures fit { IfOk result (λ one. AllFit Version.One book.now.sides IsCall (listed one)) }
     ensures memory { OnErr result (pass.new ≡ pass.old) }
 {
     is_message(&message);
@@ -101,7 +102,7 @@ fn put<S: Script>(
 fn get<S: Script>(book: &Book, pass: &mut Pass, script: &mut S, stream: u32) -> Option<(u64, Event)>
     requires book { pass.old.book ≡ book.now.id }
     ensures told { Tells pass.old pass.new (listed result) }
-    ensures fit { AllFit Version.One book.now.sides (listed result) }
+    ensures fit { AllFit Version.One book.now.sides IsCall (listed result) }
 {
     let number = pass.number();
     let reply = ClientReply::Get(book.get(pass, stream));
@@ -124,7 +125,7 @@ fn get_ack<S: Script>(
 ) -> Option<(u64, Event)>
     requires book { pass.old.book ≡ book.now.id }
     ensures told { Tells pass.old pass.new (listed result) }
-    ensures fit { AllFit Version.One book.now.sides (listed result) }
+    ensures fit { AllFit Version.One book.now.sides IsCall (listed result) }
 {
     let number = pass.number();
     let answered = book.get_ack(pass, stream);

@@ -3,14 +3,16 @@ ghost use Rattle.std.specs.Prelude.{◌≡◌, ◌++◌, ◌*◌, ◌≤◌, len
 ghost use Rattle.amo_book.specs.Book.{AreFirstCharges, Each};
 ghost use Rattle.amo_book.specs.Charge.{IsChargeOf};
 ghost use Rattle.amo_book.specs.Closed.{AllCharges};
-ghost use Rattle.amo_run.specs.Crew.{IsOurs, IsReady, dealt};
+ghost use Rattle.amo_run.specs.Crew.{EachAt, IsDriver, IsOurs, IsReady, dealt};
 ghost use Rattle.amo_run.specs.Parts.{hosts_of, passes_of, pumps_of, sides_of, HasWires};
+ghost use Rattle.amo_run.specs.Roster.{roster_of};
 ghost use Rattle.amo_run.specs.Versions.{version_for};
 ghost use Rattle.amo_settings.specs.Limits.{AreWithin};
 
 use crate::host::{Host, pumps_of, push_host};
 use crate::opening::{Opened, open};
 use crate::part::Part;
+use crate::roster::Roster;
 use crate::work::PumpJob;
 use crate::{RunFault, RunSettings};
 use amo_book::{Book, Charge, Pass};
@@ -25,10 +27,11 @@ pub struct Hands<S, C> {
     pub scripts: Vec<S>,
 }
 
-/// A book, and all that is to work at it.
+/// A book, all that is to work at it, and whose its passes are.
 #[derive(Drop)]
 pub struct Crew<S, C> {
     pub book: Book,
+    pub roster: Roster,
     pub hands: Hands<S, C>,
 }
 
@@ -53,21 +56,33 @@ pub fn muster<S: Drop, C: Drop>(
     ensures ready { IfOk result (IsReady (version_for settings.now.batch)) }
     ensures sides { IfOk result (λ crew. crew.book.sides ≡ sides_of part settings.now.streams) }
     ensures passes { IfOk result (λ crew. crew.book.passes ≡ passes_of part (pumps_of settings.now) (length scripts.items)) }
+    ensures roster { IfOk result (λ crew. crew.roster ≡ roster_of part (pumps_of settings.now) (length scripts.items)) }
     ensures scripts { IfOk result (λ crew. crew.hands.scripts ≡ scripts) }
 {
-    let passes = (part.hosts() * pumps_of(settings) + scripts.len()).max(2);
+    let pumps = part.hosts() * pumps_of(settings);
+    let count = (pumps + scripts.len()).max(2);
+    let roster = Roster {
+        part,
+        pumps: pumps_of(settings),
+        first_client: count - pumps - scripts.len(),
+        first_pump: count - pumps,
+    };
     let Opened {
         book,
         passes,
         charges,
-    } = open(alloc, part, settings.streams, passes)?;
+    } = open(alloc, part, settings.streams, count)?;
     let jobs = jobs_of(alloc, settings, part, &book, charges, wires)?;
     let hands = Hands {
         passes,
         jobs,
         scripts,
     };
-    Ok(Crew { book, hands })
+    Ok(Crew {
+        book,
+        roster,
+        hands,
+    })
 }
 
 /// The pumps of these hosts.
@@ -86,12 +101,13 @@ fn jobs_of<C: Drop>(
     requires belong { Each (IsChargeOf book.now.id book.now.sides) charges.items }
     ensures ours { IfOk result (λ jobs. Each (λ j. IsOurs (version_for settings.now.batch) book.now j.task.pump) jobs.items) }
     ensures all { IfOk result (λ jobs. AllCharges (dealt (map (λ j. j.task.pump) jobs.items)) (length book.now.sides)) }
+    ensures drivers { IfOk result (λ jobs. EachAt (λ n j. IsDriver part (pumps_of settings.now) n j.task.pump) 0 jobs.items) }
     ensures count { IfOk result (λ jobs. length jobs.items ≡ hosts_of part * pumps_of settings.now) }
 {
     let mut jobs = Vec::new(alloc);
     let Wires { senders, receivers } = wires;
-    let sender = Host::of(settings, End::Sender);
-    let receiver = Host::of(settings, End::Receiver);
+    let sender = Host::of(settings, part, End::Sender);
+    let receiver = Host::of(settings, part, End::Receiver);
     match part {
         Part::Both => {
             let Ok((front, back)) = parts(charges, settings.streams as usize) else {

@@ -2,7 +2,9 @@
 ghost use Rattle.std.specs.Prelude.{◌≡◌, ◌↔◌, ◌+◌, ◌<◌, ◌++◌, true, false, length, min, vec_len, vec_capacity};
 ghost use Rattle.amo_book.specs.Book.{first_pass};
 ghost use Rattle.amo_run.specs.Crew.{Made, Adds, SoFar};
+ghost use Rattle.amo_run.specs.Roster.{IsWhose};
 
+use crate::roster::Roster;
 use amo_book::{Book, Charge, Pass};
 use amo_journal::Version;
 use amo_world::{Event, NoMemory};
@@ -24,23 +26,25 @@ pub struct Home {
 }
 
 impl Home {
-    /// The next pass comes back, with its events, which have lines in a journal of this version.
+    /// The next pass comes back, with its events, which have lines in a journal of this version, and are such as its thread makes.
     pub fn take(
         &mut self,
+        roster: Roster,
         version: Version,
         book: &Book,
         pass: Pass,
         made: Result<Vec<(u64, Event)>, NoMemory>,
     )
         requires room { vec_len self.old.passes < vec_capacity self.old.passes }
-        requires so_far { SoFar version book.now self.old }
-        requires made { Made version book.now.sides (first_pass book.now.id (length self.old.passes.items)) pass made }
-        ensures so_far { SoFar version book.now self.new }
+        requires so_far { SoFar roster version book.now self.old }
+        requires made { Made version book.now.sides (IsWhose roster) (first_pass book.now.id (length self.old.passes.items)) pass made }
+        ensures so_far { SoFar roster version book.now self.new }
         ensures count { length self.new.passes.items ≡ length self.old.passes.items + 1 }
         ensures room { vec_capacity self.new.passes ≡ vec_capacity self.old.passes }
         ensures charges { (self.new.charges ≡ self.old.charges) × (self.new.is_short ≡ false → self.old.is_short ≡ false) }
         ensures counts { (self.new.is_cut_off ≡ self.old.is_cut_off) × (self.new.link_faults ≡ self.old.link_faults) × (self.new.busy ≡ self.old.busy) }
     {
+        let _ = roster;
         let _ = version;
         let _ = book;
         let is_kept = add_events(&mut self.events, made);

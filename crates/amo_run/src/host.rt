@@ -2,12 +2,14 @@
 ghost use Rattle.std.specs.Prelude.{◌≡◌, ◌+◌, ◌++◌, ◌≤◌, ◌<◌, ◌^◌, ℕ, length, map, IfOk, OnOk};
 ghost use Rattle.amo_book.specs.Book.{Each};
 ghost use Rattle.amo_book.specs.Closed.{HasCharge};
-ghost use Rattle.amo_run.specs.Crew.{IsOurs, dealt};
+ghost use Rattle.amo_run.specs.Crew.{EachAt, IsDriver, IsOurs, dealt};
 ghost use Rattle.amo_run.specs.Parts.{pumps_of};
+ghost use Rattle.amo_run.specs.Roster.{pumps_before};
 ghost use Rattle.amo_settings.specs.Limits.{AreWithin};
 ghost use Rattle.amo_run.specs.Sides.{IsHostOf};
 ghost use Rattle.amo_run.specs.Versions.{starting, version_for};
 
+use crate::part::Part;
 use crate::plan::Plan;
 use crate::source::Source;
 use crate::work::{PumpJob, Task};
@@ -25,6 +27,8 @@ const WINDOW: usize = 16;
 #[derive(Clone, Copy)]
 pub struct Host {
     seed: [u8; 32],
+    /// The hosts that stand in its book.
+    part: Part,
     side: End,
     pumps: usize,
     /// The half of the crashes that are its own.
@@ -35,10 +39,11 @@ pub struct Host {
 }
 
 impl Host {
-    /// The host of this side.
-    pub fn of(settings: &RunSettings, side: End) -> Host
+    /// The host of this side, where these hosts stand in its book.
+    pub fn of(settings: &RunSettings, part: Part, side: End) -> Host
         requires { AreWithin settings.now }
         ensures host { (result.seed ≡ settings.now.seed) × (result.side ≡ side) × (result.streams ≡ settings.now.streams) }
+        ensures part { result.part ≡ part }
         ensures batch { result.batch ≡ settings.now.batch }
         ensures count { result.pumps ≡ pumps_of settings.now }
         ensures few { (1 ≤ result.pumps) × (result.pumps ≤ 4) × (result.pumps ≤ settings.now.streams) }
@@ -49,6 +54,7 @@ impl Host {
         };
         Host {
             seed: settings.seed,
+            part,
             side,
             pumps: pumps_of(settings),
             crashes,
@@ -101,7 +107,7 @@ pub fn pumps_of(settings: &RunSettings) -> usize
     settings.pumps.min(settings.streams) as usize
 }
 
-/// Adds the pumps of a host. Each has its wire; that of the first pump stands last.
+/// Adds the pumps of a host to those that stand before them. Each has its wire; that of the first pump stands last.
 pub fn push_host<C: Drop>(
     alloc: Global,
     jobs: &mut Vec<PumpJob<C>>,
@@ -110,10 +116,13 @@ pub fn push_host<C: Drop>(
     wires: Vec<C>,
     host: Host,
 ) -> Result<(), RunFault>
-    requires host { IsHostOf book.now charges.items }
+    requires host { IsHostOf host.side book.now charges.items }
     requires pumps { (1 ≤ host.pumps) × (host.pumps ≤ 4) × (host.pumps ≤ length charges.items) }
     requires wires { host.pumps ≤ length wires.items }
     requires ours { Each (λ j. IsOurs (version_for host.batch) book.now j.task.pump) jobs.old.items }
+    requires before { length jobs.old.items ≡ pumps_before host.part host.pumps host.side }
+    requires drivers { EachAt (λ n j. IsDriver host.part host.pumps n j.task.pump) 0 jobs.old.items }
+    ensures drivers { OnOk result (EachAt (λ n j. IsDriver host.part host.pumps n j.task.pump) 0 jobs.new.items) }
     ensures ours { OnOk result (Each (λ j. IsOurs (version_for host.batch) book.now j.task.pump) jobs.new.items) }
     ensures kept { OnOk result ((place : ℕ) → HasCharge (dealt (map (λ j. j.task.pump) jobs.old.items)) place → HasCharge (dealt (map (λ j. j.task.pump) jobs.new.items)) place) }
     ensures added { OnOk result ((place : ℕ) → HasCharge charges.items place → HasCharge (dealt (map (λ j. j.task.pump) jobs.new.items)) place) }

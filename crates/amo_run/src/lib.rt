@@ -19,6 +19,7 @@ mod plan;
 mod progress;
 mod ran;
 mod report;
+mod roster;
 mod script;
 mod source;
 mod threads;

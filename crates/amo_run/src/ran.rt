@@ -5,6 +5,7 @@ use crate::report::Chronicle;
 use amo_book::Closed;
 use amo_world::Event;
 use std::alloc::Global;
+use std::fmt;
 
 /// What a run did.
 #[derive(Drop)]
@@ -54,5 +55,19 @@ impl Ran {
             link_faults: senders.link_faults.saturating_add(receivers.link_faults),
             busy: senders.busy.saturating_add(receivers.busy),
         }
+    }
+}
+
+/// How many events the books of the run have, and how often its links failed.
+impl fmt::Display for Ran {
+    ghost use Rattle.std.specs.Prelude.{Some};
+    ghost use Rattle.amo_run.specs.Ran.{ran_text};
+
+    ghost output = { λ ran. Some (ran_text ran) };
+
+    fn fmt<W: fmt::Write>(&self, f: &mut fmt::Formatter<W>) -> fmt::Result {
+        let events = self.events.len() + self.receivers.len();
+        let faults = self.link_faults;
+        write!(f, "events {events}, link faults {faults}")
     }
 }

@@ -6,6 +6,7 @@ ghost use Rattle.amo_run.specs.Whole.{Ends, IsWhole};
 
 use crate::RunFault;
 use crate::home::Home;
+use crate::roster::Roster;
 use amo_book::{Book, Closed};
 use amo_journal::Version;
 use amo_world::Event;
@@ -25,17 +26,19 @@ pub struct Chronicle {
 /// Closes the book, from which nothing is missing, and puts the events in order. They have lines in a journal of this version.
 pub fn settle(
     alloc: Global,
+    roster: Roster,
     version: Version,
     book: Book,
     home: Home,
 ) -> Result<Chronicle, RunFault>
-    requires ends { Ends version book home }
+    requires ends { Ends roster version book home }
     requires lawful { IsLawful book.sides book.passes }
-    ensures whole { IfOk result (λ r. IsWhole book.sides book.passes r.closed r.events.items) }
+    ensures whole { IfOk result (λ r. IsWhole book.sides book.passes roster r.closed r.events.items) }
     ensures spelt { IfOk result (λ r. All (CanSpell version) r.events.items) }
     ensures counts { IfOk result (λ r. (r.link_faults ≡ home.link_faults) × (r.busy ≡ home.busy)) }
     ensures cut_off { IsTrue home.is_cut_off → IsErrOf result RunFault.Device }
 {
+    let _ = roster;
     let _ = version;
     let Home {
         passes,

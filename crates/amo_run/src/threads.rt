@@ -2,11 +2,13 @@
 ghost use Rattle.std.specs.Prelude.{◌≡◌, ◌+◌, ◌++◌, ◌<◌, ◌≤◌, [], false, length, map, vec_len, vec_capacity, reverse, IfOk, IfSome, IfNone, OnOk};
 ghost use Rattle.amo_book.specs.Book.{Each, first_pass};
 ghost use Rattle.amo_run.specs.Engine.{Works, ties};
-ghost use Rattle.amo_run.specs.Crew.{AreHandsOf, Made, Returned, Did, EachAt, IsNew, IsOurs, IsClient, IsPump, IsBack, SoFar, dealt, lent};
+ghost use Rattle.amo_run.specs.Crew.{AreHandsOf, Made, Returned, Did, EachAt, IsNew, IsOurs, IsClient, IsDriver, IsPump, IsBack, SoFar, dealt, lent};
+ghost use Rattle.amo_run.specs.Roster.{IsWhose};
 ghost use Rattle.amo_run.specs.Versions.{version_of};
 
 use crate::crew::Hands;
 use crate::home::Home;
+use crate::roster::Roster;
 use crate::wire::Wire;
 use crate::work::{
     ClientPromise, ClientThread, Done, PumpJob, PumpPromise, PumpThread, Pumped, follow_script,
@@ -36,15 +38,24 @@ fn last_pass(passes: &mut Vec<Pass>, book: &Book) -> Option<Pass>
 }
 
 /// The last of the pumps that wait for their threads.
-#[tactic(auto, using(crate::proofs::Crews::each_less, crate::proofs::Crews::dealt_more))]
-fn last_job<C>(jobs: &mut Vec<PumpJob<C>>, version: Version, book: &Book) -> Option<PumpJob<C>>
-    requires { Each (λ j. IsOurs version book.now j.task.pump) jobs.old.items }
+#[tactic(auto, using(crate::proofs::Crews::each_less, crate::proofs::Crews::at_less, crate::proofs::Crews::dealt_more))]
+fn last_job<C>(
+    jobs: &mut Vec<PumpJob<C>>,
+    roster: Roster,
+    version: Version,
+    book: &Book,
+) -> Option<PumpJob<C>>
+    requires ours { Each (λ j. IsOurs version book.now j.task.pump) jobs.old.items }
+    requires drivers { EachAt (λ n j. IsDriver roster.part roster.pumps n j.task.pump) 0 jobs.old.items }
     ensures rest { Each (λ j. IsOurs version book.now j.task.pump) jobs.new.items }
+    ensures drivers { EachAt (λ n j. IsDriver roster.part roster.pumps n j.task.pump) 0 jobs.new.items }
+    ensures driver { IfSome result (λ j. IsDriver roster.part roster.pumps (length jobs.new.items) j.task.pump) }
     ensures last { IfSome result (λ j. IsOurs version book.now j.task.pump
         × (dealt (map (λ k. k.task.pump) jobs.old.items) ≡ dealt (map (λ k. k.task.pump) jobs.new.items) ++ j.task.pump.charges)
         × (length jobs.old.items ≡ length jobs.new.items + 1)) }
     ensures none { IfNone result (jobs.old.items ≡ []) }
 {
+    let _ = roster;
     let _ = version;
     let _ = book;
     jobs.pop()
@@ -60,11 +71,17 @@ fn last_script<S>(scripts: &mut Vec<S>) -> Option<S>
 
 /// The client's thread that started last.
 #[tactic(auto, using(crate::proofs::Crews::back_less))]
-fn last_client(threads: &mut Vec<ClientThread>, book: &Book, first: usize) -> Option<ClientThread>
-    requires { EachAt (IsClient book.now) first (reverse threads.old.items) }
-    ensures last { IfSome result (λ t. IsClient book.now first t × EachAt (IsClient book.now) (first + 1) (reverse threads.new.items) × (length threads.old.items ≡ length threads.new.items + 1)) }
+fn last_client(
+    threads: &mut Vec<ClientThread>,
+    roster: Roster,
+    book: &Book,
+    first: usize,
+) -> Option<ClientThread>
+    requires { EachAt (IsClient roster book.now) first (reverse threads.old.items) }
+    ensures last { IfSome result (λ t. IsClient roster book.now first t × EachAt (IsClient roster book.now) (first + 1) (reverse threads.new.items) × (length threads.old.items ≡ length threads.new.items + 1)) }
     ensures none { IfNone result (length threads.old.items ≡ 0) }
 {
+    let _ = roster;
     let _ = book;
     let _ = first;
     threads.pop()
@@ -74,15 +91,17 @@ fn last_client(threads: &mut Vec<ClientThread>, book: &Book, first: usize) -> Op
 #[tactic(auto, using(crate::proofs::Crews::back_less, crate::proofs::Crews::lent_more))]
 fn last_pump(
     threads: &mut Vec<PumpThread>,
+    roster: Roster,
     version: Version,
     book: &Book,
     first: usize,
 ) -> Option<PumpThread>
-    requires { EachAt (IsPump version book.now) first (reverse threads.old.items) }
-    ensures last { IfSome result (λ t. IsPump version book.now first t × EachAt (IsPump version book.now) (first + 1) (reverse threads.new.items) × (length threads.old.items ≡ length threads.new.items + 1)) }
+    requires { EachAt (IsPump roster version book.now) first (reverse threads.old.items) }
+    ensures last { IfSome result (λ t. IsPump roster version book.now first t × EachAt (IsPump roster version book.now) (first + 1) (reverse threads.new.items) × (length threads.old.items ≡ length threads.new.items + 1)) }
     ensures lent { IfSome result (λ t. lent (reverse threads.old.items) ≡ t.thread.promise.pump.value.charges ++ lent (reverse threads.new.items)) }
     ensures none { IfNone result (threads.old.items ≡ []) }
 {
+    let _ = roster;
     let _ = version;
     let _ = book;
     let _ = first;
@@ -91,14 +110,21 @@ fn last_pump(
 
 /// A client's thread starts.
 #[tactic(auto, using(crate::proofs::Crews::back_more))]
-fn started_client(threads: &mut Vec<ClientThread>, thread: ClientThread, book: &Book, first: usize)
-    requires threads { EachAt (IsClient book.now) (first + 1) (reverse threads.old.items) }
-    requires thread { IsClient book.now first thread }
+fn started_client(
+    threads: &mut Vec<ClientThread>,
+    thread: ClientThread,
+    roster: Roster,
+    book: &Book,
+    first: usize,
+)
+    requires threads { EachAt (IsClient roster book.now) (first + 1) (reverse threads.old.items) }
+    requires thread { IsClient roster book.now first thread }
     requires room { vec_len threads.old < vec_capacity threads.old }
-    ensures threads { EachAt (IsClient book.now) first (reverse threads.new.items) }
+    ensures threads { EachAt (IsClient roster book.now) first (reverse threads.new.items) }
     ensures count { length threads.new.items ≡ length threads.old.items + 1 }
     ensures room { vec_capacity threads.new ≡ vec_capacity threads.old }
 {
+    let _ = roster;
     let _ = book;
     let _ = first;
     threads.push_reserved(thread);
@@ -109,18 +135,20 @@ fn started_client(threads: &mut Vec<ClientThread>, thread: ClientThread, book: &
 fn started_pump(
     threads: &mut Vec<PumpThread>,
     thread: PumpThread,
+    roster: Roster,
     version: Version,
     book: &Book,
     first: usize,
 )
-    requires threads { EachAt (IsPump version book.now) (first + 1) (reverse threads.old.items) }
-    requires thread { IsPump version book.now first thread }
+    requires threads { EachAt (IsPump roster version book.now) (first + 1) (reverse threads.old.items) }
+    requires thread { IsPump roster version book.now first thread }
     requires room { vec_len threads.old < vec_capacity threads.old }
-    ensures threads { EachAt (IsPump version book.now) first (reverse threads.new.items) }
+    ensures threads { EachAt (IsPump roster version book.now) first (reverse threads.new.items) }
     ensures lent { lent (reverse threads.new.items) ≡ thread.thread.promise.pump.value.charges ++ lent (reverse threads.old.items) }
     ensures count { length threads.new.items ≡ length threads.old.items + 1 }
     ensures room { vec_capacity threads.new ≡ vec_capacity threads.old }
 {
+    let _ = roster;
     let _ = version;
     let _ = book;
     let _ = first;
@@ -128,61 +156,69 @@ fn started_pump(
 }
 
 /// The clients' passes come home, with their events.
-#[tactic(auto, using(crate::proofs::Versions::made_in))]
+#[tactic(auto, using(crate::proofs::Rosters::made_by_client))]
 fn join_clients<R: Threads + Wait>(
     rt: &R,
+    roster: Roster,
     version: Version,
     book: &Book,
     threads: Vec<ClientThread>,
     home: Home,
 ) -> Home
-    requires so_far { SoFar version book.now home }
-    requires threads { EachAt (IsClient book.now) (length home.passes.items) (reverse threads.items) }
+    requires so_far { SoFar roster version book.now home }
+    requires threads { EachAt (IsClient roster book.now) (length home.passes.items) (reverse threads.items) }
     requires room { length home.passes.items + length threads.items ≤ vec_capacity home.passes }
-    ensures so_far { SoFar version book.now result }
+    ensures so_far { SoFar roster version book.now result }
     ensures count { length result.passes.items ≡ length home.passes.items + length threads.items }
     ensures room { vec_capacity result.passes ≡ vec_capacity home.passes }
     ensures charges { result.charges ≡ home.charges }
 {
     let (mut threads, mut home) = (threads, home);
-    'joins: while let Some(running) = last_client(&mut threads, book, home.passes.len()) {
+    'joins: while let Some(running) = last_client(&mut threads, roster, book, home.passes.len()) {
         let Done { pass, made } = running.thread.join(rt);
-        home.take(version, book, pass, made);
+        home.take(roster, version, book, pass, made);
     }
     home
 }
 
 /// The pumps' passes and charges come home, with their events.
-#[tactic(auto, using(crate::proofs::Crews::sofar_same, crate::proofs::Crews::ties_back))]
+#[tactic(auto, using(crate::proofs::Crews::sofar_same, crate::proofs::Crews::ties_back, crate::proofs::Rosters::made_by_pump))]
 fn join_pumps<R: Threads + Wait>(
     rt: &R,
+    roster: Roster,
     version: Version,
     book: &Book,
     threads: Vec<PumpThread>,
     home: Home,
 ) -> Home
-    requires so_far { SoFar version book.now home }
-    requires threads { EachAt (IsPump version book.now) (length home.passes.items) (reverse threads.items) }
+    requires so_far { SoFar roster version book.now home }
+    requires threads { EachAt (IsPump roster version book.now) (length home.passes.items) (reverse threads.items) }
     requires room { length home.passes.items + length threads.items ≤ vec_capacity home.passes }
-    ensures so_far { SoFar version book.now result }
+    ensures so_far { SoFar roster version book.now result }
     ensures count { length result.passes.items ≡ length home.passes.items + length threads.items }
     ensures charges { result.is_short ≡ false → ties result.charges.items ≡ ties (home.charges.items ++ lent (reverse threads.items)) }
 {
     let (mut threads, mut home) = (threads, home);
-    'joins: while let Some(running) = last_pump(&mut threads, version, book, home.passes.len()) {
+    'joins: while let Some(running) = last_pump(
+        &mut threads,
+        roster,
+        version,
+        book,
+        home.passes.len(),
+    ) {
         let pumped = running.thread.join(rt);
-        come_home(version, book, &mut home, pumped);
+        come_home(roster, version, book, &mut home, pumped);
     }
     home
 }
 
 /// A pump's pass and charges come home.
 #[tactic(auto, using(crate::proofs::Crews::sofar_same))]
-fn come_home(version: Version, book: &Book, home: &mut Home, pumped: Pumped)
+fn come_home(roster: Roster, version: Version, book: &Book, home: &mut Home, pumped: Pumped)
     requires room { vec_len home.old.passes < vec_capacity home.old.passes }
-    requires so_far { SoFar version book.now home.old }
-    requires made { Made version book.now.sides (first_pass book.now.id (length home.old.passes.items)) pumped.pass pumped.made }
-    ensures so_far { SoFar version book.now home.new }
+    requires so_far { SoFar roster version book.now home.old }
+    requires made { Made version book.now.sides (IsWhose roster) (first_pass book.now.id (length home.old.passes.items)) pumped.pass pumped.made }
+    ensures so_far { SoFar roster version book.now home.new }
     ensures count { length home.new.passes.items ≡ length home.old.passes.items + 1 }
     ensures room { vec_capacity home.new.passes ≡ vec_capacity home.old.passes }
     ensures charges { home.new.is_short ≡ false → (home.old.is_short ≡ false) × (home.new.charges.items ≡ home.old.charges.items ++ pumped.charges.items) }
@@ -195,7 +231,7 @@ fn come_home(version: Version, book: &Book, home: &mut Home, pumped: Pumped)
         link_faults,
         busy,
     } = pumped;
-    home.take(version, book, pass, made);
+    home.take(roster, version, book, pass, made);
     home.take_charges(charges);
     home.count(is_cut_off, link_faults, busy);
 }
@@ -216,15 +252,15 @@ pub fn at_once<S: Script + Send + Drop, C: Wire + Send + Drop, R: Threads + Wait
     place: Workplace<'_>,
     hands: Hands<S, C>,
 ) -> Result<Home, RunFault>
-    requires hands { AreHandsOf place.version place.book.now hands }
-    ensures { IfOk result (λ h. IsBack place.entry.version place.entry.book.now (dealt (map (λ j. j.task.pump) hands.jobs.items)) h) }
+    requires hands { AreHandsOf place.roster place.version place.book.now hands }
+    ensures { IfOk result (λ h. IsBack place.entry.roster place.entry.version place.entry.book.now (dealt (map (λ j. j.task.pump) hands.jobs.items)) h) }
 {
     thread::scope(
         thread::scope_env(),
         rt,
         |scope| -> Result<Home, RunFault>
-            requires { AreHandsOf place.version place.book.now hands }
-            ensures { IfOk result (λ h. IsBack place.entry.version place.entry.book.now (dealt (map (λ j. j.task.pump) hands.jobs.items)) h) }
+            requires { AreHandsOf place.roster place.version place.book.now hands }
+            ensures { IfOk result (λ h. IsBack place.entry.roster place.entry.version place.entry.book.now (dealt (map (λ j. j.task.pump) hands.jobs.items)) h) }
         { in_scope(scope, rt, alloc, place, hands) },
     )
 }
@@ -243,8 +279,8 @@ fn in_scope<
     place: Workplace<'s>,
     hands: Hands<S, C>,
 ) -> Result<Home, RunFault>
-    requires { AreHandsOf place.version place.book.now hands }
-    ensures { IfOk result (λ h. IsBack place.entry.version place.entry.book.now (dealt (map (λ j. j.task.pump) hands.jobs.items)) h) }
+    requires { AreHandsOf place.roster place.version place.book.now hands }
+    ensures { IfOk result (λ h. IsBack place.entry.roster place.entry.version place.entry.book.now (dealt (map (λ j. j.task.pump) hands.jobs.items)) h) }
 {
     let Hands {
         mut passes,
@@ -253,10 +289,10 @@ fn in_scope<
     } = hands;
     let pumps = start_pumps(scope, rt, alloc, place, &mut passes, jobs)?;
     let clients = start_clients(scope, rt, alloc, place, &mut passes, scripts)?;
-    let home = home_of(alloc, place.version, place.book, passes);
-    let home = join_clients(rt, place.version, place.book, clients, home);
+    let home = home_of(alloc, place.roster, place.version, place.book, passes);
+    let home = join_clients(rt, place.roster, place.version, place.book, clients, home);
     place.progress.end_of_clients();
-    Ok(join_pumps(rt, place.version, place.book, pumps, home))
+    Ok(join_pumps(rt, place.roster, place.version, place.book, pumps, home))
 }
 
 /// Starts the threads of the pumps. Each takes the last of the passes that are left.
@@ -269,10 +305,11 @@ fn start_pumps<'s, E, C: Wire + Send + Drop + 's, R: Wait + Sync>(
     jobs: Vec<PumpJob<C>>,
 ) -> Result<Vec<PumpThread>, RunFault>
     requires passes { EachAt (IsNew place.book.now) 0 passes.old.items }
-    requires enough { length jobs.items ≤ length passes.old.items }
+    requires enough { place.roster.first_pump + length jobs.items ≡ length passes.old.items }
     requires ours { Each (λ j. IsOurs place.version place.book.now j.task.pump) jobs.items }
+    requires drivers { EachAt (λ n j. IsDriver place.roster.part place.roster.pumps n j.task.pump) 0 jobs.items }
     ensures passes { OnOk result (EachAt (IsNew place.entry.book.now) 0 passes.new.items) }
-    ensures threads { IfOk result (λ pumps. EachAt (IsPump place.entry.version place.entry.book.now) (length passes.new.items) (reverse pumps.items)) }
+    ensures threads { IfOk result (λ pumps. EachAt (IsPump place.entry.roster place.entry.version place.entry.book.now) (length passes.new.items) (reverse pumps.items)) }
     ensures count { IfOk result (λ pumps. (length pumps.items ≡ length jobs.items) × (length pumps.items + length passes.new.items ≡ length passes.old.items)) }
     ensures lent { IfOk result (λ pumps. lent (reverse pumps.items) ≡ dealt (map (λ j. j.task.pump) jobs.items)) }
     ensures room { OnOk result (vec_capacity passes.new ≡ vec_capacity passes.old) }
@@ -281,12 +318,19 @@ fn start_pumps<'s, E, C: Wire + Send + Drop + 's, R: Wait + Sync>(
         return Err(refused(place.progress));
     };
     let mut jobs = jobs;
-    'pumps: while let Some(job) = last_job(&mut jobs, place.version, place.book) {
+    'pumps: while let Some(job) = last_job(&mut jobs, place.roster, place.version, place.book) {
         let Some(pass) = last_pass(passes, place.book) else {
             unreachable!()
         };
         let thread = start_pump(scope, rt, alloc, place, pass, job)?;
-        started_pump(&mut pumps, thread, place.version, place.book, passes.len());
+        started_pump(
+            &mut pumps,
+            thread,
+            place.roster,
+            place.version,
+            place.book,
+            passes.len(),
+        );
     }
     Ok(pumps)
 }
@@ -335,9 +379,10 @@ fn start_clients<'s, E, S: Script + Send + Drop + 's, R: Wait + Sync>(
     scripts: Vec<S>,
 ) -> Result<Vec<ClientThread>, RunFault>
     requires passes { EachAt (IsNew place.book.now) 0 passes.old.items }
-    requires enough { length scripts.items ≤ length passes.old.items }
+    requires enough { place.roster.first_client + length scripts.items ≡ length passes.old.items }
+    requires first { length passes.old.items ≤ place.roster.first_pump }
     ensures passes { OnOk result (EachAt (IsNew place.entry.book.now) 0 passes.new.items) }
-    ensures threads { IfOk result (λ clients. EachAt (IsClient place.entry.book.now) (length passes.new.items) (reverse clients.items)) }
+    ensures threads { IfOk result (λ clients. EachAt (IsClient place.entry.roster place.entry.book.now) (length passes.new.items) (reverse clients.items)) }
     ensures count { IfOk result (λ clients. (length clients.items ≡ length scripts.items) × (length clients.items + length passes.new.items ≡ length passes.old.items)) }
     ensures room { OnOk result (vec_capacity passes.new ≡ vec_capacity passes.old) }
 {
@@ -350,7 +395,7 @@ fn start_clients<'s, E, S: Script + Send + Drop + 's, R: Wait + Sync>(
             unreachable!()
         };
         let thread = start_client(scope, rt, alloc, place, pass, script)?;
-        started_client(&mut clients, thread, place.book, passes.len());
+        started_client(&mut clients, thread, place.roster, place.book, passes.len());
     }
     Ok(clients)
 }
@@ -387,12 +432,13 @@ fn start_client<'s, E, S: Script + Send + Drop + 's, R: Wait + Sync>(
 
 /// The passes that are left are at home, and made no event.
 #[tactic(auto, using(crate::proofs::Crews::sofar_new))]
-fn home_of(alloc: Global, version: Version, book: &Book, passes: Vec<Pass>) -> Home
+fn home_of(alloc: Global, roster: Roster, version: Version, book: &Book, passes: Vec<Pass>) -> Home
     requires { EachAt (IsNew book.now) 0 passes.items }
-    ensures so_far { SoFar version book.now result }
+    ensures so_far { SoFar roster version book.now result }
     ensures passes { result.passes ≡ passes }
     ensures charges { result.charges.items ≡ [] }
 {
+    let _ = roster;
     let _ = version;
     let _ = book;
     Home {

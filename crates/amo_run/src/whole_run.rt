@@ -4,6 +4,7 @@ ghost use Rattle.amo_journal.specs.Journal.{CanSpell};
 ghost use Rattle.amo_run.specs.declared.part.Part.TheVariants.{Both, Senders, Receivers};
 ghost use Rattle.amo_run.specs.Parts.{clients_of, passes_of, pumps_of, sides_of};
 ghost use Rattle.amo_run.specs.Ran.{HasLines, IsOfBooks, IsOfTwo, IsRanOf};
+ghost use Rattle.amo_run.specs.Roster.{roster_of};
 ghost use Rattle.amo_settings.specs.Limits.{AreWithin};
 ghost use Rattle.amo_run.specs.Versions.{version_for};
 ghost use Rattle.amo_run.specs.Whole.{IsWhole};
@@ -219,18 +220,23 @@ pub fn run_scripts<S: Script + Send + Drop, C: Wire + Send + Drop, R: Threads + 
     requires receivers { pumps_of settings.now ≤ length wires.receivers.items }
     requires scripts { length scripts.items ≤ 56 }
     ensures spelt { IfOk result (λ r. All (CanSpell (version_for settings.now.batch)) r.events.items) }
-    ensures whole { IfOk result (λ r. IsWhole (sides_of Both settings.now.streams) (passes_of Both (pumps_of settings.now) (length scripts.items)) r.closed r.events.items) }
+    ensures whole { IfOk result (λ r. IsWhole (sides_of Both settings.now.streams) (passes_of Both (pumps_of settings.now) (length scripts.items)) (roster_of Both (pumps_of settings.now) (length scripts.items)) r.closed r.events.items) }
 {
     let version = version_of(settings);
-    let Crew { book, hands } = muster(alloc, settings, Part::Both, wires, scripts)?;
+    let Crew {
+        book,
+        roster,
+        hands,
+    } = muster(alloc, settings, Part::Both, wires, scripts)?;
     progress.begin(1);
     let place = Workplace {
+        roster,
         version,
         book: &book,
         progress,
     };
     let home = at_once(rt, alloc, place, hands)?;
-    settle(alloc, version, book, home)
+    settle(alloc, roster, version, book, home)
 }
 
 /// A run on two books: the senders', and the receivers'.

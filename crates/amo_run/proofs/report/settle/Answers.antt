@@ -5,7 +5,9 @@ use Rattle.amo_world.specs.declared.event.Event.{Event}
 use Rattle.amo_book.specs.Rule.{AllBelow}
 use Rattle.amo_run.proofs.Crews.{homes_each, homes_all}
 use Rattle.amo_run.proofs.Lines.{all_lines}
+use Rattle.amo_run.specs.Roster.{IsWhose}
 use Rattle.amo_run.proofs.Merges.{merged, bare_length}
+use Rattle.amo_run.proofs.Rosters.{all_whose}
 use Rattle.amo_run.proofs.report.settle.Goals as goal
 
 pub close-requires : goal.close-requires
@@ -29,6 +31,7 @@ returns-clause-whole c = let z = c.in-Ok.ensures.closed.0 in
       right = z.right;
       served = z.served;
       no_others = z.no_others;
+      whose = all_whose c.args.roster c.args.version c.args.book c.in-Ok-bare.events.items c.args.home.events.items sorted (c.requires.ends.fit c.if-is_short.false) c.sort_by_key.ensures.permutation bare;
       count = omega arith;
       states = z.states;
     }
@@ -41,4 +44,4 @@ returns-clause-spelt c = let z = c.in-Ok.ensures.closed.0 in
     let m = merged c.args.book z.history c.args.home.passes.items c.args.home.events.items sorted c.requires.ends.passes z.each (subst (λ (n : ℕ). AllBelow n z.history) (sym c.requires.ends.count) z.no_others)
     (c.requires.ends.events c.if-is_short.false) c.sort_by_key.ensures.permutation up small in
     let bare : c.in-Ok-bare.events.items ≡ map (λ (x : ℕ × Event). x.1) sorted = c.in-Ok-bare.ensures in
-    all_lines c.args.version c.args.book z.history c.in-Ok-bare.events.items c.args.home.events.items sorted c.requires.lawful (c.requires.ends.fit c.if-is_short.false) c.sort_by_key.ensures.permutation bare (bare ∙ m.0) z.no_others
+    all_lines c.args.version (IsWhose c.args.roster) c.args.book z.history c.in-Ok-bare.events.items c.args.home.events.items sorted c.requires.lawful (c.requires.ends.fit c.if-is_short.false) c.sort_by_key.ensures.permutation bare (bare ∙ m.0) z.no_others

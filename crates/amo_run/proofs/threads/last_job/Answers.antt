@@ -19,4 +19,4 @@ last_of version b old new (Some j) is h = (
 )
 
 pub returns-clause-last : goal.returns-clause-last
-returns-clause-last g c = last_of c.args.version c.args.book.now c.args.jobs.now.items c.pop.new.self.items c.pop.result c.pop.ensures.items c.requires
+returns-clause-last g c = last_of c.args.version c.args.book.now c.args.jobs.now.items c.pop.new.self.items c.pop.result c.pop.ensures.items c.requires.ours
