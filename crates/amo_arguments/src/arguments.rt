@@ -414,11 +414,7 @@ fn parse_host(alloc: Global, matches: &ArgMatches<'_>) -> Result<HostSettings, U
 }
 
 /// The longest interval of a host whose first one is `tick`.
-fn tick_most_of(
-    alloc: Global,
-    matches: &ArgMatches<'_>,
-    tick: u32,
-) -> Result<Option<u64>, Unfit>
+fn tick_most_of(alloc: Global, matches: &ArgMatches<'_>, tick: u32) -> Result<Option<u64>, Unfit>
     ensures ceiling { IfOk result (HasNumberOrNone (rows_of (found_of matches.now)) (codes "tick-most")) }
     ensures fits { IfOk result (λ most. IfSome most (λ most. (1 ≤ most) × (most ≤ 3600000000) × (tick ≤ most))) }
 {

@@ -124,7 +124,11 @@ impl<'a> Side<'a> {
         Asked {
             bytes: self.journal.lines(),
             doubts: self.spans,
-            if_short: if self.is_later { EVERY_LINE } else { self.spans },
+            if_short: if self.is_later {
+                EVERY_LINE
+            } else {
+                self.spans
+            },
         }
     }
 

@@ -30,10 +30,10 @@ pub returns-in-Ok-clause-told : goal.returns-in-Ok-clause-told
 returns-in-Ok-clause-told c =
     let told : IsTelling c.in_ok-told.told.reach c.args.choice c.args.first.bytes.now c.args.second.bytes.now c.doubts_of_first.result.now c.doubts_of_second.result.now c.in-Ok.text.items =
     is_telling c.args.choice c.args.first.bytes.now c.args.second.bytes.now c.doubts_of_first.result.now c.doubts_of_second.result.now (map items_of c.as_slice.result.now) c.in_ok-told.told.reach c.open.result c.open-2.result c.open.ensures c.open-2.ensures
-        (rw c.as_slice.ensures.value c.in_ok-told.ensures.told) c.in-Ok.text.items c.in-Ok.ensures in
+    (rw c.as_slice.ensures.value c.in_ok-told.ensures.told) c.in-Ok.text.items c.in-Ok.ensures in
     subst (λ (doubts : List Span). IsTelling c.in_ok-told.told.reach c.args.choice c.args.first.bytes.now c.args.second.bytes.now doubts (second_doubts c.in_ok-told.told.reach c.args.second.doubts.now c.args.second.if_short.now) c.in-Ok.text.items)
-        c.doubts_of_first.ensures
-        (subst (λ (doubts : List Span). IsTelling c.in_ok-told.told.reach c.args.choice c.args.first.bytes.now c.args.second.bytes.now c.doubts_of_first.result.now doubts c.in-Ok.text.items) c.doubts_of_second.ensures told)
+    c.doubts_of_first.ensures
+    (subst (λ (doubts : List Span). IsTelling c.in_ok-told.told.reach c.args.choice c.args.first.bytes.now c.args.second.bytes.now c.doubts_of_first.result.now doubts c.in-Ok.text.items) c.doubts_of_second.ensures told)
 
 pub returns-clause-found : goal.returns-clause-found
 returns-clause-found c = record { ours = c.open.result; theirs = c.open-2.result; opens = (c.open.ensures, c.open-2.ensures); inner = Whole NoMemory; finds = tt; is = refl }
