@@ -9,7 +9,6 @@ use Rattle.amo_core.specs.declared.act.Act.TheVariants as act
 use Rattle.amo_core.specs.declared.reply.Reply.{Reply}
 use Rattle.amo_core.specs.declared.reply.Reply.TheVariants as reply
 use Rattle.amo_core.specs.declared.automaton.Automaton.{Automaton}
-use Rattle.amo_core.specs.declared.automaton.Automaton.TheVariants as automaton
 use Rattle.amo_core.specs.declared.sender.SenderMode.{SenderMode}
 use Rattle.amo_core.specs.declared.sender.SenderMode.TheVariants as sending
 use Rattle.amo_core.specs.declared.receiver.ReceiverMode.{ReceiverMode}
@@ -17,16 +16,14 @@ use Rattle.amo_core.specs.declared.receiver.ReceiverMode.TheVariants as receivin
 use Rattle.amo_core.specs.Row.{silent}
 use Rattle.amo_core.specs.Sender as sender
 use Rattle.amo_core.specs.Receiver as receiver
-use Rattle.amo_core.specs.Automaton.{row, handed_back, Writes}
+use Rattle.amo_core.specs.Automaton.{row, handed_back}
 use Rattle.amo_world.specs.Stream.{Stream, reply_of, emission_of}
 use Rattle.amo_world.specs.History.{stream_after}
 use Rattle.amo_world.proofs.Emitted.{start_is_done, batch_is_done, resend_is_done, deliver_is_done, crash_is_done, recover_is_done}
 use Rattle.amo_book.specs.Steps.{IsStateOf}
 use Rattle.amo_book.specs.Calls.{IsPutReply, IsGetReply, IsAckReply}
 use Rattle.amo_book.specs.Charge.{ChargeState}
-use Rattle.amo_book.specs.declared.drive.Done.{Done}
-use Rattle.amo_book.specs.Drive.{Suits, Driven, DrivenSilently}
-use Rattle.amo_book.specs.Pass.{PassState}
+use Rattle.amo_book.specs.Drive.{Suits}
 use Rattle.amo_book.proofs.Histories.{reply-row}
 
 -- what is true of the reply in every stream is true of it at every state of the side
@@ -207,18 +204,3 @@ receiver_recovers s receiving.Down = refl
 pub recover_is_silent : (s : Stream) (at : End) → emission_of s at act.Recover ≡ None
 recover_is_silent s side.Sender = sender_recovers s.sender.state s.sender.state.mode
 recover_is_silent s side.Receiver = receiver_recovers s.receiver.state s.receiver.state.mode
-
--- an act that emits nothing answers no length
-pub silently : (v w : PassState) (c d : ChargeState) (a : Act) (old new : List ℕ) (done : Done) → ((s : Stream) (at : End) → emission_of s at a ≡ None)
-    → Driven v w c d a old new done → DrivenSilently v w c d a done
-silently v w c d a old new done silent driven =
-    let here = silent (stream_after c.stream driven.grown.earlier) c.side in
-    ((subst (λ (e : Option OwnedPacket). Writes e old new done.length) here driven.emitted).1, (old, new, driven))
-
-pub crashes_silently : (v w : PassState) (c d : ChargeState) (old new : List ℕ) (done : Done)
-    → Driven v w c d act.Crash old new done → DrivenSilently v w c d act.Crash done
-crashes_silently v w c d old new done = silently v w c d act.Crash old new done crash_is_silent
-
-pub recovers_silently : (v w : PassState) (c d : ChargeState) (old new : List ℕ) (done : Done)
-    → Driven v w c d act.Recover old new done → DrivenSilently v w c d act.Recover done
-recovers_silently v w c d old new done = silently v w c d act.Recover old new done recover_is_silent

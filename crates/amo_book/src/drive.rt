@@ -110,25 +110,23 @@ impl Book {
     }
 
     /// The side's host goes down, and forgets everything.
-    #[tactic(auto, using(crate::proofs::Replies::crashes_silently))]
     pub fn crash(&self, pass: &mut Pass, charge: &mut Charge) -> Result<Done, DriveFault>
         requires book { (pass.old.book ≡ self.now.id) × IsChargeOf self.now.id self.now.sides charge.old }
         ensures driven { IfOk result (DrivenSilently pass.old pass.new charge.old charge.new act.Crash) }
         ensures right { IsRight pass.new.seen }
         ensures busy { IfErr result (λ fault. (fault ≡ DriveFault.Busy) × (pass.new ≡ pass.old) × (charge.new ≡ charge.old)) }
     {
-        self.perform(pass, charge, Act::Crash, &mut [0; MAX_PACKET])
+        self.perform_silently(pass, charge, Act::Crash)
     }
 
     /// The side's host is up again.
-    #[tactic(auto, using(crate::proofs::Replies::recovers_silently))]
     pub fn recover(&self, pass: &mut Pass, charge: &mut Charge) -> Result<Done, DriveFault>
         requires book { (pass.old.book ≡ self.now.id) × IsChargeOf self.now.id self.now.sides charge.old }
         ensures driven { IfOk result (DrivenSilently pass.old pass.new charge.old charge.new act.Recover) }
         ensures right { IsRight pass.new.seen }
         ensures busy { IfErr result (λ fault. (fault ≡ DriveFault.Busy) × (pass.new ≡ pass.old) × (charge.new ≡ charge.old)) }
     {
-        self.perform(pass, charge, Act::Recover, &mut [0; MAX_PACKET])
+        self.perform_silently(pass, charge, Act::Recover)
     }
 
     /// Does an act of a host at the charge's side, if its gate is free. Each call above is this one with its act.
@@ -153,6 +151,31 @@ impl Book {
         let told = Snapshot::of(&act);
         let Outcome { length, .. } = automaton.step(act, out);
         Ok(self.finish(number, seat, charge, &told, automaton, length))
+    }
+
+    /// Does an act that emits nothing, and so needs no buffer.
+    #[inline(always)]
+    fn perform_silently(
+        &self,
+        pass: &mut Pass,
+        charge: &mut Charge,
+        act: Act,
+    ) -> Result<Done, DriveFault>
+        requires book { (pass.old.book ≡ self.now.id) × IsChargeOf self.now.id self.now.sides charge.old }
+        requires suits { Suits charge.old act }
+        requires silent { (x : Automaton) → (row x act).emitted ≡ None }
+        ensures driven { IfOk result (DrivenSilently pass.old pass.new charge.old charge.new act) }
+        ensures right { IsRight pass.new.seen }
+        ensures busy { IfErr result (λ fault. (fault ≡ DriveFault.Busy) × (pass.new ≡ pass.old) × (charge.new ≡ charge.old)) }
+    {
+        let number = pass.number;
+        let seat = &mut pass.seat;
+        let Some(mut automaton) = self.board.take_as_held(seat, charge.site, charge.mode) else {
+            return Err(DriveFault::Busy);
+        };
+        let told = Snapshot::of(&act);
+        automaton.advance(act);
+        Ok(self.finish(number, seat, charge, &told, automaton, None))
     }
 
     /// Makes the event of an act that the automaton has done, gives it home, and leaves the charge its mode.

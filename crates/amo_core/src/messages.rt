@@ -1,11 +1,12 @@
 //! Messages that travel together.
-ghost use Rattle.std.specs.Prelude.{◌≡◌, ◌≤◌, [], length, MatchOption};
+ghost use Rattle.std.specs.Prelude.{◌≡◌, ◌↔◌, ◌≤◌, ◌⊎◌, [], length, IsTrue};
 ghost use Rattle.amo_packet.specs.Batch.{Batch, AreShort, alone, batch_from, messages};
 ghost use Rattle.amo_packet.specs.Packet.{batch_of};
 
 use amo_packet::{MAX_BATCH, Message, Parts};
 use arrayvec::ArrayVec;
 use std::marker::Model;
+use std::mem;
 
 /// One to [`MAX_BATCH`] messages, in order, which take no memory beside their own. Contracts see a list that is never empty.
 #[derive(Drop)]
@@ -28,7 +29,7 @@ impl From<Message> for Messages {
     fn from(message: Message) -> Messages {
         let mut items = ArrayVec::new();
         items.push(message);
-        Messages { items }
+        Messages::of(items)
     }
 }
 
@@ -48,17 +49,22 @@ impl Messages {
         &self.items[0]
     }
 
-    /// The first message, and those after it, if there are any.
-    pub fn split_first(self) -> (Message, Option<Messages>)
-        ensures first { result.0 ≡ self.first }
-        ensures rest { MatchOption result.1 (self.rest ≡ []) (λ rest. self.rest ≡ messages rest) }
+    /// Whether there is one message only.
+    pub fn is_alone(&self) -> bool
+        ensures { IsTrue result ↔ (self.now.rest ≡ []) }
     {
-        let mut items = self.items;
-        let first = items.remove(0);
-        if items.is_empty() {
-            (first, None)
+        self.items.len() == 1
+    }
+
+    /// Takes the first message, and leaves those after it. Where there are none, a message without a byte is left.
+    pub(crate) fn take_first(&mut self) -> Message
+        ensures first { result ≡ self.old.first }
+        ensures rest { (self.old.rest ≡ []) ⊎ (messages self.new ≡ self.old.rest) }
+    {
+        if self.is_alone() {
+            mem::take(&mut self.items[0])
         } else {
-            (first, Some(Messages { items }))
+            self.items.remove(0)
         }
     }
 

@@ -11,7 +11,6 @@ mod lookup;
 use crate::{Messages, Mode};
 use amo_packet::Message;
 use std::marker::Model;
-use std::mem;
 use thiserror::Error;
 
 /// The mode of a receiver.
@@ -114,21 +113,19 @@ impl Receiver {
     }
 
     /// Takes the first of the messages that are held.
-    // By itself, since the mode moves out and back: no other get makes room for a batch.
-    #[inline(never)]
     fn take_first(&mut self) -> Message
         requires { table.kind self.old.mode ≡ Mode.Rcvd }
         ensures { table.row self.old act.Get ≡ silent self.new (get_reply (Ok result)) }
     {
-        let ReceiverMode::Rcvd(id, messages) = mem::replace(&mut self.mode, ReceiverMode::Down)
-        else {
+        let ReceiverMode::Rcvd(id, messages) = &mut self.mode else {
             unreachable!()
         };
-        let (message, rest) = messages.split_first();
-        self.mode = match rest {
-            Some(rest) => ReceiverMode::Rcvd(id, rest),
-            None => ReceiverMode::Ack(id),
-        };
+        let under = *id;
+        let is_last = messages.is_alone();
+        let message = messages.take_first();
+        if is_last {
+            self.mode = ReceiverMode::Ack(under);
+        }
         message
     }
 

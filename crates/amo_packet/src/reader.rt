@@ -1,7 +1,7 @@
 //! Bytes into packets.
 #![tactic(auto, using(std::proofs::lemmas::Bool::Decides::nat_tests), unfolding(crate::specs::Fault::first_fault))]
 
-ghost use Rattle.std.specs.Prelude.{◌≡◌, ◌<◌, ◌≤◌, ◌^◌, ◌++◌, ◌↔◌, ◌⊎◌, ℕ, suc, length, None, OnOk, IfOk, IfErr, IsOkAnd, IsErrOf};
+ghost use Rattle.std.specs.Prelude.{◌≡◌, ◌<◌, ◌≤◌, ◌^◌, ◌++◌, ◌↔◌, ◌⊎◌, ℕ, suc, length, drop, get_or, None, Err, OnOk, IfOk, IfErr, IsOkAnd, IsErrOf};
 ghost use Rattle.amo_packet.specs.declared.fault.ReadFault.{ReadFault};
 ghost use Rattle.amo_packet.specs.declared.packet.OwnedPacket.{OwnedPacket};
 ghost use Rattle.amo_packet.specs.Packet.{packet_of, body_of};
@@ -20,6 +20,7 @@ use std::cmp::Ordering;
 
 /// The packet that all of the bytes spell, or their first fault in the order that [`ReadFault`] gives. A message is
 /// borrowed from where it lies in them.
+#[inline(always)]
 pub fn read(bytes: &[u8]) -> Result<Packet<'_>, ReadFault>
     // What is read is what the bytes spell, and what they spell is read.
     ensures found { IfOk result (λ p. Spells NEWEST_VERSION bytes.now (packet_of p)) }
@@ -56,6 +57,7 @@ fn read_up_to(newest: u8, bytes: &[u8]) -> Result<Packet<'_>, ReadFault>
 }
 
 /// The version, the kind, the stream and the fields of what begins as a packet.
+#[inline(always)]
 fn read_header(newest: u8, bytes: &[u8]) -> Result<(u8, u8, u32, &[u8]), ReadFault>
     ensures known { IfOk result (λ h. (1 ≤ h.0) × (h.0 ≤ newest)) }
     ensures found { IfOk result (λ h. (h.2 < 2 ^ 32) × (bytes.now ≡ header h.0 h.1 h.2 ++ h.3.now)) }
@@ -76,6 +78,7 @@ fn read_header(newest: u8, bytes: &[u8]) -> Result<(u8, u8, u32, &[u8]), ReadFau
 }
 
 /// What a packet of the version and the kind says by these fields.
+#[inline(always)]
 fn read_body(version: u8, kind: u8, fields: &[u8]) -> Result<Body<'_>, ReadFault>
     ensures { IsReading version kind fields.now result }
 {
@@ -89,6 +92,7 @@ fn read_body(version: u8, kind: u8, fields: &[u8]) -> Result<Body<'_>, ReadFault
 }
 
 /// The same of version 01.
+#[inline(always)]
 fn read_body_1(kind: u8, fields: &[u8]) -> Result<Body<'_>, ReadFault>
     ensures { IsReading FIRST_VERSION kind fields.now result }
 {
@@ -102,6 +106,7 @@ fn read_body_1(kind: u8, fields: &[u8]) -> Result<Body<'_>, ReadFault>
     }
 }
 
+#[inline(always)]
 fn read_needuid(fields: &[u8]) -> Result<Body<'_>, ReadFault>
     ensures { IsReading FIRST_VERSION NEEDUID fields.now result }
 {
@@ -109,6 +114,7 @@ fn read_needuid(fields: &[u8]) -> Result<Body<'_>, ReadFault>
     Ok(Body::NeedUid(BigEndian::read_u64(fields)))
 }
 
+#[inline(always)]
 fn read_accept(fields: &[u8]) -> Result<Body<'_>, ReadFault>
     ensures { IsReading FIRST_VERSION ACCEPT fields.now result }
 {
@@ -118,6 +124,7 @@ fn read_accept(fields: &[u8]) -> Result<Body<'_>, ReadFault>
     Ok(Body::Accept(jd, id))
 }
 
+#[inline(always)]
 fn read_send(fields: &[u8]) -> Result<Body<'_>, ReadFault>
     ensures { IsReading FIRST_VERSION SEND fields.now result }
 {
@@ -134,6 +141,7 @@ fn read_send(fields: &[u8]) -> Result<Body<'_>, ReadFault>
     Ok(Body::Send(id, message))
 }
 
+#[inline(always)]
 fn read_ack(fields: &[u8]) -> Result<Body<'_>, ReadFault>
     ensures { IsReading FIRST_VERSION ACK fields.now result }
 {
@@ -151,6 +159,7 @@ fn read_ack(fields: &[u8]) -> Result<Body<'_>, ReadFault>
     Ok(Body::Ack(BigEndian::read_u64(fields), got))
 }
 
+#[inline(always)]
 fn read_cleanup(fields: &[u8]) -> Result<Body<'_>, ReadFault>
     ensures { IsReading FIRST_VERSION CLEANUP fields.now result }
 {
@@ -158,8 +167,23 @@ fn read_cleanup(fields: &[u8]) -> Result<Body<'_>, ReadFault>
     Ok(Body::Cleanup(BigEndian::read_u64(fields)))
 }
 
+#[inline(always)]
 fn read_batch(fields: &[u8]) -> Result<Body<'_>, ReadFault>
     ensures { IsReading BATCH_VERSION BATCH fields.now result }
+{
+    let count = expect_batch(fields)?;
+    let batch = Parts::spelt(count, &fields[BATCH_LENGTH..]);
+    Ok(Body::Batch(BigEndian::read_u64(fields), batch))
+}
+
+/// How many messages these fields of a batch spell.
+// By itself, and with a small answer: with a whole packet for one, each packet would be read by way of memory.
+#[inline(never)]
+fn expect_batch(fields: &[u8]) -> Result<u8, ReadFault>
+    ensures long { OnOk result (BATCH_LENGTH ≤ length fields.now) }
+    ensures count { IfOk result (λ count. (count ≡ get_or fields.now 8 0) × (1 ≤ count) × (count ≤ MAX_BATCH)) }
+    ensures messages { IfOk result (λ count. first_of (message_faults count (drop BATCH_LENGTH fields.now)) ≡ None) }
+    ensures fault { IfErr result (λ fault. IsReading BATCH_VERSION BATCH fields.now (Err fault)) }
 {
     if fields.len() < BATCH_LENGTH {
         return Err(ReadFault::Short);
@@ -168,10 +192,8 @@ fn read_batch(fields: &[u8]) -> Result<Body<'_>, ReadFault>
     if count == 0 || usize::from(count) > MAX_BATCH {
         return Err(ReadFault::Count);
     }
-    let messages = &fields[BATCH_LENGTH..];
-    expect_messages(count, messages)?;
-    let batch = Parts::spelt(count, messages);
-    Ok(Body::Batch(BigEndian::read_u64(fields), batch))
+    expect_messages(count, &fields[BATCH_LENGTH..])?;
+    Ok(count)
 }
 
 /// Whether the bytes spell as many messages, each behind its length, and nothing behind them.
@@ -210,6 +232,7 @@ fn after_message(bytes: &[u8]) -> Result<&[u8], ReadFault>
 }
 
 /// Whether there are as many bytes as wanted: fewer are cut short, and more follow the packet.
+#[inline(always)]
 fn expect_length(bytes: &[u8], wanted: usize) -> Result<(), ReadFault>
     ensures ok { OnOk result (length bytes.now ≡ wanted) }
     ensures err { IfErr result (λ f. ((f ≡ ReadFault.Short) × (length bytes.now < wanted))

@@ -27,6 +27,8 @@ pub const MAX_PACKET_1: usize = HEADER_LENGTH + SEND_LENGTH + MAX_MESSAGE;
 /// A message is at most [`MAX_MESSAGE`] bytes. [`NoRoom`] comes where the buffer is shorter than the spelling. A buffer of
 /// [`MAX_PACKET`] bytes always has room.
 #[tactic(auto, unfolding(crate::specs::Grammar::spelling))]
+// Inlined with what it calls, a caller that knows the kind tests nothing of the others.
+#[inline(always)]
 pub fn write(packet: &Packet<'_>, buffer: &mut [u8]) -> Result<usize, NoRoom>
     requires { CanBeWritten (body_of packet.now.body) }
 
@@ -51,6 +53,7 @@ pub fn write(packet: &Packet<'_>, buffer: &mut [u8]) -> Result<usize, NoRoom>
 }
 
 /// The version under which the kind is spelt.
+#[inline(always)]
 fn version(body: &Body<'_>) -> u8
     ensures { result ≡ version_of (body_of body.now) }
 {
@@ -61,6 +64,7 @@ fn version(body: &Body<'_>) -> u8
 }
 
 /// The number of the kind.
+#[inline(always)]
 fn kind(body: &Body<'_>) -> u8
     ensures { result ≡ kind_of (body_of body.now) }
 {
@@ -75,6 +79,7 @@ fn kind(body: &Body<'_>) -> u8
 }
 
 /// How many bytes the fields take.
+#[inline(always)]
 fn fields_length(body: &Body<'_>) -> usize
     requires { CanBeWritten (body_of body.now) }
     ensures { result ≡ length (fields_of (body_of body.now)) }
@@ -104,6 +109,7 @@ fn messages_length(batch: &Parts<'_>) -> usize
 }
 
 /// Writes the header at the front.
+#[inline(always)]
 fn write_header(version: u8, kind: u8, stream: u32, buffer: &mut [u8])
     requires { HEADER_LENGTH ≤ length buffer.old }
     ensures { buffer.new ≡ header version kind stream ++ drop HEADER_LENGTH buffer.old }
@@ -116,6 +122,7 @@ fn write_header(version: u8, kind: u8, stream: u32, buffer: &mut [u8])
 }
 
 /// Writes the fields at the front.
+#[inline(always)]
 fn write_fields(body: &Body<'_>, buffer: &mut [u8])
     requires fits { CanBeWritten (body_of body.now) }
     requires room { length (fields_of (body_of body.now)) ≤ length buffer.old }
@@ -160,6 +167,7 @@ fn write_messages(batch: &Parts<'_>, buffer: &mut [u8])
 }
 
 /// Writes the message at the front, behind its length.
+#[inline(always)]
 fn write_message(message: &[u8], buffer: &mut [u8])
     requires fits { IsShort message.now }
     requires room { LENGTH_LENGTH + length message.now ≤ length buffer.old }
