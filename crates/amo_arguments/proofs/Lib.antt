@@ -1,6 +1,7 @@
 pub mod Addresses
-pub mod ChosenRun
 pub mod Described
 pub mod Matched
+pub mod Named
 pub mod Refused
 pub mod Within
+pub mod Unfit

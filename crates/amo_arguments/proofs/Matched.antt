@@ -1,5 +1,5 @@
 -- What the matches of a command tell of its arguments.
-use Rattle.std.proofs.Common.{◌≡◌, ◌∙◌, Bool, true, false, List, codes, Option, Some, None, Result, Ok, refl, rules, subst, sym}
+use Rattle.std.proofs.Common.{◌≡◌, ◌≢◌, ◌∙◌, Bool, true, false, List, codes, Option, Some, None, Result, Ok, Err, refl, rules, subst, sym}
 use Rattle.std.specs.Option.{option_map}
 use Rattle.std.specs.Prelude.{IfNone, IfSome, MatchBool, if◌then◌else◌}
 use Rattle.std.specs.Borrow.{Bor}
@@ -31,6 +31,22 @@ read_one G (Some t) r x none value is = (t, refl, subst (λ s. ReadsOne G t s) i
 pub flag_text : (flag : Bool) (t : Text) → MatchBool flag (t ≡ codes "true") (t ≡ codes "false") → t ≡ (if flag then codes "true" else codes "false")
 flag_text true t is = is
 flag_text false t is = is
+
+-- no value was read from a text, which is no flag's
+no_flag : (flag : Bool) → ((if flag then codes "true" else codes "false") ≢ codes "true") × ((if flag then codes "true" else codes "false") ≢ codes "false") → ⊥
+no_flag true h = h.0 refl
+no_flag false h = h.1 refl
+
+pub not_read : {E : Type 0} (G : Text → Result Bool E → Type 0) (o : Option Text) (r : Option Bool) (flag : Bool) → ((t : Text) (e : E) → G t (Err e) → (t ≢ codes "true") × (t ≢ codes "false"))
+    → ((t : Text) → o ≡ Some t → ReadsOne G t r) → r ≡ None → o ≡ Some (if flag then codes "true" else codes "false") → ⊥
+not_read {E} G o r flag unread value none is =
+    let text : Text = if flag then codes "true" else codes "false" in
+    let why : (e : E) × G text (Err e) = subst (λ s. ReadsOne G text s) none (value text is) in
+    no_flag flag (unread text why.0 why.1)
+
+-- there is no text where none was found
+pub absent : (o : Option Text) (t : Text) → o ≡ None → o ≡ Some t → ⊥
+absent o t none is = let bad : None ≡ Some t = sym none ∙ is in absurd (cc)
 
 -- one value is one text
 pub same_text : (o : Option Text) (s t : Text) → o ≡ Some s → o ≡ Some t → s ≡ t

@@ -1,8 +1,9 @@
 -- What becomes of arguments that choose nothing to do.
-use Rattle.std.specs.Prelude.{◌≡◌, ◌≢◌, ◌⊎◌, ℕ, List, []}
+use Rattle.std.specs.Prelude.{◌≡◌, ◌≢◌, ◌⊎◌, ℕ, List, [], MatchResult, Result}
 use Rattle.clap.specs.Words.{IsAmong, Kinds, Text, fault_of, kind_of}
 use Rattle.clap.specs.declared.error.kind.ErrorKind.{ErrorKind}
 use Rattle.clap.specs.declared.error.kind.ErrorKind.TheVariants.{DisplayHelp, DisplayVersion, OutOfMemory}
+use Rattle.amo_arguments.specs.Chosen.{OfArguments, SuitsNone}
 use Rattle.amo_arguments.specs.Commands.{Names, AreLinks, AreShells, amo}
 use Rattle.amo_arguments.specs.declared.fault.ArgumentsFault.{ArgumentsFault}
 use Rattle.amo_arguments.specs.declared.fault.ArgumentsFault.TheVariants as fault
@@ -27,10 +28,13 @@ status_of DisplayHelp = 0
 status_of DisplayVersion = 0
 status_of _ = 2
 
--- what is told of the arguments has the status of their fault; where they have none, a value does not do, two of them contradict each other, or
--- there is no seed
+-- `clap` takes the arguments, of which no settings have the values: one breaks a rule
+abbrev pub AreUnfit : List Text → Type 0
+AreUnfit arguments = AreTaken arguments × OfArguments arguments SuitsNone
+
+-- what is told of the arguments has the status of their fault, or 2 where they have none and no settings have their values; or there is no seed
 abbrev pub IsToldOf : List Text → ArgumentsFault → Type 0
-IsToldOf arguments (fault.Text text status) = ((kind : ErrorKind) × IsFaultOf arguments kind × (status ≡ status_of kind)) ⊎ (AreTaken arguments × (status ≡ 2))
+IsToldOf arguments (fault.Text text status) = ((kind : ErrorKind) × IsFaultOf arguments kind × (status ≡ status_of kind)) ⊎ (AreUnfit arguments × (status ≡ 2))
 IsToldOf arguments fault.Seed = AreTaken arguments
 IsToldOf arguments fault.NoMemory = Unit {0}
 
@@ -47,7 +51,7 @@ IsMistake = IsTextWith 2
 abbrev pub IsRefusalOf : List Text → Refusal → Type 0
 IsRefusalOf arguments (refusal.ByParser error) = (kind_of error ≡ OutOfMemory) ⊎ IsFaultOf arguments (kind_of error)
 IsRefusalOf arguments (refusal.Unfit unfit.NoMemory) = Unit {0}
-IsRefusalOf arguments (refusal.Unfit _) = AreTaken arguments
+IsRefusalOf arguments (refusal.Unfit _) = AreUnfit arguments
 
 -- what is told of a refusal
 abbrev pub IsToldAs : Refusal → ArgumentsFault → Type 0
@@ -62,3 +66,16 @@ abbrev pub BlamesIf : Type 0 → Unfit → Type 0
 BlamesIf reason (unfit.Value text) = reason
 BlamesIf reason unfit.NoMemory = Unit {0}
 BlamesIf reason _ = ⊥
+
+-- arguments are refused only for this reason, or for want of memory
+abbrev pub RefusesIf : Type 0 → Unfit → Type 0
+RefusesIf reason unfit.NoMemory = Unit {0}
+RefusesIf reason _ = reason
+
+-- they are refused only where nothing has these values
+abbrev pub FindsNone : {A : Type 0} → (A → Type 0) → Unfit → Type 0
+FindsNone {A} has = RefusesIf ((found : A) → ¬ (has found))
+
+-- what is found has these values, and none is only where nothing has them
+abbrev pub Finds : {A : Type 0} → Result A Unfit → (A → Type 0) → Type 0
+Finds result has = MatchResult result has (FindsNone has)

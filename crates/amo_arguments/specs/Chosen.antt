@@ -55,6 +55,13 @@ abbrev pub HasNumberOrNone : List Row → Text → Option ℕ → Type 0
 HasNumberOrNone rows name None = first_of name rows ≡ None
 HasNumberOrNone rows name (Some number) = HasNumber rows name number
 
+-- the same of numbers from `low` to `high`
+abbrev pub HasNumberIn : List Row → Text → ℕ → ℕ → ℕ → Type 0
+HasNumberIn rows name low high number = HasNumber rows name number × (low ≤ number) × (number ≤ high)
+
+abbrev pub HasNumberOrNoneIn : List Row → Text → ℕ → ℕ → Option ℕ → Type 0
+HasNumberOrNoneIn rows name low high number = HasNumberOrNone rows name number × IfSome number (λ n. (low ≤ n) × (n ≤ high))
+
 -- a host, a colon, and a port from `least` on
 abbrev pub IsAddress : ℕ → Text → Type 0
 IsAddress least text = (host : Text) × (port : ℕ) × (text ≡ host ++ 58 ∷ decimal port) × (host ≢ []) × (least ≤ port) × (port ≤ 65535)
@@ -80,26 +87,28 @@ shell_name Bash = codes "bash"
 shell_name Zsh = codes "zsh"
 shell_name Fish = codes "fish"
 
--- the matches of `run` have these values, each within its limits
+-- the matches of `run` have these values, each within its limits, whatever their seed
 pub record HasSettings (rows : List Row) (settings : RunSettings) : Type 0 where
   pub streams : HasNumber rows (codes "streams") settings.streams
   pub clients : HasNumber rows (codes "clients") settings.clients
   pub crashes : HasNumber rows (codes "crashes") settings.crashes
-  pub seed : HasText rows (codes "seed") (hex settings.seed)
   pub link : HasText rows (codes "link") (link_name settings.link)
   pub pumps : HasNumber rows (codes "pumps") settings.pumps
   pub split : HasFlag rows (codes "split") settings.split
   pub batch : HasFlag rows (codes "batch") settings.batch
   pub within : AreWithin settings
 
--- the matches of `run` have the values of these settings
-abbrev pub ChoosesRun : List Row → Settings → Type 0
-ChoosesRun rows (Run settings file) = HasSettings rows settings × HasJournal rows (string_bytes file)
-ChoosesRun rows _ = ⊥
+-- and a journal
+abbrev pub HasRun : List Row → RunSettings × Text → Type 0
+HasRun rows run = HasSettings rows run.0 × HasJournal rows run.1
 
 -- the matches of `run` have no seed: its text spells no 32 bytes
 abbrev pub HasNoSeed : List Row → Type 0
 HasNoSeed rows = (seed : List ℕ) → IsBytes seed → length seed ≡ 32 → HasText rows (codes "seed") (hex seed) → ⊥
+
+-- the longest interval, from the first one, of `tick` microseconds, to an hour
+abbrev pub HasCeiling : List Row → ℕ → Option ℕ → Type 0
+HasCeiling rows tick most = HasNumberOrNone rows (codes "tick-most") most × IfSome most (λ most. (1 ≤ most) × (most ≤ 3600000000) × (tick ≤ most))
 
 -- the matches of `send` or of `receive` have these values, each within its limits. The system may choose the host's own port, and not its
 -- peer's; and a host is not its own peer
@@ -134,8 +143,7 @@ pub record HasSend (rows : List Row) (send : SendSettings) : Type 0 where
 -- the matches of `receive` have these values
 pub record HasReceive (rows : List Row) (receive : ReceiveSettings) : Type 0 where
   pub host : HasHost rows receive.host
-  pub count : HasNumberOrNone rows (codes "count") receive.count
-  pub some : IfSome receive.count (λ count. 1 ≤ count)
+  pub count : HasNumberOrNoneIn rows (codes "count") 1 18446744073709551615 receive.count
 
 -- the matches of `serve` have these values, each within its limits. Nothing is shown, in whatever spelling, nor are its figures
 pub record HasServedHost (rows : List Row) (host : HostSettings) : Type 0 where
@@ -152,6 +160,10 @@ pub record HasServedHost (rows : List Row) (host : HostSettings) : Type 0 where
   pub plain : host.json ≡ false
   pub quiet : host.stats ≡ None
   pub within : IsHostWithin host
+
+-- the matches of `serve` say that the host sends, or that it receives, which goes without `--batch`
+abbrev pub SendsOrReceives : List Row → Bool → Bool → Type 0
+SendsOrReceives rows batch sends = HasText rows (codes "side") (if sends then codes "send" else codes "receive") × (sends ≡ false → batch ≡ false)
 
 -- the matches of `serve` have this side: a sender takes messages one by one, and may start batches; a receiver takes all that come, batches too
 abbrev pub HasSide : List Row → ServedSide → Type 0
@@ -172,21 +184,36 @@ HasStream rows stream = HasNumber rows (codes "stream") stream × (1 ≤ stream)
 abbrev pub HasState : List Row → Text → Type 0
 HasState rows file = HasText rows (codes "state") file × (file ≢ [])
 
+-- what a call is asked by
+abbrev pub call_name : DoorCall → Text
+call_name (call.Put stream file message) = codes "put"
+call_name (call.Get stream file) = codes "get"
+call_name (call.Done stream file) = codes "done"
+call_name (call.Status stream) = codes "status"
+call_name (call.Watch after) = codes "watch"
+
+-- the matches of `call` have a stream and the file that keeps the call
+abbrev pub IsKept : List Row → ℕ × Text → Type 0
+IsKept rows kept = HasStream rows kept.0 × HasState rows kept.1
+
+-- and what else the call takes
+abbrev pub HasValuesOf : List Row → DoorCall → Type 0
+HasValuesOf rows (call.Put stream file message) = IsKept rows (stream, string_bytes file) × HasTextOrNone rows (codes "MESSAGE") (option_map string_bytes message)
+HasValuesOf rows (call.Get stream file) = IsKept rows (stream, string_bytes file)
+HasValuesOf rows (call.Done stream file) = IsKept rows (stream, string_bytes file)
+HasValuesOf rows (call.Status stream) = HasStream rows stream
+HasValuesOf rows (call.Watch after) = HasNumberOrNoneIn rows (codes "after") 0 18446744073709551615 after
+
 -- the matches of `call` have this call
 abbrev pub HasDoorCall : List Row → DoorCall → Type 0
-HasDoorCall rows (call.Put stream file message) =
-    HasText rows (codes "CALL") (codes "put") × HasStream rows stream × HasState rows (string_bytes file) × HasTextOrNone rows (codes "MESSAGE") (option_map string_bytes message)
-HasDoorCall rows (call.Get stream file) = HasText rows (codes "CALL") (codes "get") × HasStream rows stream × HasState rows (string_bytes file)
-HasDoorCall rows (call.Done stream file) = HasText rows (codes "CALL") (codes "done") × HasStream rows stream × HasState rows (string_bytes file)
-HasDoorCall rows (call.Status stream) = HasText rows (codes "CALL") (codes "status") × HasStream rows stream
-HasDoorCall rows (call.Watch after) = HasText rows (codes "CALL") (codes "watch") × HasNumberOrNone rows (codes "after") after
+HasDoorCall rows call = HasText rows (codes "CALL") (call_name call) × HasValuesOf rows call
 
 -- the matches of `call` have these values
 pub record HasCall (rows : List Row) (settings : CallSettings) : Type 0 where
   pub call_is : HasDoorCall rows settings.call
   pub door : HasAddress rows (codes "door") 1 (string_bytes settings.door)
   pub token : HasTextOrNone rows (codes "token-file") (option_map string_bytes settings.token_file)
-  pub wait : HasNumberOrNone rows (codes "wait") settings.wait
+  pub wait : HasNumberOrNoneIn rows (codes "wait") 0 1000000 settings.wait
   pub hex : HasFlag rows (codes "hex") settings.hex
 
 -- the matches of `outcomes` have these values
@@ -200,34 +227,65 @@ pub record HasOutcomes (rows : List Row) (settings : OutcomesSettings) : Type 0 
 -- the matches of `got` have these values
 pub record HasGot (rows : List Row) (settings : GotSettings) : Type 0 where
   pub file : HasText rows (codes "FILE") (string_bytes settings.file)
-  pub after : HasNumberOrNone rows (codes "after") settings.after
+  pub after : HasNumberOrNoneIn rows (codes "after") 0 18446744073709551615 settings.after
   pub follow : HasFlag rows (codes "follow") settings.follow
   pub json : HasFlag rows (codes "json") settings.json
 
+-- the command that is told these settings
+abbrev pub name_of : Settings → Text
+name_of (Replay file) = codes "replay"
+name_of (Run settings file) = codes "run"
+name_of (Send send) = codes "send"
+name_of (Receive receive) = codes "receive"
+name_of (Stop file) = codes "stop"
+name_of (Serve serve) = codes "serve"
+name_of (Call settings) = codes "call"
+name_of (Audit file second) = codes "audit"
+name_of (Explain file second) = codes "explain"
+name_of (Outcomes settings) = codes "outcomes"
+name_of (Got settings) = codes "got"
+name_of Manual = codes "man"
+name_of (Completions shell) = codes "completions"
+
+-- the matches of that command have these values, but for the seed of a run
+abbrev pub HasValues : List Row → Settings → Type 0
+HasValues rows (Replay file) = HasText rows (codes "FILE") (string_bytes file)
+HasValues rows (Run settings file) = HasRun rows (settings, string_bytes file)
+HasValues rows (Send send) = HasSend rows send
+HasValues rows (Receive receive) = HasReceive rows receive
+HasValues rows (Stop file) = HasText rows (codes "FILE") (string_bytes file)
+HasValues rows (Serve serve) = HasServe rows serve
+HasValues rows (Call settings) = HasCall rows settings
+HasValues rows (Audit file second) = HasText rows (codes "FILE") (string_bytes file) × HasTextOrNone rows (codes "SECOND") (option_map string_bytes second)
+HasValues rows (Explain file second) = HasText rows (codes "FILE") (string_bytes file) × HasTextOrNone rows (codes "SECOND") (option_map string_bytes second)
+HasValues rows (Outcomes settings) = HasOutcomes rows settings
+HasValues rows (Got settings) = HasGot rows settings
+HasValues rows Manual = Unit {0}
+HasValues rows (Completions shell) = HasText rows (codes "SHELL") (shell_name shell)
+
+-- and that seed
+abbrev pub HasSeed : List Row → Settings → Type 0
+HasSeed rows (Run settings file) = HasText rows (codes "seed") (hex settings.seed)
+HasSeed rows _ = Unit {0}
+
+-- a command is met whose values are these, each by its rules, whatever the seed
+abbrev pub Suits : Met → Settings → Type 0
+Suits met settings = (rows : List Row) × (met ≡ Some (name_of settings, rows)) × HasValues rows settings
+
 -- a command is met that chooses these settings
 abbrev pub ChoosesBy : Met → Settings → Type 0
-ChoosesBy met (Replay file) = (rows : List Row) × (met ≡ Some (codes "replay", rows)) × HasText rows (codes "FILE") (string_bytes file)
-ChoosesBy met (Run settings file) = (rows : List Row) × (met ≡ Some (codes "run", rows)) × ChoosesRun rows (Run settings file)
-ChoosesBy met (Send send) = (rows : List Row) × (met ≡ Some (codes "send", rows)) × HasSend rows send
-ChoosesBy met (Receive receive) = (rows : List Row) × (met ≡ Some (codes "receive", rows)) × HasReceive rows receive
-ChoosesBy met (Stop file) = (rows : List Row) × (met ≡ Some (codes "stop", rows)) × HasText rows (codes "FILE") (string_bytes file)
-ChoosesBy met (Serve serve) = (rows : List Row) × (met ≡ Some (codes "serve", rows)) × HasServe rows serve
-ChoosesBy met (Call settings) = (rows : List Row) × (met ≡ Some (codes "call", rows)) × HasCall rows settings
-ChoosesBy met (Audit file second) = (rows : List Row) × (met ≡ Some (codes "audit", rows))
-    × HasText rows (codes "FILE") (string_bytes file) × HasTextOrNone rows (codes "SECOND") (option_map string_bytes second)
-ChoosesBy met (Explain file second) = (rows : List Row) × (met ≡ Some (codes "explain", rows))
-    × HasText rows (codes "FILE") (string_bytes file) × HasTextOrNone rows (codes "SECOND") (option_map string_bytes second)
-ChoosesBy met (Outcomes settings) = (rows : List Row) × (met ≡ Some (codes "outcomes", rows)) × HasOutcomes rows settings
-ChoosesBy met (Got settings) = (rows : List Row) × (met ≡ Some (codes "got", rows)) × HasGot rows settings
-ChoosesBy met Manual = (rows : List Row) × (met ≡ Some (codes "man", rows))
-ChoosesBy met (Completions shell) = (rows : List Row) × (met ≡ Some (codes "completions", rows)) × HasText rows (codes "SHELL") (shell_name shell)
+ChoosesBy met settings = (rows : List Row) × (met ≡ Some (name_of settings, rows)) × HasValues rows settings × HasSeed rows settings
 
 abbrev pub Chooses : List Text → Settings → Type 0
 Chooses arguments settings = OfArguments arguments (λ met. ChoosesBy met settings)
 
--- a run is met, without a seed
+-- no settings suit the command that is met: one of its values breaks a rule
+abbrev pub SuitsNone : Met → Type 0
+SuitsNone met = (settings : Settings) → ¬ (Suits met settings)
+
+-- a run is met of which all is right but the seed
 abbrev pub MeetsSeedless : Met → Type 0
-MeetsSeedless met = (rows : List Row) × (met ≡ Some (codes "run", rows)) × HasNoSeed rows
+MeetsSeedless met = (rows : List Row) × (met ≡ Some (codes "run", rows)) × HasNoSeed rows × ((run : RunSettings × Text) × HasRun rows run)
 
 abbrev pub LacksSeed : List Text → Type 0
 LacksSeed arguments = OfArguments arguments MeetsSeedless

@@ -1,10 +1,10 @@
 //! Reads the program's arguments.
-ghost use Rattle.std.specs.Prelude.{◌≡◌, ◌≤◌, ◌&&◌, ◌||◌, codes, false, if◌then◌else◌, None, Some, IfErr, IfNone, IfOk, IfSome, IsErrOf, MatchResult, OnOk, map, option_map, string_bytes};
+ghost use Rattle.std.specs.Prelude.{◌≡◌, ◌≢◌, ◌≤◌, ◌&&◌, ◌||◌, codes, false, true, if◌then◌else◌, None, Some, IfErr, IfNone, IfOk, IfSome, IsErrOf, MatchResult, OnOk, map, option_map, string_bytes};
 ghost use Rattle.clap.specs.Words.{first_of, found_of, rows_of, subcommand_rows_of};
 ghost use Rattle.amo_text.specs.Hexadecimal.{hex};
 ghost use Rattle.amo_settings.specs.Limits.{IsWithin};
-ghost use Rattle.amo_arguments.specs.Arguments.{AreTaken, IsRefusalOf, IsToldOf};
-ghost use Rattle.amo_arguments.specs.Chosen.{Chooses, ChoosesBy, ChoosesRun, HasAddress, HasDoorCall, HasFlag, HasHost, HasJournal, HasNoSeed, HasNumber, HasNumberOrNone, HasServedHost, HasSide, HasState, HasStream, HasText, HasTextOrNone, LacksSeed, Matches, MeetsSeedless, link_name, shell_name};
+ghost use Rattle.amo_arguments.specs.Arguments.{AreTaken, Finds, FindsNone, IsRefusalOf, IsToldOf, RefusesIf};
+ghost use Rattle.amo_arguments.specs.Chosen.{Chooses, ChoosesBy, HasAddress, HasCall, HasDoorCall, HasFlag, HasGot, HasHost, HasJournal, HasNoSeed, HasCeiling, HasNumberIn, HasNumberOrNoneIn, HasOutcomes, HasReceive, HasRun, HasSend, HasServe, HasServedHost, HasSide, HasState, HasStream, HasText, HasTextOrNone, IsKept, LacksSeed, Matches, MeetsSeedless, SendsOrReceives, Suits, SuitsNone, link_name, shell_name};
 
 use crate::ArgumentsFault;
 use crate::commands::{
@@ -27,8 +27,8 @@ pub fn settings(alloc: Global, arguments: Vec<String>) -> Result<Settings, Argum
     // The command and its values are those of the match that `clap` defines for these arguments, each within its limits.
     ensures chosen { IfOk result (λ chosen. Chooses (map string_bytes arguments.items) chosen) }
     ensures within { IfOk result IsWithin }
-    // Arguments are refused where `clap` refuses them, with the status of what is told; else they contradict each other, have no seed
-    // for a run, or there was no memory.
+    // Arguments are refused where `clap` refuses them, with the status of what is told; else only where no settings have their values, where
+    // a run has no seed, or where there was no memory.
     ensures refused { MatchResult result (λ _. AreTaken (map string_bytes arguments.items)) (IsToldOf (map string_bytes arguments.items)) }
     // A seed is blamed only where all else is right, and it is no seed.
     ensures seed { IsErrOf result ArgumentsFault.Seed → LacksSeed (map string_bytes arguments.items) }
@@ -57,6 +57,7 @@ fn choose(alloc: Global, arguments: &[String]) -> Result<Option<Settings>, Refus
 fn parse(alloc: Global, matches: &ArgMatches<'_>) -> Result<Option<Settings>, Unfit>
     ensures chosen { IfOk result (λ chosen. IfSome chosen (ChoosesBy (subcommand_rows_of matches.now))) }
     ensures seed { IfOk result (λ chosen. IfNone chosen (MeetsSeedless (subcommand_rows_of matches.now))) }
+    ensures refused { IfErr result (FindsNone (Suits (subcommand_rows_of matches.now))) }
 {
     let Some((name, own)) = met_of(matches) else {
         return Err(Unfit::Absent);
@@ -79,7 +80,8 @@ fn met_of<'a, 'm>(matches: &'m ArgMatches<'a>) -> Option<(&'a str, &'m ArgMatche
 
 /// The settings that the arguments of the command of this name choose, which is another one than `run`.
 fn parse_met(alloc: Global, name: &str, matches: &ArgMatches<'_>) -> Result<Settings, Unfit>
-    ensures { IfOk result (ChoosesBy (Some (name.now, rows_of (found_of matches.now)))) }
+    ensures chosen { IfOk result (ChoosesBy (Some (name.now, rows_of (found_of matches.now)))) }
+    ensures refused { IfErr result (RefusesIf (name.now ≢ codes "run" → SuitsNone (Some (name.now, rows_of (found_of matches.now))))) }
 {
     match name {
         "send" => parse_send(alloc, matches),
@@ -121,8 +123,9 @@ fn matches_of<'a>(alloc: Global, arguments: &'a [String]) -> Result<ArgMatches<'
 
 /// The settings that the arguments of `run` choose; none where they have no seed.
 fn parse_run(alloc: Global, matches: &ArgMatches<'_>) -> Result<Option<Settings>, Unfit>
-    ensures chosen { IfOk result (λ chosen. IfSome chosen (ChoosesRun (rows_of (found_of matches.now)))) }
-    ensures seed { IfOk result (λ chosen. IfNone chosen (HasNoSeed (rows_of (found_of matches.now)))) }
+    ensures chosen { IfOk result (λ chosen. IfSome chosen (ChoosesBy (Some (codes "run", rows_of (found_of matches.now))))) }
+    ensures seed { IfOk result (λ chosen. IfNone chosen (MeetsSeedless (Some (codes "run", rows_of (found_of matches.now))))) }
+    ensures refused { IfErr result (FindsNone (HasRun (rows_of (found_of matches.now)))) }
 {
     let streams = number_of(alloc, matches, "streams", 1, STREAMS)?;
     let clients = number_of(alloc, matches, "clients", 1, CLIENTS)?;
@@ -132,7 +135,7 @@ fn parse_run(alloc: Global, matches: &ArgMatches<'_>) -> Result<Option<Settings>
     let pumps = number_of(alloc, matches, "pumps", 1, PUMPS)?;
     let split = flag_of(alloc, matches, "split")?;
     let batch = flag_of(alloc, matches, "batch")?;
-    let Some(seed) = seed_of(alloc, matches)? else {
+    let Some(seed) = seed_of(matches) else {
         return Ok(None);
     };
     let settings = RunSettings {
@@ -151,7 +154,8 @@ fn parse_run(alloc: Global, matches: &ArgMatches<'_>) -> Result<Option<Settings>
 
 /// The settings that the arguments of `send` choose.
 fn parse_send(alloc: Global, matches: &ArgMatches<'_>) -> Result<Settings, Unfit>
-    ensures { IfOk result (ChoosesBy (Some (codes "send", rows_of (found_of matches.now)))) }
+    ensures chosen { IfOk result (ChoosesBy (Some (codes "send", rows_of (found_of matches.now)))) }
+    ensures refused { IfErr result (FindsNone (HasSend (rows_of (found_of matches.now)))) }
 {
     let each = flag_of(alloc, matches, "each")?;
     let many = flag_of(alloc, matches, "many")?;
@@ -169,7 +173,8 @@ fn parse_send(alloc: Global, matches: &ArgMatches<'_>) -> Result<Settings, Unfit
 
 /// Refuses flags of `send` that contradict each other.
 fn check_each(each: bool, many: bool, batch: bool) -> Result<(), Unfit>
-    ensures { OnOk result ((each && (many || batch)) ≡ false) }
+    ensures apart { OnOk result ((each && (many || batch)) ≡ false) }
+    ensures refused { IfErr result (RefusesIf ((each && (many || batch)) ≡ true)) }
 {
     if each && batch {
         return Err(Unfit::EachAndBatch);
@@ -182,7 +187,8 @@ fn check_each(each: bool, many: bool, batch: bool) -> Result<(), Unfit>
 
 /// The settings that the arguments of `receive` choose.
 fn parse_receive(alloc: Global, matches: &ArgMatches<'_>) -> Result<Settings, Unfit>
-    ensures { IfOk result (ChoosesBy (Some (codes "receive", rows_of (found_of matches.now)))) }
+    ensures chosen { IfOk result (ChoosesBy (Some (codes "receive", rows_of (found_of matches.now)))) }
+    ensures refused { IfErr result (FindsNone (HasReceive (rows_of (found_of matches.now)))) }
 {
     let host = parse_host(alloc, matches)?;
     let count = number_or_none_of(alloc, matches, "count", 1, u64::MAX)?;
@@ -191,7 +197,8 @@ fn parse_receive(alloc: Global, matches: &ArgMatches<'_>) -> Result<Settings, Un
 
 /// The settings that the arguments of `serve` choose.
 fn parse_serve(alloc: Global, matches: &ArgMatches<'_>) -> Result<Settings, Unfit>
-    ensures { IfOk result (ChoosesBy (Some (codes "serve", rows_of (found_of matches.now)))) }
+    ensures chosen { IfOk result (ChoosesBy (Some (codes "serve", rows_of (found_of matches.now)))) }
+    ensures refused { IfErr result (FindsNone (HasServe (rows_of (found_of matches.now)))) }
 {
     let side = parse_side(alloc, matches)?;
     let (door, token_file) = door_of(alloc, matches, 0)?;
@@ -210,6 +217,7 @@ fn door_of(
 ) -> Result<(String, Option<String>), Unfit>
     ensures address { IfOk result (λ door. HasAddress (rows_of (found_of matches.now)) (codes "door") least (string_bytes door.0)) }
     ensures token { IfOk result (λ door. HasTextOrNone (rows_of (found_of matches.now)) (codes "token-file") (option_map string_bytes door.1)) }
+    ensures refused { IfErr result (FindsNone (HasAddress (rows_of (found_of matches.now)) (codes "door") least)) }
 {
     let address = address_of(alloc, matches, "door", "127.0.0.1", least)?;
     let door = String::from_str(alloc, address)?;
@@ -219,7 +227,7 @@ fn door_of(
 
 /// The side that the arguments of `serve` choose, with what its host is told.
 fn parse_side(alloc: Global, matches: &ArgMatches<'_>) -> Result<ServedSide, Unfit>
-    ensures { IfOk result (HasSide (rows_of (found_of matches.now))) }
+    ensures { Finds result (HasSide (rows_of (found_of matches.now))) }
 {
     let batch = flag_of(alloc, matches, "batch")?;
     let host = parse_served_host(alloc, matches)?;
@@ -237,8 +245,7 @@ fn parse_side(alloc: Global, matches: &ArgMatches<'_>) -> Result<ServedSide, Unf
 
 /// Whether a host with a door sends, and does not receive, which goes without `--batch`.
 fn is_sender(alloc: Global, matches: &ArgMatches<'_>, batch: bool) -> Result<bool, Unfit>
-    ensures side { IfOk result (λ sends. HasText (rows_of (found_of matches.now)) (codes "side") (if sends then codes "send" else codes "receive")) }
-    ensures plain { IfOk result (λ sends. (sends ≡ false) → (batch ≡ false)) }
+    ensures { Finds result (SendsOrReceives (rows_of (found_of matches.now)) batch) }
 {
     match matches.get_str("side") {
         Some("send") => Ok(true),
@@ -254,7 +261,7 @@ fn is_sender(alloc: Global, matches: &ArgMatches<'_>, batch: bool) -> Result<boo
 
 /// The settings that the options choose which every host has, also one with a door.
 fn parse_served_host(alloc: Global, matches: &ArgMatches<'_>) -> Result<HostSettings, Unfit>
-    ensures { IfOk result (HasServedHost (rows_of (found_of matches.now))) }
+    ensures { Finds result (HasServedHost (rows_of (found_of matches.now))) }
 {
     let listen = address_of(alloc, matches, "listen", "0.0.0.0", 0)?;
     let peer = address_of(alloc, matches, "peer", "127.0.0.1", 1)?;
@@ -283,7 +290,8 @@ fn parse_served_host(alloc: Global, matches: &ArgMatches<'_>) -> Result<HostSett
 
 /// The settings that the arguments of `call` choose.
 fn parse_call(alloc: Global, matches: &ArgMatches<'_>) -> Result<Settings, Unfit>
-    ensures { IfOk result (ChoosesBy (Some (codes "call", rows_of (found_of matches.now)))) }
+    ensures chosen { IfOk result (ChoosesBy (Some (codes "call", rows_of (found_of matches.now)))) }
+    ensures refused { IfErr result (FindsNone (HasCall (rows_of (found_of matches.now)))) }
 {
     let hex = flag_of(alloc, matches, "hex")?;
     let call = parse_door_call(alloc, matches)?;
@@ -300,49 +308,54 @@ fn parse_call(alloc: Global, matches: &ArgMatches<'_>) -> Result<Settings, Unfit
 
 /// The call of a door that the arguments of `call` choose.
 fn parse_door_call(alloc: Global, matches: &ArgMatches<'_>) -> Result<DoorCall, Unfit>
-    ensures { IfOk result (HasDoorCall (rows_of (found_of matches.now))) }
+    ensures { Finds result (HasDoorCall (rows_of (found_of matches.now))) }
 {
     let Some(call) = value_of(matches, "CALL") else {
         return Err(Unfit::Absent);
     };
     match call {
-        "put" | "get" | "done" => parse_kept_call(alloc, matches, call),
-        "status" => match stream_of(alloc, matches) {
-            Ok(stream) => Ok(DoorCall::Status { stream }),
-            Err(unfit) => Err(unfit),
-        },
-        "watch" => match number_or_none_of(alloc, matches, "after", 0, u64::MAX) {
-            Ok(after) => Ok(DoorCall::Watch { after }),
-            Err(unfit) => Err(unfit),
-        },
+        "put" => {
+            let (stream, state) = kept_of(alloc, matches)?;
+            let message = text_or_none_of(alloc, matches, "MESSAGE")?;
+            Ok(DoorCall::Put {
+                stream,
+                state,
+                message,
+            })
+        }
+        "get" => {
+            let (stream, state) = kept_of(alloc, matches)?;
+            Ok(DoorCall::Get { stream, state })
+        }
+        "done" => {
+            let (stream, state) = kept_of(alloc, matches)?;
+            Ok(DoorCall::Done { stream, state })
+        }
+        "status" => {
+            let stream = stream_of(alloc, matches)?;
+            Ok(DoorCall::Status { stream })
+        }
+        "watch" => {
+            let after = number_or_none_of(alloc, matches, "after", 0, u64::MAX)?;
+            Ok(DoorCall::Watch { after })
+        }
         _ => Err(blamed(format!(in alloc; "call {call}: give put, get, done, status or watch"))),
     }
 }
 
-/// The call of this name, `put`, `get` or `done`, which a file keeps.
-fn parse_kept_call(alloc: Global, matches: &ArgMatches<'_>, call: &str) -> Result<DoorCall, Unfit>
-    ensures { HasText (rows_of (found_of matches.now)) (codes "CALL") call.now → IfOk result (HasDoorCall (rows_of (found_of matches.now))) }
+/// The stream of a call that a file keeps, and that file's name.
+fn kept_of(alloc: Global, matches: &ArgMatches<'_>) -> Result<(u32, String), Unfit>
+    ensures kept { IfOk result (λ kept. IsKept (rows_of (found_of matches.now)) (kept.0, string_bytes kept.1)) }
+    ensures refused { IfErr result (FindsNone (IsKept (rows_of (found_of matches.now)))) }
 {
     let stream = stream_of(alloc, matches)?;
     let state = String::from_str(alloc, state_of(alloc, matches)?)?;
-    match call {
-        "put" => match text_or_none_of(alloc, matches, "MESSAGE") {
-            Ok(message) => Ok(DoorCall::Put {
-                stream,
-                state,
-                message,
-            }),
-            Err(unfit) => Err(unfit),
-        },
-        "get" => Ok(DoorCall::Get { stream, state }),
-        "done" => Ok(DoorCall::Done { stream, state }),
-        _ => Err(Unfit::Absent),
-    }
+    Ok((stream, state))
 }
 
 /// The stream that a call of a door is about.
 fn stream_of(alloc: Global, matches: &ArgMatches<'_>) -> Result<u32, Unfit>
-    ensures { IfOk result (HasStream (rows_of (found_of matches.now))) }
+    ensures { Finds result (HasStream (rows_of (found_of matches.now))) }
 {
     if value_of(matches, "stream").is_none() {
         return Err(blamed(String::from_str(
@@ -355,7 +368,8 @@ fn stream_of(alloc: Global, matches: &ArgMatches<'_>) -> Result<u32, Unfit>
 
 /// The name of the file that keeps a call of a door.
 fn state_of<'a>(alloc: Global, matches: &ArgMatches<'a>) -> Result<&'a str, Unfit>
-    ensures { IfOk result (λ file. HasState (rows_of (found_of matches.now)) file.now) }
+    ensures file { IfOk result (λ file. HasState (rows_of (found_of matches.now)) file.now) }
+    ensures refused { IfErr result (FindsNone (HasState (rows_of (found_of matches.now)))) }
 {
     match value_of(matches, "state") {
         Some(file) if !file.is_empty() => Ok(file),
@@ -368,7 +382,8 @@ fn state_of<'a>(alloc: Global, matches: &ArgMatches<'a>) -> Result<&'a str, Unfi
 
 /// The settings that the arguments of `outcomes` choose.
 fn parse_outcomes(alloc: Global, matches: &ArgMatches<'_>) -> Result<Settings, Unfit>
-    ensures { IfOk result (ChoosesBy (Some (codes "outcomes", rows_of (found_of matches.now)))) }
+    ensures chosen { IfOk result (ChoosesBy (Some (codes "outcomes", rows_of (found_of matches.now)))) }
+    ensures refused { IfErr result (FindsNone (HasOutcomes (rows_of (found_of matches.now)))) }
 {
     let open = flag_of(alloc, matches, "open")?;
     let gone = flag_of(alloc, matches, "gone")?;
@@ -385,7 +400,8 @@ fn parse_outcomes(alloc: Global, matches: &ArgMatches<'_>) -> Result<Settings, U
 
 /// The settings that the arguments of `got` choose.
 fn parse_got(alloc: Global, matches: &ArgMatches<'_>) -> Result<Settings, Unfit>
-    ensures { IfOk result (ChoosesBy (Some (codes "got", rows_of (found_of matches.now)))) }
+    ensures chosen { IfOk result (ChoosesBy (Some (codes "got", rows_of (found_of matches.now)))) }
+    ensures refused { IfErr result (FindsNone (HasGot (rows_of (found_of matches.now)))) }
 {
     let after = number_or_none_of(alloc, matches, "after", 0, u64::MAX)?;
     let follow = flag_of(alloc, matches, "follow")?;
@@ -401,7 +417,7 @@ fn parse_got(alloc: Global, matches: &ArgMatches<'_>) -> Result<Settings, Unfit>
 
 /// The settings that the options choose which a host has on either side.
 fn parse_host(alloc: Global, matches: &ArgMatches<'_>) -> Result<HostSettings, Unfit>
-    ensures { IfOk result (HasHost (rows_of (found_of matches.now))) }
+    ensures { Finds result (HasHost (rows_of (found_of matches.now))) }
 {
     let json = flag_of(alloc, matches, "json")?;
     let plain = parse_served_host(alloc, matches)?;
@@ -415,8 +431,7 @@ fn parse_host(alloc: Global, matches: &ArgMatches<'_>) -> Result<HostSettings, U
 
 /// The longest interval of a host whose first one is `tick`.
 fn tick_most_of(alloc: Global, matches: &ArgMatches<'_>, tick: u32) -> Result<Option<u64>, Unfit>
-    ensures ceiling { IfOk result (HasNumberOrNone (rows_of (found_of matches.now)) (codes "tick-most")) }
-    ensures fits { IfOk result (λ most. IfSome most (λ most. (1 ≤ most) × (most ≤ 3600000000) × (tick ≤ most))) }
+    ensures { Finds result (HasCeiling (rows_of (found_of matches.now)) tick) }
 {
     let most = number_or_none_of(alloc, matches, "tick-most", 1, TICK_MOST)?;
     check_ceiling(alloc, tick, most)?;
@@ -425,7 +440,8 @@ fn tick_most_of(alloc: Global, matches: &ArgMatches<'_>, tick: u32) -> Result<Op
 
 /// The text of an argument of a command.
 fn text_of(alloc: Global, matches: &ArgMatches<'_>, name: &str) -> Result<String, Unfit>
-    ensures { IfOk result (λ text. HasText (rows_of (found_of matches.now)) name.now (string_bytes text)) }
+    ensures text { IfOk result (λ text. HasText (rows_of (found_of matches.now)) name.now (string_bytes text)) }
+    ensures refused { IfErr result (FindsNone (HasText (rows_of (found_of matches.now)) name.now)) }
 {
     match matches.get_str(name) {
         Some(text) => Ok(String::from_str(alloc, text)?),
@@ -441,7 +457,8 @@ fn address_of<'a>(
     host: &str,
     least: u64,
 ) -> Result<&'a str, Unfit>
-    ensures { IfOk result (λ text. HasAddress (rows_of (found_of matches.now)) name.now least text.now) }
+    ensures address { IfOk result (λ text. HasAddress (rows_of (found_of matches.now)) name.now least text.now) }
+    ensures refused { IfErr result (FindsNone (HasAddress (rows_of (found_of matches.now)) name.now least)) }
 {
     let Some(text) = value_of(matches, name) else {
         return Err(Unfit::Absent);
@@ -452,7 +469,8 @@ fn address_of<'a>(
 
 /// The name of the journal's file.
 fn journal_of<'a>(alloc: Global, matches: &ArgMatches<'a>) -> Result<&'a str, Unfit>
-    ensures { IfOk result (λ file. HasJournal (rows_of (found_of matches.now)) file.now) }
+    ensures file { IfOk result (λ file. HasJournal (rows_of (found_of matches.now)) file.now) }
+    ensures refused { IfErr result (FindsNone (HasJournal (rows_of (found_of matches.now)))) }
 {
     let Some(file) = value_of(matches, "journal") else {
         return Err(Unfit::Absent);
@@ -470,6 +488,7 @@ fn journal_of<'a>(alloc: Global, matches: &ArgMatches<'a>) -> Result<&'a str, Un
 fn files_of(alloc: Global, matches: &ArgMatches<'_>) -> Result<(String, Option<String>), Unfit>
     ensures first { IfOk result (λ files. HasText (rows_of (found_of matches.now)) (codes "FILE") (string_bytes files.0)) }
     ensures second { IfOk result (λ files. HasTextOrNone (rows_of (found_of matches.now)) (codes "SECOND") (option_map string_bytes files.1)) }
+    ensures refused { IfErr result (FindsNone (HasText (rows_of (found_of matches.now)) (codes "FILE"))) }
 {
     let first = text_of(alloc, matches, "FILE")?;
     let second = text_or_none_of(alloc, matches, "SECOND")?;
@@ -482,7 +501,8 @@ fn text_or_none_of(
     matches: &ArgMatches<'_>,
     name: &str,
 ) -> Result<Option<String>, Unfit>
-    ensures { IfOk result (λ text. HasTextOrNone (rows_of (found_of matches.now)) name.now (option_map string_bytes text)) }
+    ensures text { IfOk result (λ text. HasTextOrNone (rows_of (found_of matches.now)) name.now (option_map string_bytes text)) }
+    ensures refused { IfErr result (RefusesIf ⊥) }
 {
     match matches.get_str(name) {
         Some(text) => Ok(Some(String::from_str(alloc, text)?)),
@@ -498,7 +518,7 @@ fn number_of(
     low: u32,
     high: u32,
 ) -> Result<u32, Unfit>
-    ensures { IfOk result (λ number. HasNumber (rows_of (found_of matches.now)) name.now number × (low ≤ number) × (number ≤ high)) }
+    ensures { Finds result (HasNumberIn (rows_of (found_of matches.now)) name.now low high) }
 {
     let Some(text) = value_of(matches, name) else {
         return Err(Unfit::Absent);
@@ -515,8 +535,7 @@ fn number_or_none_of(
     low: u64,
     high: u64,
 ) -> Result<Option<u64>, Unfit>
-    ensures number { IfOk result (HasNumberOrNone (rows_of (found_of matches.now)) name.now) }
-    ensures within { IfOk result (λ number. IfSome number (λ n. (low ≤ n) × (n ≤ high))) }
+    ensures { Finds result (HasNumberOrNoneIn (rows_of (found_of matches.now)) name.now low high) }
 {
     let Some(text) = value_of(matches, name) else {
         return Ok(None);
@@ -533,51 +552,53 @@ fn value_of<'a>(matches: &ArgMatches<'a>, name: &str) -> Option<&'a str>
     matches.get_str(name)
 }
 
-/// The seed of a run; none where its text spells no 32 bytes.
-fn seed_of(alloc: Global, matches: &ArgMatches<'_>) -> Result<Option<[u8; 32]>, Unfit>
-    ensures seed { IfOk result (λ seed. IfSome seed (λ bytes. HasText (rows_of (found_of matches.now)) (codes "seed") (hex bytes))) }
-    ensures none { IfOk result (λ seed. IfNone seed (HasNoSeed (rows_of (found_of matches.now)))) }
+/// The seed of a run; none where no text spells 32 bytes.
+fn seed_of(matches: &ArgMatches<'_>) -> Option<[u8; 32]>
+    ensures seed { IfSome result (λ bytes. HasText (rows_of (found_of matches.now)) (codes "seed") (hex bytes)) }
+    ensures none { IfNone result (HasNoSeed (rows_of (found_of matches.now))) }
 {
-    let Some(text) = matches.get_str("seed") else {
-        return Err(Unfit::Absent);
+    let Some(text) = value_of(matches, "seed") else {
+        return None;
     };
     let mut seed = [0; 32];
     match read_hex(text.as_bytes(), seed.as_mut_slice()) {
-        Some(32) => Ok(Some(seed)),
+        Some(32) => Some(seed),
         Some(_) => {
             hex_is_injective();
-            Ok(None)
+            None
         }
-        None => Ok(None),
+        None => None,
     }
 }
 
 /// What carries the packets of a run.
 fn link_of(alloc: Global, matches: &ArgMatches<'_>) -> Result<LinkKind, Unfit>
-    ensures { IfOk result (λ link. HasText (rows_of (found_of matches.now)) (codes "link") (link_name link)) }
+    ensures { Finds result (λ link. HasText (rows_of (found_of matches.now)) (codes "link") (link_name link)) }
 {
     match matches.get_str("link") {
         Some("memory") => Ok(LinkKind::Memory),
         Some("udp") => Ok(LinkKind::Udp),
-        _ => Err(Unfit::Absent),
+        Some(_link) => Err(Unfit::Absent),
+        None => Err(Unfit::Absent),
     }
 }
 
 /// The shell that completions are for.
 fn shell_of(alloc: Global, matches: &ArgMatches<'_>) -> Result<Shell, Unfit>
-    ensures { IfOk result (λ shell. HasText (rows_of (found_of matches.now)) (codes "SHELL") (shell_name shell)) }
+    ensures { Finds result (λ shell. HasText (rows_of (found_of matches.now)) (codes "SHELL") (shell_name shell)) }
 {
     match matches.get_str("SHELL") {
         Some("bash") => Ok(Shell::Bash),
         Some("zsh") => Ok(Shell::Zsh),
         Some("fish") => Ok(Shell::Fish),
-        _ => Err(Unfit::Absent),
+        Some(_shell) => Err(Unfit::Absent),
+        None => Err(Unfit::Absent),
     }
 }
 
 /// Whether a flag is there.
 fn flag_of(alloc: Global, matches: &ArgMatches<'_>, name: &str) -> Result<bool, Unfit>
-    ensures { IfOk result (HasFlag (rows_of (found_of matches.now)) name.now) }
+    ensures { Finds result (HasFlag (rows_of (found_of matches.now)) name.now) }
 {
     match matches.get_one::<bool>(name) {
         Some(flag) => Ok(flag),

@@ -132,7 +132,10 @@ abbrev pub IsTranscript : List ℕ → List (List ℕ) → Ending → Type 0
 IsTranscript bytes texts (Malformed number) = IsMalformedAt bytes number × (texts ≡ [])
 IsTranscript bytes texts ending = IsReplayed bytes texts ending
 
+-- whole lines of the transcript of these lines were appended
+abbrev pub AppendsWhole : List ScheduleLine → Option (List ℕ) → Option (List ℕ) → Type 0
+AppendsWhole lines old new = (k : ℕ) × Appends old new (flatten (take k (transcript lines)))
+
 -- whole lines of the transcript of these bytes were appended, if they spell a schedule
 abbrev pub AppendsLines : List ℕ → Option (List ℕ) → Option (List ℕ) → Type 0
-AppendsLines bytes old new =
-    (lines : List ScheduleLine) → SpellsSchedule bytes lines → (k : ℕ) × Appends old new (flatten (take k (transcript lines)))
+AppendsLines bytes old new = (lines : List ScheduleLine) → SpellsSchedule bytes lines → AppendsWhole lines old new

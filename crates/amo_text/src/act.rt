@@ -17,25 +17,6 @@ pub enum ActName {
     Recover,
 }
 
-impl ActName {
-    /// The field that spells it.
-    pub fn field(self) -> &'static str
-        ensures { result.now ≡ act_field self }
-    {
-        match self {
-            ActName::Put => "put",
-            ActName::Get => "get",
-            ActName::Ack => "ack",
-            ActName::Start => "start",
-            ActName::Batch => "batch",
-            ActName::Resend => "resend",
-            ActName::Deliver => "deliver",
-            ActName::Crash => "crash",
-            ActName::Recover => "recover",
-        }
-    }
-}
-
 /// The name of an act that this field spells.
 pub fn read_act_name(field: &[u8]) -> Option<ActName>
     ensures found { IfSome result (λ name. field.now ≡ act_field name) }

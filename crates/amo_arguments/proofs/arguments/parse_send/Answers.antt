@@ -1,8 +1,11 @@
 use Rattle.std.proofs.Common.{refl, rules}
+use Rattle.clap.specs.Words.{found_of, rows_of}
+use Rattle.amo_arguments.proofs.Refused.{handed_on}
+use Rattle.amo_arguments.proofs.Unfit.{send_apart}
 use Rattle.amo_arguments.proofs.arguments.parse_send.Goals as goal
 
-pub returns : goal.returns
-returns c = (
+pub returns-clause-chosen : goal.returns-clause-chosen
+returns-clause-chosen c = (
   _,
   refl,
   record {
@@ -16,4 +19,10 @@ returns c = (
     waits = search rules;
     apart = search rules;
   },
+  tt,
 )
+
+pub returns-in_err-check_each-clause-refused : goal.returns-in_err-check_each-clause-refused
+returns-in_err-check_each-clause-refused c =
+    handed_on _ c.from_residual-in_err-check_each.result c.in_err-check_each.field-0.0 c.from_residual-in_err-check_each.ensures
+    (send_apart (rows_of (found_of c.args.matches.now)) c.in_ok-each.each c.in_ok-many.many c.in_ok-batch.batch _ c.in_ok-each.ensures c.in_ok-many.ensures c.in_ok-batch.ensures c.in_err-check_each.ensures.refused)
