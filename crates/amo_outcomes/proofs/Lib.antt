@@ -14,6 +14,7 @@ pub mod SenderTruth
 pub mod SenderHearing
 pub mod SenderHistories
 pub mod SenderAlone
+pub mod Interleavings
 pub mod Marking
 pub mod Runs
 pub mod SenderKeeping

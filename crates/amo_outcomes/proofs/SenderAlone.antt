@@ -28,7 +28,7 @@ use Rattle.amo_outcomes.proofs.SenderOrder.{AreSame, receiver_leaves, in_order, 
 use Rattle.amo_outcomes.proofs.SenderHistories.{not_sent, sent_below, unsent_below, got_is_true, gone_is_true, settled_is_true}
 
 -- all that a sender's own events change
-record Alone : Type 0 where
+pub record Alone : Type 0 where
   pub state : sender.SenderState
   pub count : ℕ
   pub waiting : List ℕ
@@ -36,10 +36,10 @@ record Alone : Type 0 where
   pub sent : List Handshake
   pub heard : Heard
 
-abbrev alone_with : sender.SenderState → Puts → Heard → Alone
+abbrev pub alone_with : sender.SenderState → Puts → Heard → Alone
 alone_with s p h = record { state = s; count = p.count; waiting = p.waiting; carried = p.carried; sent = p.sent; heard = h }
 
-abbrev alone : ℕ → List Event → Alone
+abbrev pub alone : ℕ → List Event → Alone
 alone number events = alone_with (stream_after number events).sender.state (puts_after number events) (heard_after number events)
 
 -- the puts, of which none is held and none was got
@@ -144,7 +144,7 @@ by_sender number (e ∷ past) =
     chosen false Sender here same = refl
     chosen false Receiver here same = refl
 
-same_alone : (number : ℕ) (one other : List Event) → events_at number Sender one ≡ events_at number Sender other
+pub same_alone : (number : ℕ) (one other : List Event) → events_at number Sender one ≡ events_at number Sender other
     → alone number one ≡ alone number other
 same_alone number one other same = by_sender number one ∙ ap (alone number) same ∙ sym (by_sender number other)
 

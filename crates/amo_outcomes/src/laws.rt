@@ -1,6 +1,7 @@
 //! Laws of outcomes. Each is the contract of a function that does nothing.
 ghost use Rattle.std.specs.Prelude.{◌≡◌, ◌<◌, true, ℕ, List, [], ◌∷◌, length};
 ghost use Rattle.std.specs.List.{Contains};
+ghost use Rattle.amo_object.specs.declared.step.End.{End};
 ghost use Rattle.amo_object.specs.declared.step.End.TheVariants.{Sender};
 ghost use Rattle.amo_object.specs.Delivery.{messages_put, messages_got};
 ghost use Rattle.amo_packet.specs.declared.packet.OwnedPacket.{OwnedPacket};
@@ -96,4 +97,13 @@ pub fn a_sender_tells_by_its_own_events()
     ensures { (number : ℕ) (one other : List Event) (put : ℕ) (outcome : SenderOutcome)
         → events_at number Sender one ≡ events_at number Sender other → HasSenderOutcome number one put outcome
         → HasSenderOutcome number other put outcome }
+{}
+
+/// What became of a put does not depend on how the events of both sides are interleaved: in all honest and fresh histories that have the same
+/// events at each side of a stream, in the same order, each put of the stream has the same outcome. So two merges of the same two journals tell
+/// the same.
+pub fn outcomes_are_the_same_in_each_interleaving()
+    ensures { (number : ℕ) (one other : List Event) (put : ℕ) (outcome : Outcome) → IsHonest one → IsFresh one → IsHonest other → IsFresh other
+        → ((side : End) → events_at number side one ≡ events_at number side other) → HasOutcome number one put outcome
+        → HasOutcome number other put outcome }
 {}

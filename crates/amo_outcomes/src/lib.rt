@@ -16,6 +16,9 @@
 //! gone may be put again. And once a later put of a stream was got, no earlier one ever will be.
 //! That an open put can still be got is not proved. It is tested in all short stories.
 //!
+//! **How both sides' events are interleaved changes no outcome** ([`laws::outcomes_are_the_same_in_each_interleaving`]): each merge of the
+//! same two journals tells the same.
+//!
 //! [`outcomes_of_sender`] tells what a sender's own events alone tell, those of one journal:
 //!
 //! ```text
