@@ -7,7 +7,7 @@ use Rattle.amo_door.specs.declared.connection.Stage.{Stage}
 use Rattle.amo_door.specs.declared.connection.Stage.TheVariants as stage
 use Rattle.amo_door.specs.declared.connection.Step.{Step}
 use Rattle.amo_door.specs.declared.connection.Step.TheVariants.{Call, Wait, Over}
-use Rattle.amo_door.specs.Connection.{ConnectionState, Extends, GoesOn, IsRest, MayCome, StaysOrEnds, closed, counted, over}
+use Rattle.amo_door.specs.Connection.{ConnectionState, Extends, GoesOn, IsRest, MayCome, StaysOrEnds, closed, counted, knowing_method, knows_method, over}
 
 -- nothing was appended
 pub extends_same : (a : List ℕ) → Extends a a
@@ -48,6 +48,41 @@ goes_on_twice a b c first next = record {
   thrown = next.thrown ∙ first.thrown;
   answered = omega (arith, first.answered, next.answered);
 }
+
+-- the method is known
+knows_on_at : (at : Stage) (begun : Bool) (old : ConnectionState) → GoesOn old (knows_method at begun old)
+knows_on_at stage.Reading false old = record { input = rest_same old.input; output = extends_same old.output; stage = inl refl; has_ended = refl; thrown = refl; answered = omega arith }
+knows_on_at stage.Reading true old = goes_on_same old
+knows_on_at stage.Asked begun old = goes_on_same old
+knows_on_at stage.Following begun old = goes_on_same old
+knows_on_at stage.Closing begun old = goes_on_same old
+knows_on_at stage.Over begun old = goes_on_same old
+
+pub knows_on : (old new : ConnectionState) → new ≡ knowing_method old → GoesOn old new
+knows_on old new is = subst (GoesOn old) (sym is) (knows_on_at old.stage old.has_begun old)
+
+-- what an answer comes to is the same then
+counted_at : (at : Stage) (begun : Bool) (old : ConnectionState) (output : List ℕ) (server : Server) → counted (knows_method at begun old) output server ≡ counted old output server
+counted_at stage.Reading false old output server = refl
+counted_at stage.Reading true old output server = refl
+counted_at stage.Asked begun old output server = refl
+counted_at stage.Following begun old output server = refl
+counted_at stage.Closing begun old output server = refl
+counted_at stage.Over begun old output server = refl
+
+pub counted_knowing : (old new : ConnectionState) (output : List ℕ) (server : Server) → new ≡ knowing_method old → counted new output server ≡ counted old output server
+counted_knowing old new output server is = ap (λ (c : ConnectionState). counted c output server) is ∙ counted_at old.stage old.has_begun old output server
+
+pub output_knowing : (old new : ConnectionState) (output : List ℕ) → new ≡ knowing_method old → Extends new.output output → Extends old.output output
+output_knowing old new output is more = extends_more old.output new.output output (knows_on old new is).output more
+
+-- the same, where no more is read behind it
+pub closes_knowing : (old knows told new : ConnectionState) → knows ≡ knowing_method old → (told ≡ counted knows told.output told.server) ⊎ (told ≡ over (counted knows told.output told.server)) → new ≡ closed told
+    → new ≡ closed (counted old told.output new.server)
+closes_knowing old knows told new is (inl counts) closes =
+    closes ∙ (ap closed (counts ∙ counted_knowing old knows told.output told.server is) ∙ ap (λ (server : Server). closed (counted old told.output server)) (sym (ap (λ (c : ConnectionState). c.server) closes)))
+closes_knowing old knows told new is (inr counts) closes =
+    closes ∙ (ap closed (counts ∙ ap over (counted_knowing old knows told.output told.server is)) ∙ ap (λ (server : Server). closed (counted old told.output server)) (sym (ap (λ (c : ConnectionState). c.server) closes)))
 
 -- the end of reading
 pub ends_so : (b : Bool) (before : Stage) → StaysOrEnds before (if b then stage.Over else stage.Closing)

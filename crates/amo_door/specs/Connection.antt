@@ -1,7 +1,8 @@
 -- Connections, as contracts see them.
-use Rattle.std.specs.Prelude.{◌≡◌, ◌⊎◌, ℕ, ◌+◌, ◌-◌, ◌^◌, ◌≤◌, ◌==◌, nat_lt, min, Bool, true, false, not, ◌&&◌, if◌then◌else◌, Option, None, Some, Result, Ok, Err, IsOk, IsErr, MatchResult, List, [], ◌∷◌, ◌++◌, length, take, drop, codes}
+use Rattle.std.specs.Prelude.{◌≡◌, ◌⊎◌, ℕ, ◌+◌, ◌-◌, ◌^◌, ◌≤◌, ◌==◌, nat_lt, min, Bool, true, false, not, ◌&&◌, if◌then◌else◌, Option, None, Some, Result, Ok, Err, IsOk, IsErr, MatchResult, List, [], ◌∷◌, ◌++◌, length, take, drop, position, unwrap_or, bytes_eq, codes}
 use Rattle.http1.specs.Conn.{after_data, data_refusal, data_text}
 use Rattle.http1.specs.Fields.{Header}
+use Rattle.http1.specs.ReadError.{is_line_end}
 use Rattle.http1.specs.Server.{IsClosed, after_response, new_server, planned_response, response_refusal, with_writing, writing}
 use Rattle.http1.specs.declared.conn.BodySize.{BodySize}
 use Rattle.http1.specs.declared.conn.BodySize.TheVariants.{Empty, Known, Unknown}
@@ -97,6 +98,25 @@ over c = record c { stage = stage.Over }
 -- what was not read is dropped, and no more is read; what is pending is sent
 abbrev pub closed : ConnectionState → ConnectionState
 closed c = record c { input = []; has_begun = false; stage = if length c.output == 0 then stage.Over else stage.Closing }
+
+-- the empty lines that may stand in front of a request, and what is behind them
+abbrev pub blank_length : List ℕ → ℕ
+blank_length bytes = unwrap_or (position (λ byte. not (is_line_end byte)) bytes) (length bytes)
+
+abbrev pub behind_blank : List ℕ → List ℕ
+behind_blank bytes = drop (blank_length bytes) bytes
+
+-- a request begins so that wants the head of its answer alone
+abbrev pub begins_with_head : List ℕ → Bool
+begins_with_head bytes = bytes_eq (take 5 (behind_blank bytes)) (codes "HEAD ")
+
+-- Whether the request that is at hand wants that: as its head said; where that has not come whole, as what came of it begins.
+abbrev pub knows_method : Stage → Bool → ConnectionState → ConnectionState
+knows_method stage.Reading false c = record c { wants_head = begins_with_head c.input }
+knows_method _ _ c = c
+
+abbrev pub knowing_method : ConnectionState → ConnectionState
+knowing_method c = knows_method c.stage c.has_begun c
 
 -- so many bytes more were thrown away: a client that sends on and on is let go
 abbrev pub thrown_at : ℕ → ConnectionState → ConnectionState
@@ -266,9 +286,9 @@ pub record SaysWhy (reason : Refusal) (answer : Answer) : Type 0 where
   pub extra : answer.extra ≡ extra_of reason
   pub body : IsRefusal reason [] answer.body.items
 
--- the same of an answer that refuses, which is the last one
+-- the same of an answer that refuses, which is the last one, and has no body where the request wants the head alone
 abbrev pub SpellsRefusal : Refusal → ConnectionState → ConnectionState → Type 0
-SpellsRefusal reason old new = (answer : Answer) × SaysWhy reason answer × SpellsAnswer answer true old new
+SpellsRefusal reason old new = (answer : Answer) × SaysWhy reason answer × SpellsAnswer answer true (knowing_method old) new
 
 -- the fields of an answer that goes on with what happens
 abbrev pub event_fields : List Header

@@ -1,7 +1,8 @@
 //! A connection of a client.
-ghost use Rattle.std.specs.Prelude.{◌≡◌, ◌≤◌, ◌<◌, ◌↔◌, ◌⊎◌, false, true, length, if◌then◌else◌, IfOk, IsTrue, MatchResult, OnErr, OnOk};
-ghost use Rattle.amo_door.specs.Connection.{Answers, Begins, Comes, Goes, GoesOn, Extends, MayCome, Refuses, Settles, SpellsAnswer, SpellsFront, SpellsRefusal, SpellsText, Tells, closed, counted, is_body, over, phase_of, room_of, taken_at, taken_count, throws, unused, wants_input, without_sent};
+ghost use Rattle.std.specs.Prelude.{◌≡◌, ◌≤◌, ◌<◌, ◌↔◌, ◌⊎◌, false, true, length, not, position, if◌then◌else◌, IfOk, IfSome, IsTrue, MatchResult, OnErr, OnOk};
+ghost use Rattle.amo_door.specs.Connection.{Answers, Begins, Comes, Goes, GoesOn, Extends, MayCome, Refuses, Settles, SpellsAnswer, SpellsFront, SpellsRefusal, SpellsText, Tells, begins_with_head, behind_blank, blank_length, closed, counted, is_body, knowing_method, over, phase_of, room_of, taken_at, taken_count, throws, unused, wants_input, without_sent};
 ghost use Rattle.amo_door.specs.declared.connection.Stage.TheVariants as stage;
+ghost use Rattle.http1.specs.ReadError.{is_line_end};
 ghost use Rattle.httparse.specs.Spans.{IsRequestWithin};
 
 use crate::head::{read_head, refusal_of};
@@ -514,9 +515,19 @@ impl Connection {
         ensures goes_on { GoesOn self.old self.new }
     {
         let answer = Answer::refusal(self.alloc, refusal)?;
+        self.note_method();
         self.write(&answer, true)?;
         self.close();
         Ok(())
+    }
+
+    /// Where no whole head has come, what came of it tells whether the request wants the head of its answer alone.
+    fn note_method(&mut self)
+        ensures { self.new ≡ knowing_method self.old }
+    {
+        if self.stage == Stage::Reading && self.begun.is_none() {
+            self.is_head = begins_with_head(self.input.as_slice());
+        }
     }
 
     /// Answers the request that waits for it. Where none does, or it cannot be spelt, the connection is over.
@@ -619,6 +630,48 @@ impl Connection {
         self.answered = self.answered.saturating_add(1);
         self.settle(written)
     }
+}
+
+/// Whether a request begins so that wants the head of its answer alone.
+fn begins_with_head(input: &[u8]) -> bool
+    ensures { result ≡ begins_with_head input.now }
+{
+    let request = behind_blank(input);
+    let front = &request[..5.min(request.len())];
+    front == b"HEAD ".as_slice()
+}
+
+/// What stands behind the empty lines that may stand in front of a request.
+fn behind_blank(input: &[u8]) -> &[u8]
+    ensures { result.now ≡ behind_blank input.now }
+{
+    &input[blank_length(input)..]
+}
+
+/// The length of these lines.
+fn blank_length(input: &[u8]) -> usize
+    ensures value { result ≡ blank_length input.now }
+    ensures within { result ≤ length input.now }
+{
+    match first_other(input) {
+        Some(place) => place,
+        None => input.len(),
+    }
+}
+
+/// The place of the first byte that belongs to no such line.
+fn first_other(input: &[u8]) -> Option<usize>
+    ensures value { result ≡ position (λ byte. not (is_line_end byte)) input.now }
+    ensures within { IfSome result (λ place. place < length input.now) }
+{
+    input.iter().position(|byte| !is_line_end(*byte))
+}
+
+/// Whether HTTP/1 takes this for the end of a line, or a part of it.
+fn is_line_end(byte: u8) -> bool
+    ensures { result ≡ is_line_end byte }
+{
+    byte == b'\r' || byte == b'\n'
 }
 
 /// Whether a body of this size is still to come. Behind a head without one HTTP/1 says that 0 bytes are.

@@ -192,10 +192,26 @@ impl fmt::Display for Refusal {
         match self {
             Refusal::Repeated(parameter) => write!(f, "the query gives `{parameter}` twice"),
             Refusal::Missing(parameter) => write!(f, "the query lacks `{parameter}`"),
-            Refusal::Wrong(parameter) => write!(f, "what the query gives as `{parameter}` is none"),
+            Refusal::Wrong(parameter) => write!(
+                f,
+                "`{parameter}` is to be {}",
+                kind_of(*parameter)
+            ),
             Refusal::Stray(parameter) => write!(f, "`{parameter}` means nothing here"),
             _ => f.write_str(self.text()),
         }
+    }
+}
+
+/// What is taken where the query gives this, as the end of a sentence.
+fn kind_of(parameter: Parameter) -> &'static str {
+    match parameter {
+        Parameter::Life | Parameter::By =>
+            "a word of 1 to 32 letters, digits, dashes and underscores",
+        Parameter::Number => "a number, in digits and without zeros in front",
+        Parameter::Wait => "a number of seconds, 60 at most, without zeros in front",
+        Parameter::Until => "`settled` at a sender and `ready` at a receiver",
+        Parameter::After => "the number of a line, in digits and without zeros in front",
     }
 }
 
