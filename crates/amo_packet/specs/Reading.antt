@@ -13,3 +13,10 @@ IsReading version kind fields (Ok body) =
     → Spells newest (header version kind stream ++ fields) (record { stream = stream; body = body_of body })
 IsReading version kind fields (Err fault) =
     (newest stream : ℕ) → 1 ≤ version → version ≤ newest → first_fault newest (header version kind stream ++ fields) ≡ Some fault
+
+-- what reading them gives to a reader of the versions up to the newest
+abbrev pub IsReadingUpTo : ℕ → ℕ → ℕ → List ℕ → Result Body ReadFault → Type 0
+IsReadingUpTo newest version kind fields (Ok body) =
+    (stream : ℕ) → stream < 2 ^ 32 → Spells newest (header version kind stream ++ fields) (record { stream = stream; body = body_of body })
+IsReadingUpTo newest version kind fields (Err fault) =
+    (stream : ℕ) → first_fault newest (header version kind stream ++ fields) ≡ Some fault

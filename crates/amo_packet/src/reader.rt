@@ -7,7 +7,7 @@ ghost use Rattle.amo_packet.specs.declared.packet.OwnedPacket.{OwnedPacket};
 ghost use Rattle.amo_packet.specs.Packet.{packet_of, body_of};
 ghost use Rattle.amo_packet.specs.Grammar.{header, CanBeWritten, Spells};
 ghost use Rattle.amo_packet.specs.Fault.{first_of, message_faults, first_fault};
-ghost use Rattle.amo_packet.specs.Reading.{IsReading};
+ghost use Rattle.amo_packet.specs.Reading.{IsReading, IsReadingUpTo};
 
 use crate::layout::{
     ACCEPT, ACCEPT_LENGTH, ACK, ACK_LENGTH, BATCH, BATCH_LENGTH, BATCH_VERSION, CLEANUP,
@@ -46,22 +46,22 @@ pub fn read_1(bytes: &[u8]) -> Result<Packet<'_>, ReadFault>
 /// The same for a reader that knows the versions up to the newest.
 #[inline(always)]
 fn read_up_to(newest: u8, bytes: &[u8]) -> Result<Packet<'_>, ReadFault>
+    requires newest { (FIRST_VERSION ≤ newest) × (newest ≤ NEWEST_VERSION) }
     ensures found { IfOk result (λ p. Spells newest bytes.now (packet_of p)) }
     ensures complete { (p : OwnedPacket) → Spells newest bytes.now p → IsOkAnd result (λ found. packet_of found ≡ p) }
     ensures fits { IfOk result (λ p. CanBeWritten (body_of p.body)) }
     ensures fault { (f : ReadFault) → IsErrOf result f ↔ (first_fault newest bytes.now ≡ Some f) }
 {
-    let (version, kind, stream, fields) = read_header(newest, bytes)?;
-    let body = read_body(version, kind, fields)?;
+    let (version, kind, stream, fields) = read_header(bytes)?;
+    let body = read_body(newest, version, kind, fields)?;
     Ok(Packet { stream, body })
 }
 
 /// The version, the kind, the stream and the fields of what begins as a packet.
 #[inline(always)]
-fn read_header(newest: u8, bytes: &[u8]) -> Result<(u8, u8, u32, &[u8]), ReadFault>
-    ensures known { IfOk result (λ h. (1 ≤ h.0) × (h.0 ≤ newest)) }
+fn read_header(bytes: &[u8]) -> Result<(u8, u8, u32, &[u8]), ReadFault>
     ensures found { IfOk result (λ h. (h.2 < 2 ^ 32) × (bytes.now ≡ header h.0 h.1 h.2 ++ h.3.now)) }
-    ensures fault { IfErr result (λ f. first_fault newest bytes.now ≡ Some f) }
+    ensures fault { IfErr result (λ f. (newest : ℕ) → first_fault newest bytes.now ≡ Some f) }
 {
     if bytes.len() < HEADER_LENGTH {
         return Err(ReadFault::Short);
@@ -69,26 +69,36 @@ fn read_header(newest: u8, bytes: &[u8]) -> Result<(u8, u8, u32, &[u8]), ReadFau
     if bytes[0] != MAGIC[0] || bytes[1] != MAGIC[1] {
         return Err(ReadFault::Magic);
     }
-    let version = bytes[2];
-    if version < FIRST_VERSION || version > newest {
-        return Err(ReadFault::Version);
-    }
     let stream = BigEndian::read_u32(&bytes[4..]);
-    Ok((version, bytes[3], stream, &bytes[HEADER_LENGTH..]))
+    Ok((bytes[2], bytes[3], stream, &bytes[HEADER_LENGTH..]))
 }
 
 /// What a packet of the version and the kind says by these fields.
 #[inline(always)]
-fn read_body(version: u8, kind: u8, fields: &[u8]) -> Result<Body<'_>, ReadFault>
-    ensures { IsReading version kind fields.now result }
+fn read_body(newest: u8, version: u8, kind: u8, fields: &[u8]) -> Result<Body<'_>, ReadFault>
+    requires newest { (FIRST_VERSION ≤ newest) × (newest ≤ NEWEST_VERSION) }
+    ensures { IsReadingUpTo newest version kind fields.now result }
 {
+    // Nearly every packet is of the first version: whether it is of a newer one is asked behind that.
     if version == FIRST_VERSION {
         return read_body_1(kind, fields);
     }
-    if version == BATCH_VERSION && kind == BATCH {
-        return read_batch(fields);
+    if version == BATCH_VERSION && version <= newest {
+        return read_body_2(kind, fields);
     }
-    Err(ReadFault::Kind)
+    Err(ReadFault::Version)
+}
+
+/// The same of version 02.
+#[inline(always)]
+fn read_body_2(kind: u8, fields: &[u8]) -> Result<Body<'_>, ReadFault>
+    ensures { IsReading BATCH_VERSION kind fields.now result }
+{
+    if kind == BATCH {
+        read_batch(fields)
+    } else {
+        Err(ReadFault::Kind)
+    }
 }
 
 /// The same of version 01.
@@ -177,8 +187,7 @@ fn read_batch(fields: &[u8]) -> Result<Body<'_>, ReadFault>
 }
 
 /// How many messages these fields of a batch spell.
-// By itself, and with a small answer: with a whole packet for one, each packet would be read by way of memory.
-#[inline(never)]
+#[inline(always)]
 fn expect_batch(fields: &[u8]) -> Result<u8, ReadFault>
     ensures long { OnOk result (BATCH_LENGTH ≤ length fields.now) }
     ensures count { IfOk result (λ count. (count ≡ get_or fields.now 8 0) × (1 ≤ count) × (count ≤ MAX_BATCH)) }
@@ -197,15 +206,16 @@ fn expect_batch(fields: &[u8]) -> Result<u8, ReadFault>
 }
 
 /// Whether the bytes spell as many messages, each behind its length, and nothing behind them.
+#[inline(always)]
 fn expect_messages(count: u8, bytes: &[u8]) -> Result<(), ReadFault>
     ensures ok { OnOk result (first_of (message_faults count bytes.now) ≡ None) }
     ensures err { IfErr result (λ f. first_of (message_faults count bytes.now) ≡ Some f) }
 {
-    if count > 0 {
-        let rest = after_message(bytes)?;
-        return expect_messages(count - 1, rest);
+    let mut rest = bytes;
+    for _ in 0..count {
+        rest = after_message(rest)?;
     }
-    if bytes.is_empty() {
+    if rest.is_empty() {
         Ok(())
     } else {
         Err(ReadFault::Long)
@@ -213,6 +223,7 @@ fn expect_messages(count: u8, bytes: &[u8]) -> Result<(), ReadFault>
 }
 
 /// The bytes after the message that these begin with, behind its length.
+#[inline(always)]
 fn after_message(bytes: &[u8]) -> Result<&[u8], ReadFault>
     ensures ok { IfOk result (λ rest. (more : ℕ) → first_of (message_faults (suc more) bytes.now) ≡ first_of (message_faults more rest.now)) }
     ensures err { IfErr result (λ f. (more : ℕ) → first_of (message_faults (suc more) bytes.now) ≡ Some f) }

@@ -10,12 +10,11 @@ use Rattle.amo_packet.proofs.reader.read_up_to.Goals as goal
 pub returns-in_err-version-clause-complete : goal.returns-in_err-version-clause-complete
 returns-in_err-version-clause-complete c =
     let p = err_from_is_err_and c.from_residual.result c.from_residual.ensures.1 in
-    rw p.1 (λ q s. spelt_bytes_have_no_fault c.args.newest c.args.bytes.now _ q c.in_err-version.ensures.fault s)
+    rw p.1 (λ q s. spelt_bytes_have_no_fault c.args.newest c.args.bytes.now _ q (c.in_err-version.ensures.fault c.args.newest) s)
 
 abbrev fault_of_body : (c : goal.After-from_residual-in_err-body) → first_fault c.args.newest c.args.bytes.now ≡ Some c.in_err-body.field-0.0
 fault_of_body c =
-    let known = c.in_ok-version.ensures.known in
-    ap (first_fault c.args.newest) c.in_ok-version.ensures.found.1 ∙ c.in_err-body.ensures c.args.newest c.in_ok-version.stream known.0 known.1
+    ap (first_fault c.args.newest) c.in_ok-version.ensures.found.1 ∙ c.in_err-body.ensures c.in_ok-version.stream
 
 pub returns-in_err-body-clause-fault : goal.returns-in_err-body-clause-fault
 returns-in_err-body-clause-fault c =
@@ -30,10 +29,10 @@ returns-in_err-body-clause-complete c =
 
 pub returns-clause-complete : goal.returns-clause-complete
 returns-clause-complete c =
-    let spelt : Spells c.args.newest c.args.bytes.now (packet_of (record { stream = c.in_ok-version.stream; body = c.in_ok-body.body })) = rw c.in_ok-version.ensures.found.1 (c.in_ok-body.ensures c.args.newest c.in_ok-version.stream c.in_ok-version.ensures.known.1 c.in_ok-version.ensures.found.0) in
+    let spelt : Spells c.args.newest c.args.bytes.now (packet_of (record { stream = c.in_ok-version.stream; body = c.in_ok-body.body })) = rw c.in_ok-version.ensures.found.1 (c.in_ok-body.ensures c.in_ok-version.stream c.in_ok-version.ensures.found.0) in
     λ q s. Spells-unique c.args.newest c.args.newest c.args.bytes.now _ q spelt s
 
 pub returns-clause-fault : goal.returns-clause-fault
 returns-clause-fault c =
-    let spelt : Spells c.args.newest c.args.bytes.now (packet_of (record { stream = c.in_ok-version.stream; body = c.in_ok-body.body })) = rw c.in_ok-version.ensures.found.1 (c.in_ok-body.ensures c.args.newest c.in_ok-version.stream c.in_ok-version.ensures.known.1 c.in_ok-version.ensures.found.0) in
+    let spelt : Spells c.args.newest c.args.bytes.now (packet_of (record { stream = c.in_ok-version.stream; body = c.in_ok-body.body })) = rw c.in_ok-version.ensures.found.1 (c.in_ok-body.ensures c.in_ok-version.stream c.in_ok-version.ensures.found.0) in
     λ f. (λ e. absurd cc, λ e. absurd (spelt_bytes_have_no_fault c.args.newest c.args.bytes.now f _ e spelt))
