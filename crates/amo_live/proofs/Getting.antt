@@ -1,44 +1,123 @@
--- Which messages were got.
-use Rattle.std.proofs.Common.{◌≡◌, ℕ, Bool, List, ◌∷◌, Option, Some, None, ap, ◌∙◌}
+-- Which messages were got, and where their gets stand.
+use Rattle.std.proofs.Common.{◌≡◌, ℕ, ◌%◌, ◌^◌, Bool, List, [], ◌∷◌, Option, Some, None, length, refl, ap, sym, subst, ◌∙◌}
+use Rattle.amo_object.specs.declared.step.End.{End}
 use Rattle.amo_object.specs.declared.step.End.TheVariants.{Receiver, Sender}
 use Rattle.amo_core.specs.declared.act.Act.{Act}
 use Rattle.amo_core.specs.declared.act.Act.TheVariants as act
 use Rattle.amo_core.specs.declared.mode.Mode.{Mode}
+use Rattle.amo_core.specs.declared.reply.Reply.{Reply}
 use Rattle.amo_core.specs.declared.reply.Reply.TheVariants as reply
-use Rattle.amo_book.specs.Pass.{PassState, Answer, Grown, mine}
-use Rattle.amo_live.specs.Callers.{gets_in}
-use Rattle.amo_live.specs.Host.{HostState, Did, Looks, message_in, puts_in}
+use Rattle.amo_world.specs.declared.event.Event.{Event}
+use Rattle.amo_world.specs.History.{Extends}
+use Rattle.amo_world.proofs.Extensions.{further, itself}
+use Rattle.amo_book.specs.Pass.{PassState, Answer, Answered, Grown, GrownBy, HasPosition, event, mine}
+use Rattle.amo_live.specs.Callers.{Gets, HappensAt, gets_in}
+use Rattle.amo_live.specs.Host.{HostState, Did, Looks, got_at, got_in, puts_in}
+use Rattle.amo_live.specs.declared.service.door.EventAt.{EventAt}
+use Rattle.amo_live.proofs.Emissions.{grown_extends}
 use Rattle.amo_live.proofs.Repeating.{looks_still}
 
--- a get that was answered with a message got it
-pub was_got : (v w : PassState) (stream : ℕ) (m : List ℕ) (answer : Answer) → Some m ≡ message_in answer → Grown v w Receiver stream act.Get answer → gets_in (mine w) ≡ (stream, m) ∷ gets_in (mine v)
-was_got v w stream m None is grown = absurd (no is)
+-- the event of a call stands at the position that the call answered
+pub happens_at : (v w : PassState) (side : End) (stream : ℕ) (a : Act) (r : Reply) (position : ℕ) → GrownBy v w (event v.number side stream a r) → HasPosition w position → HappensAt v w side stream a r position
+happens_at v w side stream a r position grown place = record {
+  pass = v.number;
+  past = grown.earlier;
+  since = grown.extends;
+  stands = subst (λ (seen : List Event). Extends seen (event v.number side stream a r ∷ grown.earlier)) (sym grown.seen) (itself (event v.number side stream a r ∷ grown.earlier));
+  place = place ∙ ap (λ (seen : List Event). length seen % 2 ^ 64) grown.seen;
+}
+
+-- also behind what happened before, and in front of what happens later
+pub happens_since : (u v w : PassState) (side : End) (stream : ℕ) (a : Act) (r : Reply) (position : ℕ) → Extends v.seen u.seen → HappensAt v w side stream a r position → HappensAt u w side stream a r position
+happens_since u v w side stream a r position more at = record { pass = at.pass; past = at.past; since = further at.past v.seen u.seen at.since more; stands = at.stands; place = at.place }
+
+pub happens_until : (v w x : PassState) (side : End) (stream : ℕ) (a : Act) (r : Reply) (position : ℕ) → Extends x.seen w.seen → HappensAt v w side stream a r position → HappensAt v x side stream a r position
+happens_until v w x side stream a r position more at = record {
+  pass = at.pass;
+  past = at.past;
+  since = at.since;
+  stands = further x.seen w.seen (event at.pass side stream a r ∷ at.past) more at.stands;
+  place = at.place;
+}
+
+-- so what was seen before goes on
+pub happens_extends : (v w : PassState) (side : End) (stream : ℕ) (a : Act) (r : Reply) (position : ℕ) → HappensAt v w side stream a r position → Extends w.seen v.seen
+happens_extends v w side stream a r position at =
+    let e = event at.pass side stream a r in
+    let older = at.since in
+    further w.seen (e ∷ at.past) v.seen at.stands (e ∷ older.0, ap (λ (l : List Event). e ∷ l) older.1)
+
+-- a call goes on from what was seen before
+pub call_extends : (v w : PassState) (side : End) (stream : ℕ) (a : Act) (answer : Answer) → Grown v w side stream a answer → Extends w.seen v.seen
+call_extends v w side stream a None grown = subst (λ (p : PassState). Extends p.seen v.seen) (sym grown) (itself v.seen)
+call_extends v w side stream a (Some (r, position)) grown = grown_extends v w (event v.number side stream a r) grown
+
+-- and so does a resend
+pub resend_extends : {L S : Type 0} (h g : HostState L S) (stream : ℕ) (mode : Option Mode) → Did h g stream act.Resend mode → Extends g.pass.seen h.pass.seen
+resend_extends h g stream None did = subst (λ (p : PassState). Extends p.seen h.pass.seen) (sym did.0) (itself h.pass.seen)
+resend_extends h g stream (Some mode) did = grown_extends h.pass g.pass _ did.grown
+
+-- what a get answered is one message at one position
+message_of : Option (List ℕ × ℕ) → List ℕ
+message_of None = []
+message_of (Some (m, position)) = m
+
+position_of : Option (List ℕ × ℕ) → ℕ
+position_of None = 0
+position_of (Some (m, position)) = position
+
+pub same_message : (m n : List ℕ) (at position : ℕ) → got_at m at ≡ got_at n position → m ≡ n
+unfolding message_of
+same_message m n at position is = ap message_of is
+
+same_position : (m n : List ℕ) (at position : ℕ) → got_at m at ≡ got_at n position → at ≡ position
+unfolding position_of
+same_position m n at position is = ap position_of is
+
+-- a get that was answered with a message got it, at that position
+pub was_got : (v w : PassState) (stream : ℕ) (m : List ℕ) (at : EventAt) (answer : Answer) → got_at m at.position ≡ got_in answer → Grown v w Receiver stream act.Get answer → Answered w answer → Gets v w stream (Some (m, at))
+was_got v w stream m at None is grown answered = absurd (no is)
   where
-    no : Some m ≡ None → ⊥
+    no : got_at m at.position ≡ None → ⊥
     no e = cc
-was_got v w stream m (Some (reply.Got n, position)) is grown =
-    let same : n ≡ m = cc in ap gets_in grown.mine_grew ∙ ap (λ (l : List ℕ). (stream, l) ∷ gets_in (mine v)) same
-was_got v w stream m (Some (reply.Ok, position)) is grown = cc
-was_got v w stream m (Some (reply.Full, position)) is grown = cc
-was_got v w stream m (Some (reply.Down, position)) is grown = cc
-was_got v w stream m (Some (reply.Nothing, position)) is grown = cc
-was_got v w stream m (Some (reply.Yes, position)) is grown = cc
-was_got v w stream m (Some (reply.No, position)) is grown = cc
-was_got v w stream m (Some (reply.NotYet, position)) is grown = cc
-was_got v w stream m (Some (reply.Done, position)) is grown = cc
+was_got v w stream m at (Some (reply.Got n, position)) is grown answered =
+    let same = same_message m n at.position position is in
+    let place = same_position m n at.position position is in
+    let one : gets_in (mine w) ≡ (stream, n) ∷ gets_in (mine v) = ap gets_in grown.mine_grew in
+    subst (λ (k : List ℕ). Gets v w stream (Some (k, at))) (sym same)
+    (one, subst (λ (p : ℕ). HappensAt v w Receiver stream act.Get (reply.Got n) p) (sym place) (happens_at v w Receiver stream act.Get (reply.Got n) position grown answered))
+was_got v w stream m at (Some (reply.Ok, position)) is grown answered = cc
+was_got v w stream m at (Some (reply.Full, position)) is grown answered = cc
+was_got v w stream m at (Some (reply.Down, position)) is grown answered = cc
+was_got v w stream m at (Some (reply.Nothing, position)) is grown answered = cc
+was_got v w stream m at (Some (reply.Yes, position)) is grown answered = cc
+was_got v w stream m at (Some (reply.No, position)) is grown answered = cc
+was_got v w stream m at (Some (reply.NotYet, position)) is grown answered = cc
+was_got v w stream m at (Some (reply.Done, position)) is grown answered = cc
 
 -- one that was answered with none got none
-pub got_none : (v w : PassState) (stream : ℕ) (answer : Answer) → None ≡ message_in answer → Grown v w Receiver stream act.Get answer → gets_in (mine w) ≡ gets_in (mine v)
-got_none v w stream None is grown = ap (λ (p : PassState). gets_in (mine p)) grown
-got_none v w stream (Some (reply.Got n, position)) is grown = cc
-got_none v w stream (Some (reply.Ok, position)) is grown = ap gets_in grown.mine_grew
-got_none v w stream (Some (reply.Full, position)) is grown = ap gets_in grown.mine_grew
-got_none v w stream (Some (reply.Down, position)) is grown = ap gets_in grown.mine_grew
-got_none v w stream (Some (reply.Nothing, position)) is grown = ap gets_in grown.mine_grew
-got_none v w stream (Some (reply.Yes, position)) is grown = ap gets_in grown.mine_grew
-got_none v w stream (Some (reply.No, position)) is grown = ap gets_in grown.mine_grew
-got_none v w stream (Some (reply.NotYet, position)) is grown = ap gets_in grown.mine_grew
-got_none v w stream (Some (reply.Done, position)) is grown = ap gets_in grown.mine_grew
+none_got : (v w : PassState) (stream : ℕ) (answer : Answer) → None ≡ got_in answer → Grown v w Receiver stream act.Get answer → gets_in (mine w) ≡ gets_in (mine v)
+none_got v w stream None is grown = ap (λ (p : PassState). gets_in (mine p)) grown
+none_got v w stream (Some (reply.Got n, position)) is grown = cc
+none_got v w stream (Some (reply.Ok, position)) is grown = ap gets_in grown.mine_grew
+none_got v w stream (Some (reply.Full, position)) is grown = ap gets_in grown.mine_grew
+none_got v w stream (Some (reply.Down, position)) is grown = ap gets_in grown.mine_grew
+none_got v w stream (Some (reply.Nothing, position)) is grown = ap gets_in grown.mine_grew
+none_got v w stream (Some (reply.Yes, position)) is grown = ap gets_in grown.mine_grew
+none_got v w stream (Some (reply.No, position)) is grown = ap gets_in grown.mine_grew
+none_got v w stream (Some (reply.NotYet, position)) is grown = ap gets_in grown.mine_grew
+none_got v w stream (Some (reply.Done, position)) is grown = ap gets_in grown.mine_grew
+
+pub got_none : (v w : PassState) (stream : ℕ) (answer : Answer) → None ≡ got_in answer → Grown v w Receiver stream act.Get answer → Gets v w stream None
+got_none v w stream answer is grown = (none_got v w stream answer is grown, call_extends v w Receiver stream act.Get answer grown)
+
+-- where no event happened none was got either
+pub got_none_still : (v : PassState) (stream : ℕ) → Gets v v stream None
+got_none_still v stream = (refl, itself v.seen)
+
+-- a get and the resend behind it
+pub got_on : (v w x : PassState) (stream : ℕ) (m : List ℕ) (at : EventAt) → gets_in (mine x) ≡ gets_in (mine w) → Extends x.seen w.seen → Gets v w stream (Some (m, at)) → Gets v x stream (Some (m, at))
+got_on v w x stream m at none more (one, stands) = (none ∙ one, happens_until v w x Receiver stream act.Get (reply.Got m) at.position more stands)
 
 -- a get puts nothing
 pub get_puts : (v w : PassState) (stream : ℕ) (answer : Answer) → Grown v w Receiver stream act.Get answer → puts_in (mine w) ≡ puts_in (mine v)

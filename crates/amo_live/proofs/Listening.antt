@@ -1,5 +1,5 @@
 -- A service that listens changes nothing else.
-use Rattle.std.proofs.Common.{◌≡◌, ◌∙◌, refl, ap}
+use Rattle.std.proofs.Common.{◌∙◌, refl, ap}
 use Rattle.amo_live.specs.Host.{HostState}
 use Rattle.amo_live.specs.declared.service.Service.{Service}
 use Rattle.amo_live.specs.Service.{Listened}

@@ -35,9 +35,10 @@ use Rattle.amo_journal.specs.Version.{newest}
 use Rattle.amo_live.specs.declared.fault.LiveFault.{LiveFault}
 use Rattle.amo_lines.specs.declared.lines.Spelling.{Spelling}
 use Rattle.amo_lines.specs.declared.lines.Word.{Word}
-use Rattle.amo_live.specs.Host.{HostState, Did, Delivered, Looks, message_in, word_for}
+use Rattle.amo_live.specs.Host.{HostState, Did, Delivered, Looks, got_at, got_in, word_for}
 use Rattle.amo_live.specs.Service.{start_of}
 use Rattle.amo_live.proofs.Emissions.{grown_extends}
+use Rattle.amo_live.proofs.Getting.{same_message}
 use Rattle.amo_live.proofs.Ending.{ends_handshake, sending_begins}
 use Rattle.amo_live.proofs.Repeating.{looks_extend, looks_still, none_extends, none_still}
 use Rattle.amo_lines.specs.Object.{Name}
@@ -219,27 +220,24 @@ refused_shows spelling v w stream m (put_fault.Busy back) old new grown is = sho
 refused_shows spelling v w stream m (put_fault.NoStream back) old new grown is = shows_idle spelling v w old new grown is
 
 -- a get shows its message, or nothing
-one_message : (m n : List ℕ) → Some m ≡ Some n → m ≡ n
-one_message m n e = cc
-
 module _ (spelling : Spelling) (v w : PassState) (stream : ℕ) (old new : Told) where
-  pub get_shows : (answer : Answer) (line : ℕ) (m : List ℕ) → Some m ≡ message_in answer → Grown v w Receiver stream act.Get answer → new ≡ told_line (message_line spelling stream line m) old → ShowsMore spelling v w old new
-  get_shows None line m got grown is = absurd (no got)
+  pub get_shows : (answer : Answer) (line : ℕ) (m : List ℕ) (at : ℕ) → got_at m at ≡ got_in answer → Grown v w Receiver stream act.Get answer → new ≡ told_line (message_line spelling stream line m) old → ShowsMore spelling v w old new
+  get_shows None line m at got grown is = absurd (no got)
     where
-      no : Some m ≡ None → ⊥
+      no : got_at m at ≡ None → ⊥
       no e = cc
-  get_shows (Some (reply.Got n, position)) line m got grown is =
-      shows_reply spelling v w old new (event v.number Receiver stream act.Get (reply.Got n)) grown (line, is ∙ ap (λ (k : List ℕ). told_line (message_line spelling stream line k) old) (one_message m n got))
-  get_shows (Some (reply.Ok, position)) line m got grown is = cc
-  get_shows (Some (reply.Full, position)) line m got grown is = cc
-  get_shows (Some (reply.Down, position)) line m got grown is = cc
-  get_shows (Some (reply.Nothing, position)) line m got grown is = cc
-  get_shows (Some (reply.Yes, position)) line m got grown is = cc
-  get_shows (Some (reply.No, position)) line m got grown is = cc
-  get_shows (Some (reply.NotYet, position)) line m got grown is = cc
-  get_shows (Some (reply.Done, position)) line m got grown is = cc
+  get_shows (Some (reply.Got n, position)) line m at got grown is =
+      shows_reply spelling v w old new (event v.number Receiver stream act.Get (reply.Got n)) grown (line, is ∙ ap (λ (k : List ℕ). told_line (message_line spelling stream line k) old) (same_message m n at position got))
+  get_shows (Some (reply.Ok, position)) line m at got grown is = cc
+  get_shows (Some (reply.Full, position)) line m at got grown is = cc
+  get_shows (Some (reply.Down, position)) line m at got grown is = cc
+  get_shows (Some (reply.Nothing, position)) line m at got grown is = cc
+  get_shows (Some (reply.Yes, position)) line m at got grown is = cc
+  get_shows (Some (reply.No, position)) line m at got grown is = cc
+  get_shows (Some (reply.NotYet, position)) line m at got grown is = cc
+  get_shows (Some (reply.Done, position)) line m at got grown is = cc
 
-  pub nothing_shows : (answer : Answer) → None ≡ message_in answer → Grown v w Receiver stream act.Get answer → new ≡ old → ShowsMore spelling v w old new
+  pub nothing_shows : (answer : Answer) → None ≡ got_in answer → Grown v w Receiver stream act.Get answer → new ≡ old → ShowsMore spelling v w old new
   nothing_shows None got grown is = shows_idle spelling v w old new grown is
   nothing_shows (Some (reply.Got n, position)) got grown is = cc
   nothing_shows (Some (reply.Ok, position)) got grown is = shows_reply spelling v w old new (event v.number Receiver stream act.Get reply.Ok) grown is

@@ -1,5 +1,5 @@
 -- A live host: one side of its streams, a link, and a journal that is ahead of all that leaves.
-use Rattle.std.specs.Prelude.{◌≡◌, ◌≢◌, ℕ, zero, suc, min, ◌<◌, ◌≤◌, ◌⊎◌, Bool, true, false, Option, Some, None, Result, Ok, Err, List, [], ◌∷◌, ◌++◌, length, slice_get}
+use Rattle.std.specs.Prelude.{◌≡◌, ◌≢◌, ℕ, zero, suc, min, ◌≤◌, ◌⊎◌, Bool, true, false, Option, Some, None, Result, Ok, Err, List, [], ◌∷◌, ◌++◌, length, slice_get}
 use Rattle.std.specs.List.{Contains}
 use Rattle.amo_object.specs.declared.step.End.{End}
 use Rattle.amo_object.specs.declared.step.End.TheVariants.{Sender}
@@ -219,10 +219,14 @@ Delivered h g bytes word None = IsRepeated h g bytes word ⊎ Looked h g
 Delivered h g bytes word (Some (stream, mode)) =
     (p : OwnedPacket) × Spells (newest h.journal.version) bytes p × (p.stream ≡ stream) × Happens h g h.side stream (act.Deliver p (word_for p.body word)) mode
 
--- the message that a get answered, if it did
-abbrev pub message_in : Answer → Option (List ℕ)
-message_in (Some (Got m, position)) = Some m
-message_in _ = None
+-- a message that a get answered, and the position of its event
+abbrev pub got_at : List ℕ → ℕ → Option (List ℕ × ℕ)
+got_at m position = Some (m, position)
+
+-- what a get answered, if that is a message
+abbrev pub got_in : Answer → Option (List ℕ × ℕ)
+got_in (Some (Got m, position)) = got_at m position
+got_in _ = None
 
 -- the message that an event put, with its stream, if it did
 abbrev pub put_by : ℕ → Act → Reply → List (ℕ × List ℕ)

@@ -7,8 +7,8 @@ ghost use Rattle.amo_core.specs.declared.act.Act.TheVariants as act;
 ghost use Rattle.amo_journal.specs.Journal.{HasReply};
 ghost use Rattle.amo_book.specs.Calls.{put_answer, get_answer, ack_answer};
 ghost use Rattle.amo_book.specs.Fault.{put_message};
-ghost use Rattle.amo_book.specs.Pass.{Answer, Grown};
-ghost use Rattle.amo_live.specs.Host.{IsBegun, IsNoted, Stays, message_in};
+ghost use Rattle.amo_book.specs.Pass.{Answer, Answered, Grown};
+ghost use Rattle.amo_live.specs.Host.{IsBegun, IsNoted, Stays, got_in};
 
 use crate::noting::note_answer;
 use crate::{Host, LiveFault};
@@ -25,6 +25,7 @@ impl<L: Link, S: Sink> Host<L, S> {
     pub fn put(&mut self, stream: u32, message: Message) -> Result<Result<u64, PutFault>, LiveFault>
         requires { IsNoted S.written self.old }
         ensures put { IfOk result (λ answer. Grown self.old.pass self.new.pass end.Sender stream (act.Put message) (put_answer answer)) }
+        ensures answered { IfOk result (λ answer. Answered self.new.pass (put_answer answer)) }
         ensures handed_back { IfOk result (λ answer. IfErr answer (λ fault. put_message fault ≡ message)) }
         ensures noted { OnOk result (IsNoted S.written self.new) }
         ensures begun { OnErr result (IsBegun S.written self.new) }
@@ -48,11 +49,11 @@ impl<L: Link, S: Sink> Host<L, S> {
         Ok(answer)
     }
 
-    /// Takes the message that has come to a stream, if one has. What the book answered stands in the journal.
+    /// Takes the message that has come to a stream, if one has, and tells the position of that event. What the book answered stands in the journal.
     #[tactic(auto, using(crate::proofs::Suiting::get_spelt, crate::proofs::Onwards::begins_whole))]
-    pub fn get(&mut self, stream: u32) -> Result<Option<Message>, LiveFault>
+    pub fn get(&mut self, stream: u32) -> Result<Option<(Message, u64)>, LiveFault>
         requires { IsNoted S.written self.old }
-        ensures got { IfOk result (λ message. (answer : Answer) × Grown self.old.pass self.new.pass end.Receiver stream act.Get answer × (message ≡ message_in answer)) }
+        ensures got { IfOk result (λ got. (answer : Answer) × Grown self.old.pass self.new.pass end.Receiver stream act.Get answer × Answered self.new.pass answer × (got ≡ got_in answer)) }
         ensures noted { OnOk result (IsNoted S.written self.new) }
         ensures begun { OnErr result (IsBegun S.written self.new) }
         ensures stays { Stays self.old self.new × (self.new.outbox ≡ self.old.outbox) }
@@ -67,7 +68,7 @@ impl<L: Link, S: Sink> Host<L, S> {
             Ok(known) => known,
             Err(fault) => return Err(fault),
         };
-        Ok(message_in(known))
+        Ok(got_in(known))
     }
 
     /// What is known of the last message put to a stream. The answer is the book's, and stands in the journal.
@@ -94,13 +95,16 @@ impl<L: Link, S: Sink> Host<L, S> {
     }
 }
 
-/// The message that a get answered, if it did.
-fn message_in(known: Option<(Reply, u64)>) -> Option<Message>
-    ensures { result ≡ message_in known }
+/// The message that a get answered and the position of its event, if it answered one.
+fn got_in(known: Option<(Reply, u64)>) -> Option<(Message, u64)>
+    ensures { result ≡ got_in known }
 {
     match known {
-        Some((Reply::Got(message), _)) => Some(message),
-        _ => None,
+        Some((reply, position)) => match reply {
+            Reply::Got(message) => Some((message, position)),
+            _ => None,
+        },
+        None => None,
     }
 }
 

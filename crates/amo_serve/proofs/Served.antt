@@ -1,12 +1,18 @@
 -- What a host does for those who ask, step by step.
-use Rattle.std.proofs.Common.{◌≡◌, ℕ, Bool, true, false, cond, not, eqb, List, [], ◌∷◌, ◌++◌, Option, Some, None, refl, sym, ap, ◌∙◌, subst, append_assoc, append-nil}
-use Rattle.std.specs.Prelude.{IfSome, bytes_eq, if◌then◌else◌}
+use Rattle.std.proofs.Common.{◌≡◌, ℕ, Bool, true, false, cond, not, eqb, List, [], ◌∷◌, ◌++◌, Option, Some, None, Ok, Err, refl, sym, ap, ◌∙◌, subst, append_assoc, append-nil}
+use Rattle.std.specs.Prelude.{IfSome, OnOk, Result, bytes_eq, if◌then◌else◌}
+use Rattle.std.specs.List.{AllByRecursion}
+use Rattle.amo_object.specs.declared.step.End.TheVariants.{Receiver, Sender}
+use Rattle.amo_core.specs.declared.act.Act.TheVariants as act
+use Rattle.amo_core.specs.declared.reply.Reply.TheVariants as event_reply
+use Rattle.amo_world.specs.History.{Extends}
+use Rattle.amo_world.proofs.Extensions.{further, itself}
 use Rattle.amo_book.specs.Pass.{PassState, mine}
-use Rattle.amo_live.specs.Callers.{GetsNone, MovesNone, gets_in}
+use Rattle.amo_live.specs.Callers.{GetsNone, HappensAt, gets_in}
 use Rattle.amo_live.specs.Host.{puts_in}
+use Rattle.amo_live.proofs.Getting.{happens_extends, happens_since, happens_until}
 use Rattle.amo_door.specs.declared.answer.Answer.{Answer as DoorAnswer}
 use Rattle.amo_door.specs.declared.claim.Claim.{Claim}
-use Rattle.amo_door.specs.declared.answer.Kind.TheVariants.{Bytes}
 use Rattle.amo_door.specs.declared.answer.When.TheVariants.{Now, Before}
 use Rattle.amo_door.specs.declared.claim.Decision.{Decision}
 use Rattle.amo_door.specs.declared.claim.Decision.TheVariants.{Next, Again, Conflict, OtherLife}
@@ -16,14 +22,64 @@ use Rattle.amo_door.specs.declared.refusal.Refusal.TheVariants as refusal
 use Rattle.amo_door.specs.Answer.{put_body, status_of_put}
 use Rattle.amo_door.specs.Numbers.{HasStream, Table, decision, last_of, made_for, number_of}
 use Rattle.amo_door.specs.Refusal.{status_of}
-use Rattle.amo_door.specs.Turns.{Answer, Answers, Claimed, Fresh, Gone, Keeps, NotNow, Repeated, Stands, Turn, all_made, fresh, in_front, newest}
-use Rattle.amo_serve.specs.Serving.{AnswersPut, AnswersTake, AnswersUnclaimed, IsFull, IsPut, IsTurn, Serves, SpellsPut, SpellsTaken, Takes, got_by_turn, got_by_turns, put_by_turn, put_by_turns}
+use Rattle.amo_door.specs.Turns.{Answer, Answers, Claimed, Fresh, Gone, Keeps, NotNow, Repeated, Stands, Turn, Unclaimed, all_made, fresh, in_front, newest}
+use Rattle.amo_serve.specs.Serving.{AnswersPut, AnswersTake, AnswersUnclaimed, Happened, IsFull, IsMessage, IsPut, IsStill, IsTurn, Serves, SpellsPut, SpellsTaken, Takes, got_by_turn, got_by_turns, put_by_turn, put_by_turns}
 use Rattle.amo_serve.specs.declared.responder.taking.Taken.{Taken}
 use Rattle.amo_serve.specs.declared.responder.taking.Taken.TheVariants as taken
 
 -- no turn came, and nothing was put or got
-pub serves_none : (s t : Table) (v w : PassState) → t ≡ s → MovesNone v w → Serves s t v w
-serves_none s t v w same none = record { turns = []; keeps = λ past keeps. subst (Keeps past) (sym same) keeps; puts = none.0; gets = none.1 }
+pub serves_none : (s t : Table) (v w : PassState) → t ≡ s → IsStill v w → Serves s t v w
+serves_none s t v w same none =
+    record { turns = []; keeps = λ past keeps. subst (Keeps past) (sym same) keeps; puts = none.0.0; gets = none.0.1; extends = none.1; happened = tt }
+
+-- nothing happened, where the pass is the same
+pub still : (v w : PassState) → w ≡ v → IsStill v w
+still v w same = subst (IsStill v) (sym same) ((refl, refl), itself v.seen)
+
+-- and no turn came, whatever is answered
+pub serves_still : (s : Table) (v : PassState) → Serves s s v v
+serves_still s v = serves_none s s v v refl (still v v refl)
+
+pub each_serves : {T E : Type 0} (result : Result T E) (s : Table) (v : PassState) → OnOk result (Serves s s v v)
+each_serves (Ok value) s v = serves_still s v
+each_serves (Err fault) s v = tt
+
+-- nor behind that
+pub still_to : (v u w : PassState) → w ≡ u → IsStill v u → IsStill v w
+still_to v u w same none = subst (IsStill v) (sym same) none
+
+-- what a turn made happened also behind what was seen before, and in front of what is seen later
+pub happened_since : (u v w : PassState) (turn : Turn) → Extends v.seen u.seen → Happened v w turn → Happened u w turn
+happened_since u v w (Claimed claim (Some brought) (Fresh made)) more at = happens_since u v w Sender claim.stream (act.Put made.message) event_reply.Ok made.place.position more at
+happened_since u v w (Claimed claim (Some brought) (Repeated made)) more at = tt
+happened_since u v w (Claimed claim (Some brought) (Stands number)) more at = tt
+happened_since u v w (Claimed claim (Some brought) Gone) more at = tt
+happened_since u v w (Claimed claim (Some brought) NotNow) more at = tt
+happened_since u v w (Claimed claim None (Fresh made)) more at = happens_since u v w Receiver claim.stream act.Get (event_reply.Got made.message) made.place.position more at
+happened_since u v w (Claimed claim None (Repeated made)) more at = tt
+happened_since u v w (Claimed claim None (Stands number)) more at = tt
+happened_since u v w (Claimed claim None Gone) more at = tt
+happened_since u v w (Claimed claim None NotNow) more at = tt
+happened_since u v w (Unclaimed stream made) more at = happens_since u v w Sender stream (act.Put made.message) event_reply.Ok made.place.position more at
+
+pub happened_until : (v w x : PassState) (turn : Turn) → Extends x.seen w.seen → Happened v w turn → Happened v x turn
+happened_until v w x (Claimed claim (Some brought) (Fresh made)) more at = happens_until v w x Sender claim.stream (act.Put made.message) event_reply.Ok made.place.position more at
+happened_until v w x (Claimed claim (Some brought) (Repeated made)) more at = tt
+happened_until v w x (Claimed claim (Some brought) (Stands number)) more at = tt
+happened_until v w x (Claimed claim (Some brought) Gone) more at = tt
+happened_until v w x (Claimed claim (Some brought) NotNow) more at = tt
+happened_until v w x (Claimed claim None (Fresh made)) more at = happens_until v w x Receiver claim.stream act.Get (event_reply.Got made.message) made.place.position more at
+happened_until v w x (Claimed claim None (Repeated made)) more at = tt
+happened_until v w x (Claimed claim None (Stands number)) more at = tt
+happened_until v w x (Claimed claim None Gone) more at = tt
+happened_until v w x (Claimed claim None NotNow) more at = tt
+happened_until v w x (Unclaimed stream made) more at = happens_until v w x Sender stream (act.Put made.message) event_reply.Ok made.place.position more at
+
+-- and so it did by each of two rows of turns
+both_happened : (v w x : PassState) (later earlier : List Turn) → Extends x.seen w.seen → Extends w.seen v.seen → AllByRecursion (Happened w x) later → AllByRecursion (Happened v w) earlier → AllByRecursion (Happened v x) (later ++ earlier)
+both_happened v w x [] [] after before later earlier = tt
+both_happened v w x [] (turn ∷ past) after before later earlier = (happened_until v w x turn after earlier.0, both_happened v w x [] past after before tt earlier.1)
+both_happened v w x (turn ∷ more) past after before later earlier = (happened_since v w x turn before later.0, both_happened v w x more past after before later.1 earlier)
 
 -- one turn came
 pub serves_turn : (s t : Table) (v w : PassState) (turn : Turn) → IsTurn s t v w turn → Serves s t v w
@@ -32,6 +88,8 @@ serves_turn s t v w turn is = record {
   keeps = is.keeps;
   puts = is.puts ∙ ap (λ (l : List (ℕ × List ℕ)). l ++ puts_in (mine v)) (sym (append-nil (put_by_turn turn)));
   gets = is.gets ∙ ap (λ (l : List (ℕ × List ℕ)). l ++ gets_in (mine v)) (sym (append-nil (got_by_turn turn)));
+  extends = is.extends;
+  happened = (is.happened, tt);
 }
 
 -- what more turns put stands in front, and so does what they got
@@ -54,6 +112,8 @@ serves_on s t u v w x one two = record {
   keeps = λ past keeps. subst (λ (l : List Turn). Keeps l u) (sym (append_assoc two.turns one.turns past)) (two.keeps (one.turns ++ past) (one.keeps past keeps));
   puts = in_front_of (put_by_turns two.turns) (put_by_turns one.turns) (puts_in (mine w)) (puts_in (mine v)) (puts_in (mine x)) (put_by_turns (two.turns ++ one.turns)) two.puts one.puts (puts_append two.turns one.turns);
   gets = in_front_of (got_by_turns two.turns) (got_by_turns one.turns) (gets_in (mine w)) (gets_in (mine v)) (gets_in (mine x)) (got_by_turns (two.turns ++ one.turns)) two.gets one.gets (gets_append two.turns one.turns);
+  extends = further x.seen w.seen v.seen two.extends one.extends;
+  happened = both_happened v w x two.turns one.turns two.extends one.extends two.happened one.happened;
 }
 
 -- the same, of values that are known under other names
@@ -104,20 +164,34 @@ nothing_got claim None (Stands number) none = refl
 nothing_got claim None Gone none = refl
 nothing_got claim None NotNow none = refl
 
+nothing_happened : (v w : PassState) (claim : Claim) (brings : Option (List ℕ)) (told : Answer) → fresh told ≡ None → Happened v w (Claimed claim brings told)
+nothing_happened v w claim None (Fresh made) none = cc
+nothing_happened v w claim None (Repeated made) none = tt
+nothing_happened v w claim None (Stands number) none = tt
+nothing_happened v w claim None Gone none = tt
+nothing_happened v w claim None NotNow none = tt
+nothing_happened v w claim (Some message) (Fresh made) none = cc
+nothing_happened v w claim (Some message) (Repeated made) none = tt
+nothing_happened v w claim (Some message) (Stands number) none = tt
+nothing_happened v w claim (Some message) Gone none = tt
+nothing_happened v w claim (Some message) NotNow none = tt
+
 -- the turn of a claim that made nothing
 still_turn : (s t : Table) (v w : PassState) (claim : Claim) (brings : Option (List ℕ)) (told : Answer) → HasStream s claim.stream
     → Answers (decision s.life (last_of s claim.stream) claim brings) (last_of s claim.stream) claim brings told → fresh told ≡ None → t ≡ s
-    → MovesNone v w → IsTurn s t v w (Claimed claim brings told)
-still_turn s t v w claim brings told has answers none same (puts, gets) = record {
+    → IsStill v w → IsTurn s t v w (Claimed claim brings told)
+still_turn s t v w claim brings told has answers none same ((puts, gets), more) = record {
   keeps = λ past keeps. subst (Keeps (Claimed claim brings told ∷ past)) (sym same) (still_kept s claim brings told has answers none past keeps);
   puts = puts ∙ ap (λ (l : List (ℕ × List ℕ)). l ++ puts_in (mine v)) (sym (nothing_put claim brings told none));
   gets = gets ∙ ap (λ (l : List (ℕ × List ℕ)). l ++ gets_in (mine v)) (sym (nothing_got claim brings told none));
+  extends = more;
+  happened = nothing_happened v w claim brings told none;
 }
 
 module _ (s t : Table) (v w : PassState) (claim : Claim) (message : List ℕ) where
   -- a claim to put for which nothing was put
   pub not_put : (told : Answer) (answer : DoorAnswer) → HasStream s claim.stream → Answers (decision s.life (last_of s claim.stream) claim (Some message)) (last_of s claim.stream) claim (Some message) told → fresh told ≡ None
-      → t ≡ s → MovesNone v w → SpellsPut s.life claim.stream told answer → AnswersPut s t v w claim message answer
+      → t ≡ s → IsStill v w → SpellsPut s.life claim.stream told answer → AnswersPut s t v w claim message answer
   not_put told answer has answers none same kept spelt = record {
     told = told;
     turn = still_turn s t v w claim (Some message) told has answers none same kept;
@@ -125,31 +199,35 @@ module _ (s t : Table) (v w : PassState) (claim : Claim) (message : List ℕ) wh
   }
 
   -- there was no room
-  pub full_put : (answer : DoorAnswer) → HasStream s claim.stream → decision s.life (last_of s claim.stream) claim (Some message) ≡ Next → t ≡ s → MovesNone v w
+  pub full_put : (answer : DoorAnswer) → HasStream s claim.stream → decision s.life (last_of s claim.stream) claim (Some message) ≡ Next → t ≡ s → IsStill v w
       → answer.status ≡ status_of refusal.Full → AnswersPut s t v w claim message answer
   full_put answer has next same kept status = not_put NotNow answer has (subst (λ (d : Decision). Answers d (last_of s claim.stream) claim (Some message) NotNow) (sym next) tt) refl same kept status
 
   -- another number is next
-  pub conflicting_put : (answer : DoorAnswer) → HasStream s claim.stream → decision s.life (last_of s claim.stream) claim (Some message) ≡ Conflict → t ≡ s → MovesNone v w
+  pub conflicting_put : (answer : DoorAnswer) → HasStream s claim.stream → decision s.life (last_of s claim.stream) claim (Some message) ≡ Conflict → t ≡ s → IsStill v w
       → answer.status ≡ status_of refusal.Conflict → AnswersPut s t v w claim message answer
   conflicting_put answer has conflict same kept status =
       not_put (Stands (number_of (last_of s claim.stream))) answer has (subst (λ (d : Decision). Answers d (last_of s claim.stream) claim (Some message) (Stands (number_of (last_of s claim.stream)))) (sym conflict) refl) refl same kept status
 
   -- it was put before
-  pub put_before : (made : Made) (answer : DoorAnswer) → HasStream s claim.stream → decision s.life (last_of s claim.stream) claim (Some message) ≡ Again → last_of s claim.stream ≡ Some made → t ≡ s → MovesNone v w
+  pub put_before : (made : Made) (answer : DoorAnswer) → HasStream s claim.stream → decision s.life (last_of s claim.stream) claim (Some message) ≡ Again → last_of s claim.stream ≡ Some made → t ≡ s → IsStill v w
       → (answer.status ≡ status_of_put Before) × (answer.body.items ≡ put_body s.life claim.stream made) → AnswersPut s t v w claim message answer
   put_before made answer has again last same kept told =
       not_put (Repeated made) answer has (subst (λ (d : Decision). Answers d (last_of s claim.stream) claim (Some message) (Repeated made)) (sym again) last) refl same kept told
 
   -- it was put now
-  pub put_now : (place : EventPlace) (answer : DoorAnswer) → ((past : List Turn) → Keeps past s → Keeps (Claimed claim (Some message) (Fresh (made_for claim message place)) ∷ past) t)
+  pub put_now : (place : EventPlace) (answer : DoorAnswer) → HappensAt v w Sender claim.stream (act.Put message) event_reply.Ok place.position → ((past : List Turn) → Keeps past s → Keeps (Claimed claim (Some message) (Fresh (made_for claim message place)) ∷ past) t)
       → puts_in (mine w) ≡ (claim.stream, message) ∷ puts_in (mine v) → GetsNone v w → (answer.status ≡ status_of_put Now) × (answer.body.items ≡ put_body s.life claim.stream (made_for claim message place)) → AnswersPut s t v w claim message answer
-  put_now place answer keeps puts gets told = record { told = Fresh (made_for claim message place); turn = record { keeps = keeps; puts = puts; gets = gets }; spelt = told }
+  put_now place answer at keeps puts gets told = record {
+    told = Fresh (made_for claim message place);
+    turn = record { keeps = keeps; puts = puts; gets = gets; extends = happens_extends v w Sender claim.stream (act.Put message) event_reply.Ok place.position at; happened = at };
+    spelt = told;
+  }
 
 module _ (s t : Table) (v w : PassState) (claim : Claim) where
   -- a claim to take for which nothing was got
   pub not_taken : (told : Answer) (answer : DoorAnswer) → HasStream s claim.stream → Answers (decision s.life (last_of s claim.stream) claim None) (last_of s claim.stream) claim None told → fresh told ≡ None
-      → t ≡ s → MovesNone v w → SpellsTaken told answer → AnswersTake s t v w claim answer
+      → t ≡ s → IsStill v w → SpellsTaken claim.stream told answer → AnswersTake s t v w claim answer
   not_taken told answer has answers none same kept spelt = record {
     told = told;
     turn = still_turn s t v w claim None told has answers none same kept;
@@ -157,21 +235,25 @@ module _ (s t : Table) (v w : PassState) (claim : Claim) where
   }
 
   -- another number is next
-  pub conflicting_take : (answer : DoorAnswer) → HasStream s claim.stream → decision s.life (last_of s claim.stream) claim None ≡ Conflict → t ≡ s → MovesNone v w
+  pub conflicting_take : (answer : DoorAnswer) → HasStream s claim.stream → decision s.life (last_of s claim.stream) claim None ≡ Conflict → t ≡ s → IsStill v w
       → answer.status ≡ status_of refusal.Conflict → AnswersTake s t v w claim answer
   conflicting_take answer has conflict same kept status =
       not_taken (Stands (number_of (last_of s claim.stream))) answer has (subst (λ (d : Decision). Answers d (last_of s claim.stream) claim None (Stands (number_of (last_of s claim.stream)))) (sym conflict) refl) refl same kept status
 
   -- it was taken before
-  pub taken_before : (made : Made) (answer : DoorAnswer) → HasStream s claim.stream → decision s.life (last_of s claim.stream) claim None ≡ Again → last_of s claim.stream ≡ Some made → t ≡ s → MovesNone v w
-      → (answer.status ≡ 200) × (answer.kind ≡ Bytes) × (answer.body.items ≡ made.message) → AnswersTake s t v w claim answer
+  pub taken_before : (made : Made) (answer : DoorAnswer) → HasStream s claim.stream → decision s.life (last_of s claim.stream) claim None ≡ Again → last_of s claim.stream ≡ Some made → t ≡ s → IsStill v w
+      → IsMessage claim.stream made answer → AnswersTake s t v w claim answer
   taken_before made answer has again last same kept told =
       not_taken (Repeated made) answer has (subst (λ (d : Decision). Answers d (last_of s claim.stream) claim None (Repeated made)) (sym again) last) refl same kept told
 
   -- it was taken now
-  pub taken_now : (message : List ℕ) (place : EventPlace) (answer : DoorAnswer) → ((past : List Turn) → Keeps past s → Keeps (Claimed claim None (Fresh (made_for claim message place)) ∷ past) t)
-      → puts_in (mine w) ≡ puts_in (mine v) → gets_in (mine w) ≡ (claim.stream, message) ∷ gets_in (mine v) → (answer.status ≡ 200) × (answer.kind ≡ Bytes) × (answer.body.items ≡ message) → AnswersTake s t v w claim answer
-  taken_now message place answer keeps puts gets told = record { told = Fresh (made_for claim message place); turn = record { keeps = keeps; puts = puts; gets = gets }; spelt = told }
+  pub taken_now : (message : List ℕ) (place : EventPlace) (answer : DoorAnswer) → HappensAt v w Receiver claim.stream act.Get (event_reply.Got message) place.position → ((past : List Turn) → Keeps past s → Keeps (Claimed claim None (Fresh (made_for claim message place)) ∷ past) t)
+      → puts_in (mine w) ≡ puts_in (mine v) → gets_in (mine w) ≡ (claim.stream, message) ∷ gets_in (mine v) → IsMessage claim.stream (made_for claim message place) answer → AnswersTake s t v w claim answer
+  taken_now message place answer at keeps puts gets told = record {
+    told = Fresh (made_for claim message place);
+    turn = record { keeps = keeps; puts = puts; gets = gets; extends = happens_extends v w Receiver claim.stream act.Get (event_reply.Got message) place.position at; happened = at };
+    spelt = told;
+  }
 
 -- where it is decided that a claim comes again, something was made before
 pub made_before : (life : List ℕ) (claim : Claim) (brings : Option (List ℕ)) (last : Option Made) → decision life last claim brings ≡ Again → (made : Made) × (last ≡ Some made)

@@ -2,7 +2,6 @@
 use Rattle.std.specs.Prelude.{ℕ, ◌+◌, ◌-◌, ◌^◌, ◌&&◌, ◌||◌, min, nat_lt, not, Bool, if◌then◌else◌, Option, None, Some, is_some, unwrap_or}
 use Rattle.amo_live.specs.declared.limits.Ended.{Ended}
 use Rattle.amo_live.specs.declared.limits.Ended.TheVariants.{AtRest, OnItsWay}
-use Rattle.amo_live.specs.declared.limits.Limits.{Limits}
 use Rattle.amo_serve.specs.declared.ending.Farewell.{Farewell}
 
 -- how many microseconds it waits for what is on its way, behind the first time that it was asked to end: as it was told; else a receiver waits for a second

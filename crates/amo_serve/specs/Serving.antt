@@ -1,9 +1,15 @@
 -- What a host does for those who ask at its door.
 use Rattle.std.specs.Prelude.{◌≡◌, ℕ, Some, None, List, [], ◌∷◌, ◌++◌}
+use Rattle.std.specs.List.{AllByRecursion}
+use Rattle.amo_object.specs.declared.step.End.TheVariants.{Receiver, Sender}
+use Rattle.amo_core.specs.declared.act.Act.TheVariants as act
+use Rattle.amo_core.specs.declared.reply.Reply.TheVariants as event_reply
+use Rattle.amo_world.specs.History.{Extends}
 use Rattle.amo_book.specs.Pass.{PassState, mine}
-use Rattle.amo_live.specs.Callers.{MovesNone, gets_in}
+use Rattle.amo_live.specs.Callers.{HappensAt, MovesNone, gets_in}
 use Rattle.amo_live.specs.Host.{puts_in}
 use Rattle.amo_door.specs.declared.answer.Answer.{Answer as DoorAnswer}
+use Rattle.amo_door.specs.declared.answer.Extra.TheVariants.{Message}
 use Rattle.amo_door.specs.declared.answer.Kind.TheVariants.{Bytes}
 use Rattle.amo_door.specs.declared.answer.When.TheVariants.{Now, Before}
 use Rattle.amo_door.specs.declared.claim.Claim.{Claim}
@@ -45,19 +51,34 @@ abbrev pub got_by_turns : List Turn → List (ℕ × List ℕ)
 got_by_turns [] = []
 got_by_turns (turn ∷ past) = got_by_turn turn ++ got_by_turns past
 
--- This turn came to what is kept of a life, and what the host put and got meanwhile is what the turn put and got.
+-- what a turn made, if it made something, happened between two moments of a host's pass: a put or a get of that message, which stands at the position that is told
+abbrev pub Happened : PassState → PassState → Turn → Type 0
+Happened v w (Claimed claim (Some brought) (Fresh made)) = HappensAt v w Sender claim.stream (act.Put made.message) event_reply.Ok made.place.position
+Happened v w (Claimed claim None (Fresh made)) = HappensAt v w Receiver claim.stream act.Get (event_reply.Got made.message) made.place.position
+Happened v w (Unclaimed stream made) = HappensAt v w Sender stream (act.Put made.message) event_reply.Ok made.place.position
+Happened v w _ = Unit {0}
+
+-- no message was put or got, and what was seen goes on
+abbrev pub IsStill : PassState → PassState → Type 0
+IsStill v w = MovesNone v w × Extends w.seen v.seen
+
+-- This turn came to what is kept of a life, and what the host put and got meanwhile is what the turn put and got, where it says.
 pub record IsTurn (s t : Table) (v w : PassState) (turn : Turn) : Type 0 where
   pub keeps : (past : List Turn) → Keeps past s → Keeps (turn ∷ past) t
   pub puts : puts_in (mine w) ≡ put_by_turn turn ++ puts_in (mine v)
   pub gets : gets_in (mine w) ≡ got_by_turn turn ++ gets_in (mine v)
+  pub extends : Extends w.seen v.seen
+  pub happened : Happened v w turn
 
 -- Between two moments these turns came to what is kept of a life, each right behind those before it, and the messages that the host put, and those that it
--- got, are those that the turns put and got, in their order.
+-- got, are those that the turns put and got, in their order, and where they say.
 pub record Serves (s t : Table) (v w : PassState) : Type 0 where
   pub turns : List Turn
   pub keeps : (past : List Turn) → Keeps past s → Keeps (turns ++ past) t
   pub puts : puts_in (mine w) ≡ put_by_turns turns ++ puts_in (mine v)
   pub gets : gets_in (mine w) ≡ got_by_turns turns ++ gets_in (mine v)
+  pub extends : Extends w.seen v.seen
+  pub happened : AllByRecursion (Happened v w) turns
 
 -- what the turn of a claim to put was answered is spelt so: what was made, with 201 now and 200 before; or why nothing was
 abbrev pub SpellsPut : List ℕ → ℕ → Answer → DoorAnswer → Type 0
@@ -67,13 +88,20 @@ SpellsPut life stream (Stands number) answer = answer.status ≡ status_of Confl
 SpellsPut life stream Gone answer = answer.status ≡ status_of OtherLife
 SpellsPut life stream NotNow answer = answer.status ≡ status_of Full
 
--- the same of a claim to take: the bytes of the message
-abbrev pub SpellsTaken : Answer → DoorAnswer → Type 0
-SpellsTaken (Fresh made) answer = (answer.status ≡ 200) × (answer.kind ≡ Bytes) × (answer.body.items ≡ made.message)
-SpellsTaken (Repeated made) answer = (answer.status ≡ 200) × (answer.kind ≡ Bytes) × (answer.body.items ≡ made.message)
-SpellsTaken (Stands number) answer = answer.status ≡ status_of Conflict
-SpellsTaken Gone answer = answer.status ≡ status_of OtherLife
-SpellsTaken NotNow answer = answer.status ≡ 204
+-- an answer is the message that was made: its bytes, and in front of them which it is and where its event stands
+pub record IsMessage (stream : ℕ) (made : Made) (answer : DoorAnswer) : Type 0 where
+  pub status : answer.status ≡ 200
+  pub kind : answer.kind ≡ Bytes
+  pub place : answer.extra ≡ Message stream made.number made.place
+  pub body : answer.body.items ≡ made.message
+
+-- the same of a claim to take: the message
+abbrev pub SpellsTaken : ℕ → Answer → DoorAnswer → Type 0
+SpellsTaken stream (Fresh made) answer = IsMessage stream made answer
+SpellsTaken stream (Repeated made) answer = IsMessage stream made answer
+SpellsTaken stream (Stands number) answer = answer.status ≡ status_of Conflict
+SpellsTaken stream Gone answer = answer.status ≡ status_of OtherLife
+SpellsTaken stream NotNow answer = answer.status ≡ 204
 
 -- A claim to put this message was answered so: its turn came to what is kept and to the host, and its answer spells what the turn was answered.
 pub record AnswersPut (s t : Table) (v w : PassState) (claim : Claim) (message : List ℕ) (answer : DoorAnswer) : Type 0 where
@@ -85,14 +113,14 @@ pub record AnswersPut (s t : Table) (v w : PassState) (claim : Claim) (message :
 pub record AnswersTake (s t : Table) (v w : PassState) (claim : Claim) (answer : DoorAnswer) : Type 0 where
   pub told : Answer
   pub turn : IsTurn s t v w (Claimed claim None told)
-  pub spelt : SpellsTaken told answer
+  pub spelt : SpellsTaken claim.stream told answer
 
 -- A message was put without a number, and answered with 201 and where it stands; or it was not, as there was no room for it.
 pub data AnswersUnclaimed (s t : Table) (v w : PassState) (stream : ℕ) (message : List ℕ) (answer : DoorAnswer) : Type 0 where
   IsPut : (made : Made) → IsTurn s t v w (Unclaimed stream made) → made.message ≡ message → answer.status ≡ status_of_put Now → answer.body.items ≡ put_body s.life stream made → AnswersUnclaimed s t v w stream message answer
-  IsFull : t ≡ s → MovesNone v w → answer.status ≡ status_of Full → AnswersUnclaimed s t v w stream message answer
+  IsFull : t ≡ s → IsStill v w → answer.status ≡ status_of Full → AnswersUnclaimed s t v w stream message answer
 
 -- What came of a claim to take: it was answered, or it waits, and nothing was got or kept.
 abbrev pub Takes : Table → Table → PassState → PassState → Claim → Taken → Type 0
 Takes s t v w claim (taken.Answer answer) = AnswersTake s t v w claim answer
-Takes s t v w claim (taken.NotYet back) = (back ≡ claim) × (t ≡ s) × MovesNone v w
+Takes s t v w claim (taken.NotYet back) = (back ≡ claim) × (t ≡ s) × IsStill v w

@@ -51,8 +51,6 @@ pub struct Responder<L, S, W> {
     pub(crate) identity: Identity,
     /// How many streams it has.
     pub(crate) streams: u32,
-    /// How many lines its journal had at the start of its life.
-    pub(crate) first_line: u64,
     /// How the handshakes of its life ended.
     pub(crate) handshakes: Handshakes,
     /// What happened of late.
@@ -104,7 +102,7 @@ impl<L: Link + Drop, S: Sink + Drop, W: Lineage + Drop> Responder<L, S, W> {
         identity: Identity,
         life: Word,
         streams: u32,
-        first_line: u64,
+        lines: u64,
     ) -> Result<Responder<L, S, W>, AllocError>
         ensures service { IfOk result (λ responder. responder.service ≡ service) }
         ensures side { IfOk result (λ responder. side_of responder ≡ identity.side) }
@@ -112,14 +110,13 @@ impl<L: Link + Drop, S: Sink + Drop, W: Lineage + Drop> Responder<L, S, W> {
         ensures made { IfOk result (λ responder. Keeps [] responder.numbers) }
         ensures life { IfOk result (λ responder. responder.numbers.life ≡ life) }
     {
-        let (numbers, handshakes, news) = nothing_made(alloc, life, streams, first_line)?;
+        let (numbers, handshakes, news) = nothing_made(alloc, life, streams, lines)?;
         Ok(Responder {
             service,
             numbers,
             alloc,
             identity,
             streams,
-            first_line,
             handshakes,
             news,
             heard_at: None,
@@ -134,14 +131,14 @@ fn nothing_made(
     alloc: Global,
     life: Word,
     streams: u32,
-    first_line: u64,
+    lines: u64,
 ) -> Result<(Numbers, Handshakes, News), AllocError>
     ensures made { IfOk result (λ made. Keeps [] made.0) }
     ensures life { IfOk result (λ made. made.0.life ≡ life) }
 {
     let mut news = News::new(alloc);
-    if first_line > 0 {
-        news.add(Some(first_line), &Happening::Crash)?;
+    if lines > 0 {
+        news.add(Some(lines), &Happening::Crash)?;
     }
     let numbers = Numbers::new(alloc, life, streams)?;
     let handshakes = Handshakes::new(alloc, streams)?;
@@ -150,6 +147,7 @@ fn nothing_made(
 
 impl<L: Link, S: Sink, W: Lineage> Responder<L, S, W> {
     /// What comes of this call of a client, with the message that its request brought.
+    #[tactic(auto, using(crate::proofs::Served::serves_still, crate::proofs::Served::each_serves))]
     pub fn respond(&mut self, call: Call, message: Message, now: u64) -> Result<Reply, LiveFault>
         requires { IsNoted S.written self.old.service.host }
         ensures noted { OnOk result (IsNoted S.written self.new.service.host) }

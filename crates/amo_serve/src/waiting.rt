@@ -107,6 +107,7 @@ fn push_waiter(waiters: &mut VecDeque<Waiter>, waiter: Waiter) -> Result<(), All
 
 impl<L: Link, S: Durable, W: Lineage> Responder<L, S, W> {
     /// Answers the clients whose wait is over, in the order in which they came.
+    #[tactic(auto, using(crate::proofs::Served::serves_still))]
     pub(crate) fn serve_waiters(&mut self, door: &mut Door, now: u64) -> Result<(), LiveFault>
         requires { IsNoted S.written self.old.service.host }
         ensures noted { OnOk result (IsNoted S.written self.new.service.host) }
@@ -129,6 +130,7 @@ impl<L: Link, S: Durable, W: Lineage> Responder<L, S, W> {
     }
 
     /// Answers a client whose wait is over: what it waits for is so, its time is over, or it has hung up. Else it waits on.
+    #[tactic(auto, using(crate::proofs::Served::serves_still, crate::proofs::Served::each_serves))]
     fn serve_waiter(
         &mut self,
         door: &mut Door,
@@ -184,6 +186,7 @@ impl<L: Link, S: Durable, W: Lineage> Responder<L, S, W> {
     }
 
     /// What comes of a wait now, whose client is there or not, and whose time is over or not. Who has hung up takes nothing.
+    #[tactic(auto, using(crate::proofs::Served::serves_still, crate::proofs::Served::each_serves))]
     fn look_at_wait(
         &mut self,
         presence: Presence,
@@ -217,7 +220,7 @@ impl<L: Link, S: Durable, W: Lineage> Responder<L, S, W> {
     }
 
     /// What comes now of a wait for a message.
-    #[tactic(auto, using(crate::proofs::Served::take_serves))]
+    #[tactic(auto, using(crate::proofs::Served::take_serves, crate::proofs::Served::serves_still, crate::proofs::Served::each_serves))]
     fn look_at_take(&mut self, claim: Claim, is_late: bool, now: u64) -> Result<Waited, LiveFault>
         requires { IsNoted S.written self.old.service.host }
         ensures noted { OnOk result (IsNoted S.written self.new.service.host) }
@@ -257,6 +260,7 @@ impl<L: Link, S: Durable, W: Lineage> Responder<L, S, W> {
     }
 
     /// Takes a client's next request, if there is the client and that has come whole, and does what it asks.
+    #[tactic(auto, using(crate::proofs::Served::serves_still, crate::proofs::Served::each_serves))]
     fn ask(
         &mut self,
         client: Option<&mut Client>,

@@ -118,7 +118,7 @@ impl<L: Link, S: Sink, W: Lineage> Service<L, S, W> {
     }
 
     /// Puts a message on a stream as `put` does, and shows nothing. None where it is not taken: the stream is full, and then nothing happens.
-    #[tactic(auto, using(crate::proofs::Putting::was_put, crate::proofs::Putting::was_refused, crate::proofs::Getting::put_gets, crate::proofs::Fresh::bears_none))]
+    #[tactic(auto, using(crate::proofs::Putting::put_none_still, crate::proofs::Getting::put_gets, crate::proofs::Fresh::bears_none))]
     pub fn put_for_caller(
         &mut self,
         stream: u32,
@@ -153,18 +153,18 @@ impl<L: Link, S: Sink, W: Lineage> Service<L, S, W> {
     }
 
     /// Gets the next message that has come to a stream, if one has, and shows nothing. Those that came with it are acknowledged once the
-    /// last of them was got. Answers the number of its line, too.
-    #[tactic(auto, using(crate::proofs::Getting::was_got, crate::proofs::Getting::got_none, crate::proofs::Getting::resend_gets, crate::proofs::Getting::get_puts, crate::proofs::Fresh::bears_none))]
+    /// last of them was got.
+    #[tactic(auto, using(crate::proofs::Getting::was_got, crate::proofs::Getting::got_none, crate::proofs::Getting::got_none_still, crate::proofs::Getting::got_on, crate::proofs::Getting::resend_gets, crate::proofs::Getting::resend_extends, crate::proofs::Getting::get_puts, crate::proofs::Fresh::bears_none))]
     pub fn get_for_caller(
         &mut self,
         stream: u32,
         now: u64,
-    ) -> Result<Option<(Message, u64)>, LiveFault>
+    ) -> Result<Option<(Message, EventAt)>, LiveFault>
         requires { IsNoted S.written self.old.host }
         ensures noted { OnOk result (IsNoted S.written self.new.host) }
         ensures none_put { OnOk result (PutsNone self.old.host.pass self.new.host.pass) }
         ensures got { IfOk result (Gets self.old.host.pass self.new.host.pass stream) }
-        ensures line { IfOk result (λ got. IfSome got (λ g. g.1 ≡ self.old.host.journal.next)) }
+        ensures line { IfOk result (λ got. IfSome got (λ g. g.1.line ≡ self.old.host.journal.next)) }
         ensures streams { streams_of self.new ≡ streams_of self.old }
         ensures words { OnOk result (BearsNew W.is_drawn (words_of self.old) (words_of self.new) self.old.host.pass self.new.host.pass) }
     {
@@ -175,7 +175,7 @@ impl<L: Link, S: Sink, W: Lineage> Service<L, S, W> {
             return Ok(None);
         }
         let line = self.host.next_line();
-        let Some(message) = self.host.get(stream)? else {
+        let Some((message, position)) = self.host.get(stream)? else {
             return Ok(None);
         };
         self.got = self.got.saturating_add(1);
@@ -184,6 +184,6 @@ impl<L: Link, S: Sink, W: Lineage> Service<L, S, W> {
         if held == 0 {
             self.host.resend(stream, now)?;
         }
-        Ok(Some((message, line)))
+        Ok(Some((message, EventAt { position, line })))
     }
 }

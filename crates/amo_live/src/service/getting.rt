@@ -117,7 +117,7 @@ impl<L: Link, S: Sink, W: Lineage> Service<L, S, W> {
         ensures words { OnOk result (BearsNew W.is_drawn (words_of self.old) (words_of self.new) self.old.host.pass self.new.host.pass) }
     {
         let line = self.host.next_line();
-        let Some(message) = self.host.get(stream)? else {
+        let Some((message, _)) = self.host.get(stream)? else {
             return Ok(false);
         };
         self.got = self.got.saturating_add(1);

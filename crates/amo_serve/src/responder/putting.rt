@@ -20,6 +20,7 @@ use amo_text::Sink;
 
 impl<L: Link, S: Sink, W: Lineage> Responder<L, S, W> {
     /// What comes of a claim to put this message.
+    #[tactic(auto, using(crate::proofs::Served::serves_still, crate::proofs::Served::each_serves))]
     pub(crate) fn respond_to_put(
         &mut self,
         claim: Claim,
@@ -38,6 +39,7 @@ impl<L: Link, S: Sink, W: Lineage> Responder<L, S, W> {
     }
 
     /// What comes of a message that is to be put without a number.
+    #[tactic(auto, using(crate::proofs::Served::serves_still, crate::proofs::Served::each_serves))]
     pub(crate) fn respond_to_next(
         &mut self,
         stream: u32,
@@ -180,7 +182,9 @@ impl<L: Link, S: Sink, W: Lineage> Responder<L, S, W> {
 }
 
 /// Where an event stands, as callers are told.
-fn place_of(at: EventAt) -> EventPlace {
+pub(crate) fn place_of(at: EventAt) -> EventPlace
+    ensures { result ≡ record { position = at.position; line = at.line } }
+{
     EventPlace {
         position: at.position,
         line: at.line,

@@ -4,14 +4,14 @@ ghost use Rattle.amo_live.specs.Host.{IsNoted};
 ghost use Rattle.amo_live.specs.Service.{words_of};
 ghost use Rattle.amo_live.specs.Words.{BearsNew};
 ghost use Rattle.amo_door.specs.declared.claim.Decision.TheVariants as AnyDecision;
-ghost use Rattle.amo_door.specs.declared.answer.Kind.TheVariants.{Bytes};
 ghost use Rattle.amo_door.specs.declared.refusal.Refusal.TheVariants.{Conflict};
 ghost use Rattle.amo_door.specs.Numbers.{HasStream, decision, last_of};
 ghost use Rattle.amo_door.specs.Refusal.{status_of};
-ghost use Rattle.amo_serve.specs.Serving.{IsAtOnce, Serves, Takes};
+ghost use Rattle.amo_serve.specs.Serving.{IsAtOnce, IsMessage, Serves, Takes};
 
+use crate::responder::putting::place_of;
 use crate::responder::{Reply, Responder};
-use amo_door::{Answer, Claim, Decision, EventPlace, Happening, Refusal};
+use amo_door::{Answer, Claim, Decision, Happening, Refusal};
 use amo_live::{Lineage, LiveFault};
 use amo_net::Link;
 use amo_text::Sink;
@@ -27,7 +27,7 @@ pub enum Taken {
 
 impl<L: Link, S: Sink, W: Lineage> Responder<L, S, W> {
     /// What comes of a claim to take, whose client waits for so many seconds at most. At a host that comes to its end nobody waits.
-    #[tactic(auto, using(crate::proofs::Served::take_serves))]
+    #[tactic(auto, using(crate::proofs::Served::take_serves, crate::proofs::Served::serves_still, crate::proofs::Served::each_serves))]
     pub(crate) fn respond_to_take(
         &mut self,
         claim: Claim,
@@ -86,15 +86,11 @@ impl<L: Link, S: Sink, W: Lineage> Responder<L, S, W> {
         ensures words { OnOk result (BearsNew W.is_drawn (words_of self.old.service) (words_of self.new.service) self.old.service.host.pass self.new.service.host.pass) }
     {
         let stream = claim.stream;
-        let Some((message, line)) = self.service.get_for_caller(stream, now)? else {
+        let Some((message, at)) = self.service.get_for_caller(stream, now)? else {
             return Ok(Taken::NotYet(claim));
         };
-        self.tell_news(line, &Happening::Got(stream, message.bytes()))?;
-        let place = EventPlace {
-            position: line.saturating_sub(self.first_line),
-            line,
-        };
-        self.numbers.note_take(claim, message, place);
+        self.tell_news(at.line, &Happening::Got(stream, message.bytes()))?;
+        self.numbers.note_take(claim, message, place_of(at));
         self.counts.taken = self.counts.taken.saturating_add(1);
         Ok(Taken::Answer(self.tell_taken(stream)?))
     }
@@ -103,7 +99,7 @@ impl<L: Link, S: Sink, W: Lineage> Responder<L, S, W> {
     fn tell_taken(&self, stream: u32) -> Result<Answer, LiveFault>
         requires stream { HasStream self.now.numbers stream }
         requires made { IsSome (last_of self.now.numbers stream) }
-        ensures { IfOk result (λ answer. IfSome (last_of self.now.numbers stream) (λ made. (answer.status ≡ 200) × (answer.kind ≡ Bytes) × (answer.body.items ≡ made.message))) }
+        ensures { IfOk result (λ answer. IfSome (last_of self.now.numbers stream) (λ made. IsMessage stream made answer)) }
     {
         let Some(made) = self.numbers.last(stream) else {
             unreachable!()

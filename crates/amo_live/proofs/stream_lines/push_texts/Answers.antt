@@ -1,6 +1,6 @@
-use Rattle.std.proofs.Common.{◌≡◌, ◌∙◌, ◌+◌, ◌++◌, ◌∷◌, [], ap, sym, take, rules, arith, false, true}
+use Rattle.std.proofs.Common.{◌≡◌, ◌∙◌, ◌+◌, ◌++◌, ◌∷◌, [], ap, take, rules, arith, false, true}
 use Rattle.std.proofs.lemmas.List.{take_more}
-use Rattle.amo_live.specs.Unanswered.{Kept, is_put}
+use Rattle.amo_live.specs.Unanswered.{is_put}
 use Rattle.amo_live.proofs.Keeping.{appends_later, appends_put, leaves_out}
 use Rattle.amo_live.proofs.stream_lines.push_texts.Goals as goal
 use Rattle.amo_live.proofs.stream_lines.push_texts.Goals.{then-left-gt0+then-not-is_put, else-left-gt0+in_ok-extend_from_slice, else-left-gt0-via-then-left-gt0+else-not-is_put, else-left-gt0-via-else-left-gt0}

@@ -2,7 +2,7 @@ use Rattle.std.proofs.Common.{◌≡◌, ap, refl, rules, sym}
 use Rattle.amo_live.specs.Host.{HostState}
 use Rattle.amo_live.specs.Service.{words_of}
 use Rattle.amo_live.proofs.Fresh.{bears_as, bears_none, bears_on}
-use Rattle.amo_serve.proofs.Served.{serves_as, serves_none, serves_on}
+use Rattle.amo_serve.proofs.Served.{serves_as, serves_none, serves_on, still}
 use Rattle.amo_serve.proofs.turns.serve_door.Goals as goal
 
 pub turns-init : goal.turns-init
@@ -10,7 +10,7 @@ turns-init g c =
     let first = c.args.responder.now in
     record {
       noted = search rules;
-      serves = serves_none first.numbers first.numbers first.service.host.pass first.service.host.pass refl (refl, refl);
+      serves = serves_none first.numbers first.numbers first.service.host.pass first.service.host.pass refl (still first.service.host.pass first.service.host.pass refl);
       words = bears_none (words_of first.service) (words_of first.service) first.service.host.pass first.service.host.pass refl refl;
     }
 

@@ -1,6 +1,4 @@
 use Rattle.std.proofs.Common.{◌∙◌, [], ap}
-use Rattle.amo_book.specs.Pass.{PassState}
-use Rattle.amo_live.specs.Emitted.{OutboxState}
 use Rattle.amo_live.specs.Host.{HostState}
 use Rattle.amo_live.proofs.Wholeness.{host_met, host_sent}
 use Rattle.amo_live.proofs.host.Host.send.Goals as goal

@@ -1,4 +1,4 @@
-use Rattle.std.proofs.Common.{◌∙◌, Some, ap, refl, subst}
+use Rattle.std.proofs.Common.{Some, refl, subst}
 use Rattle.amo_lives.specs.Life.{line_text}
 use Rattle.amo_lives.specs.declared.life.Life.{Life}
 use Rattle.amo_text.proofs.Written.{Appends-Keeps}

@@ -1,5 +1,5 @@
 use Rattle.std.proofs.Common.{◌≡◌, ◌∙◌, refl, sym, ap, subst}
-use Rattle.amo_live.specs.Host.{HostState, IsNoted}
+use Rattle.amo_live.specs.Host.{IsNoted}
 use Rattle.amo_live.specs.Service.{shown_by, spelling_of, streams_of, words_of}
 use Rattle.amo_live.proofs.Fresh.{bears_as}
 use Rattle.amo_live.proofs.Putting.{moves_to, start_moves}

@@ -10,13 +10,13 @@ use Rattle.amo_live.proofs.service.Service.get.Goals.{in-Some-lane, in_default-l
 
 pub returns-in_default-clause-shown : goal.returns-in_default-clause-shown
 returns-in_default-clause-shown g c =
-    let (answer, grown, got) = c.in_ok-message.ensures.got in
+    let (answer, grown, placed, got) = c.in_ok-message.ensures.got in
     let old = shown_by c.args.self.now in
     nothing_shows (spelling_of c.args.self.now) c.args.self.now.host.pass c.get.new.self.pass c.args.stream old old answer (sym c.in_default.is ∙ got) grown refl
 
 pub returns-clause-shown : goal.returns-clause-shown
 returns-clause-shown g c =
-    let (answer, grown, got) = c.in_ok-message.ensures.got in
+    let (answer, grown, placed, got) = c.in_ok-message.ensures.got in
     let spelling = spelling_of c.args.self.now in
     let first = c.args.self.now.host.pass in
     let old = shown_by c.args.self.now in
@@ -24,16 +24,16 @@ returns-clause-shown g c =
     let pass : c.match-lane.self.host.pass ≡ c.get.new.self.pass = elim c.match-lane.branch [ in-Some-lane w ↦ search rules | in_default-lane w ↦ search rules ] in
     let shown : shown_by c.match-lane.self ≡ with_line = elim c.match-lane.branch [ in-Some-lane w ↦ search rules | in_default-lane w ↦ search rules ] in
     shows_as spelling spelling first c.get.new.self.pass first c.match-lane.self.host.pass old with_line old (shown_by c.match-lane.self) refl refl pass refl shown
-    (get_shows spelling first c.get.new.self.pass c.args.stream old with_line answer c.next_line-line.result c.in-Some.message (sym c.in-Some.is ∙ got) grown (ap (λ (l : List ℕ). let t : Told = record { text = l; owed = old.owed } in t) c.in_ok-push_message.ensures))
+    (get_shows spelling first c.get.new.self.pass c.args.stream old with_line answer c.next_line-line.result c.in-Some.message _ (sym c.in-Some.is ∙ got) grown (ap (λ (l : List ℕ). let t : Told = record { text = l; owed = old.owed } in t) c.in_ok-push_message.ensures))
 
 pub returns-in_default-clause-words : goal.returns-in_default-clause-words
 returns-in_default-clause-words g c =
-    let (answer, grown, got) = c.in_ok-message.ensures.got in let old = words_of c.args.self.now in
+    let (answer, grown, placed, got) = c.in_ok-message.ensures.got in let old = words_of c.args.self.now in
     bears_none old old c.args.self.now.host.pass c.get.new.self.pass refl (call_bears c.args.self.now.host.pass c.get.new.self.pass Receiver c.args.stream act.Get answer refl grown)
 
 pub returns-clause-words : goal.returns-clause-words
 returns-clause-words g c =
-    let (answer, grown, got) = c.in_ok-message.ensures.got in
+    let (answer, grown, placed, got) = c.in_ok-message.ensures.got in
     let old = words_of c.args.self.now in
     let first = c.args.self.now.host.pass in
     let pass : c.match-lane.self.host.pass ≡ c.get.new.self.pass = elim c.match-lane.branch [ in-Some-lane w ↦ search rules | in_default-lane w ↦ search rules ] in

@@ -1,4 +1,4 @@
-use Rattle.std.proofs.Common.{◌≡◌, ◌∙◌, sym, ap, drop, arith}
+use Rattle.std.proofs.Common.{◌∙◌, sym, ap, drop, arith}
 use Rattle.amo_live.specs.Unanswered.{left_by}
 use Rattle.amo_live.proofs.Keeping.{only_puts, same_puts}
 use Rattle.amo_live.proofs.stream_lines.StreamLines.end.Goals as goal

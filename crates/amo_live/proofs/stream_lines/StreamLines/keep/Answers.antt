@@ -1,4 +1,4 @@
-use Rattle.std.proofs.Common.{◌≡◌, ◌≤◌, ◌∙◌, ◌+◌, ◌++◌, ◌∷◌, [], ap, sym, rules, arith, if◌then◌else◌, length}
+use Rattle.std.proofs.Common.{◌≡◌, ◌≤◌, ◌∙◌, ◌+◌, ◌++◌, ◌∷◌, [], ap, rules, arith, if◌then◌else◌, length}
 use Rattle.amo_live.specs.Unanswered.{Kept, is_put, kept_of, others}
 use Rattle.amo_live.proofs.Keeping.{one_kept, others_few, others_more}
 use Rattle.amo_live.proofs.stream_lines.StreamLines.keep.Goals as goal

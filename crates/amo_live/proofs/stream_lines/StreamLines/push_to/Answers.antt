@@ -1,4 +1,4 @@
-use Rattle.std.proofs.Common.{◌≡◌, ◌∙◌, ◌++◌, ap, sym, rules}
+use Rattle.std.proofs.Common.{◌≡◌, ◌∙◌, ◌++◌, ap, rules}
 use Rattle.amo_live.specs.Unanswered.{text_on}
 use Rattle.amo_live.proofs.Keeping.{both_parts}
 use Rattle.amo_live.proofs.stream_lines.StreamLines.push_to.Goals as goal

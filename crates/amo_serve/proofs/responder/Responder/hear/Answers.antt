@@ -1,8 +1,8 @@
 use Rattle.std.proofs.Common.{◌≡◌, ◌∙◌, refl, rules}
-use Rattle.amo_serve.proofs.Served.{serves_none}
+use Rattle.amo_world.proofs.Extensions.{further}
+use Rattle.amo_serve.proofs.Served.{serves_none, still_to}
 use Rattle.amo_live.specs.Service.{words_of}
 use Rattle.amo_live.proofs.Fresh.{bears_on}
-use Rattle.amo_live.proofs.Putting.{moves_to}
 use Rattle.amo_serve.proofs.responder.Responder.hear.Goals as goal
 
 pub returns-clause-words : goal.returns-clause-words
@@ -17,4 +17,7 @@ returns-clause-serves g c =
     let numbers : heard.numbers ≡ first.numbers = search rules in
     let pass : heard.service.host.pass ≡ c.resend.new.self.host.pass = search rules in
     serves_none first.numbers heard.numbers first.service.host.pass heard.service.host.pass numbers
-    (moves_to first.service.host.pass c.resend.new.self.host.pass heard.service.host.pass pass (c.in_ok-resend.ensures.none_put ∙ c.in_ok-hear.ensures.none_put, c.in_ok-resend.ensures.none_got ∙ c.in_ok-hear.ensures.none_got refl))
+    (still_to first.service.host.pass c.resend.new.self.host.pass heard.service.host.pass pass (
+      (c.in_ok-resend.ensures.none_put ∙ c.in_ok-hear.ensures.none_put, c.in_ok-resend.ensures.none_got ∙ c.in_ok-hear.ensures.none_got refl),
+      further c.resend.new.self.host.pass.seen c.hear.new.self.host.pass.seen first.service.host.pass.seen c.in_ok-resend.ensures.shown.extends c.in_ok-hear.ensures.shown.extends,
+    ))

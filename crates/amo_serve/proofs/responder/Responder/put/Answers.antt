@@ -5,8 +5,7 @@ use Rattle.amo_door.specs.declared.claim.Decision.TheVariants as decided
 use Rattle.amo_door.specs.declared.claim.Made.{Made}
 use Rattle.amo_door.specs.Answer.{put_body, status_of_put}
 use Rattle.amo_door.specs.Numbers.{decision, last_of}
-use Rattle.amo_live.proofs.Putting.{still}
-use Rattle.amo_serve.proofs.Served.{conflicting_put, made_before, put_before, said_of}
+use Rattle.amo_serve.proofs.Served.{conflicting_put, made_before, put_before, said_of, still}
 use Rattle.amo_serve.proofs.responder.Responder.put.Goals as goal
 
 pub returns-in-Again-clause-answered : goal.returns-in-Again-clause-answered

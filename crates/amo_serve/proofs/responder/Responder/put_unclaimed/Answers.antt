@@ -1,8 +1,12 @@
 use Rattle.std.proofs.Common.{◌≡◌, ℕ, List, ◌∷◌, Some, ap, refl, sym, ◌∙◌, rules}
 use Rattle.std.proofs.lemmas.Result.{IfOk-weaker}
+use Rattle.amo_object.specs.declared.step.End.TheVariants.{Sender}
+use Rattle.amo_core.specs.declared.act.Act.TheVariants as act
+use Rattle.amo_core.specs.declared.reply.Reply.TheVariants as event_reply
 use Rattle.amo_book.specs.Pass.{PassState, mine}
-use Rattle.amo_live.specs.Callers.{gets_in}
+use Rattle.amo_live.specs.Callers.{HappensAt, gets_in}
 use Rattle.amo_live.specs.Host.{puts_in}
+use Rattle.amo_live.proofs.Getting.{happens_extends}
 use Rattle.amo_door.specs.declared.answer.When.TheVariants.{Now}
 use Rattle.amo_door.specs.declared.claim.Made.{Made}
 use Rattle.amo_door.specs.Answer.{put_body, status_of_put}
@@ -21,12 +25,14 @@ returns-clause-answered g c =
     let pass : w ≡ c.put_on.new.self.service.host.pass = search rules in
     let copied : c.in_ok-copy.copy ≡ c.args.message = search rules in
     let one = rw c.in-Some.is at c.in_ok-at.ensures.put in
-    let put : puts_in (mine w) ≡ (c.args.stream, c.args.message) ∷ puts_in (mine v) = ap (λ (p : PassState). puts_in (mine p)) pass ∙ (one ∙ ap (λ (m : List ℕ). (c.args.stream, m) ∷ puts_in (mine v)) copied) in
+    let put : puts_in (mine w) ≡ (c.args.stream, c.args.message) ∷ puts_in (mine v) = ap (λ (p : PassState). puts_in (mine p)) pass ∙ (one.0 ∙ ap (λ (m : List ℕ). (c.args.stream, m) ∷ puts_in (mine v)) copied) in
     let gets : gets_in (mine w) ≡ gets_in (mine v) = ap (λ (p : PassState). gets_in (mine p)) pass ∙ c.in_ok-at.ensures.none_got in
     let start : c.tell_news.new.self.numbers ≡ s = search rules in
+    let place : c.place_of.result.position ≡ c.in-Some.at.position = search rules in
+    let at : HappensAt v w Sender c.args.stream (act.Put c.args.message) event_reply.Ok c.place_of.result.position = rw (place, pass, sym copied) one.1 in
     let last : last_of c.note_unclaimed.new.self c.args.stream ≡ Some made = search rules in
     let life : c.note_unclaimed.new.self.life ≡ s.life = search rules in
     IfOk-weaker c.tell_put.result _ _
     (λ answer told.
     let said = said_of (λ (m : Made). (answer.status ≡ status_of_put Now) × (answer.body.items ≡ put_body c.note_unclaimed.new.self.life c.args.stream m)) (last_of c.note_unclaimed.new.self c.args.stream) made last told in
-    IsPut made (record { keeps = λ past keeps. rw same (c.note_unclaimed.ensures.turns past (rw start keeps)); puts = put; gets = gets }) refl said.0 (rw (sym life) said.1)) c.tell_put.ensures.told
+    IsPut made (record { keeps = λ past keeps. rw same (c.note_unclaimed.ensures.turns past (rw start keeps)); puts = put; gets = gets; extends = happens_extends v w Sender c.args.stream (act.Put c.args.message) event_reply.Ok c.place_of.result.position at; happened = at }) refl said.0 (rw (sym life) said.1)) c.tell_put.ensures.told

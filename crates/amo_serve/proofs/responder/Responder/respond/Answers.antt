@@ -4,7 +4,7 @@ use Rattle.amo_live.specs.Service.{words_of}
 use Rattle.amo_live.proofs.Fresh.{bears_none}
 use Rattle.amo_door.specs.declared.call.Call.{Call}
 use Rattle.amo_serve.specs.States.{TellsCall}
-use Rattle.amo_serve.proofs.Served.{serves_none}
+use Rattle.amo_serve.proofs.Served.{each_serves}
 use Rattle.amo_serve.proofs.responder.Responder.respond.Goals as goal
 
 -- what holds whatever the result is
@@ -16,7 +16,7 @@ each_way (Err fault) p = tt
 pub returns-in-Outcome-clause-serves : goal.returns-in-Outcome-clause-serves
 returns-in-Outcome-clause-serves g c =
     let before = c.args.self.now in
-    each_way c.respond_to_outcome.result (serves_none before.numbers before.numbers before.service.host.pass before.service.host.pass refl (refl, refl))
+    each_serves c.respond_to_outcome.result before.numbers before.service.host.pass
 
 pub returns-in-Outcome-clause-words : goal.returns-in-Outcome-clause-words
 returns-in-Outcome-clause-words g c =

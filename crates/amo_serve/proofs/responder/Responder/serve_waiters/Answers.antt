@@ -1,7 +1,7 @@
 use Rattle.std.proofs.Common.{refl, rules}
 use Rattle.amo_live.specs.Service.{words_of}
 use Rattle.amo_live.proofs.Fresh.{bears_none, bears_on}
-use Rattle.amo_serve.proofs.Served.{serves_none, serves_on}
+use Rattle.amo_serve.proofs.Served.{serves_none, serves_on, still}
 use Rattle.amo_serve.proofs.responder.Responder.serve_waiters.Goals as goal
 
 pub waiters-init : goal.waiters-init
@@ -9,7 +9,7 @@ waiters-init g c =
     let first = c.args.self.now in
     record {
       noted = search rules;
-      serves = serves_none first.numbers first.numbers first.service.host.pass first.service.host.pass refl (refl, refl);
+      serves = serves_none first.numbers first.numbers first.service.host.pass first.service.host.pass refl (still first.service.host.pass first.service.host.pass refl);
       words = bears_none (words_of first.service) (words_of first.service) first.service.host.pass first.service.host.pass refl refl;
     }
 
