@@ -49,7 +49,7 @@ abbrev pub InFollowed : Followed → List Event → Type 0
 InFollowed site past = (site.world ≡ past) × IsSound past × HaveFollowed site.followers past
 
 -- lists that merge are their own greatest beginnings
-all_begin : (x y merged : List Event) → IsPreferred x y merged → AreBeginnings x y x y merged
+pub all_begin : (x y merged : List Event) → IsPreferred x y merged → AreBeginnings x y x y merged
 all_begin x y merged preferred = record {
   behind_first = [];
   behind_second = [];
@@ -101,13 +101,13 @@ module _ {S : Type 0} (HasTaken : S → List Event → Type 0) (first second : L
 
 -- where a merge ends early, or is stuck, all of both do not merge
 pub not_all_merge : {S : Type 0} → (HasTaken : S → List Event → Type 0) (MayEnd : Type 0) (first second : Lines) (it : Ending S) → Ends HasTaken MayEnd (Journal first) (Journal second) it
-    → ((site : S) × (reach : Reach) × (it ≡ ending.Early site reach)) ⊎ (it ≡ ending.Stuck) → OfBoth first second CannotMerge
+    → ((site : S) × (reach : Reach) × (it ≡ ending.Early site reach)) ⊎ ((at : ℕ) × (other : ℕ) × (it ≡ ending.Stuck at other)) → OfBoth first second CannotMerge
 not_all_merge HasTaken MayEnd first second it ends (inl (site, reach, is)) =
     let (x, y, p, q, it) = subst (Ends HasTaken MayEnd (Journal first) (Journal second)) is ends in
     (x, y, p, q, it.cannot)
-not_all_merge HasTaken MayEnd first second it ends (inr is) =
+not_all_merge HasTaken MayEnd first second it ends (inr (at, other, is)) =
     let (x, y, p, q, it) = subst (Ends HasTaken MayEnd (Journal first) (Journal second)) is ends in
-    (x, y, p, q, it.0)
+    (x, y, p, q, it.0.0)
 
 -- what is not merged
 no_yes : (lines : Lines) (v : Verdict) → TellNone lines v → v ≢ verdict.Yes

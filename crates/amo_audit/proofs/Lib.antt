@@ -14,6 +14,7 @@ pub mod Entries
 pub mod Stopped
 pub mod Named
 pub mod Beginnings
+pub mod LeftOut
 pub mod Lone
 pub mod Senders
 pub mod Exchanged

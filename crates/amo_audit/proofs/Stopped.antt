@@ -13,7 +13,7 @@ use Rattle.amo_audit.specs.Merging.{Begins, Ends, OfSources, stopped_at}
 use Rattle.amo_audit.specs.Reach.{AreBeginnings, Reaches, StaysStuck}
 use Rattle.amo_audit.proofs.Greedy.{apart_from, goes_on, honest_events}
 use Rattle.amo_audit.proofs.Steps.{Reached}
-use Rattle.amo_audit.proofs.Together.{Going, is_none, next_may_go, none_left, none_next, stuck}
+use Rattle.amo_audit.proofs.Together.{Going, apart_of, is_none, next_may_go, none_left, none_next, stuck}
 
 -- whether a next event may go depends on it alone
 front_goes : (past es more : List Event) → (es ≡ [] → ⊥) → MayGo past (es ++ more) → MayGo past es
@@ -111,6 +111,19 @@ module _ {S : Type 0} (HasTaken : S → List Event → Type 0) (MayEnd : Type 0)
   right_there : (right ≡ None → ⊥) → drop going.j going.y ≡ [] → ⊥
   right_there some is = some (none_next (drop going.j going.y) right right_rest going.right_is is)
 
+  -- the line of the next event of each
+  first_left_out : (i : ℕ) → (left ≡ None → ⊥) → i ≡ going.i → (i + 1 ≡ length (take going.i going.x) + 1) × (length (take going.i going.x) < length going.x)
+  first_left_out i some e =
+      let small = some_left going.x going.i (left_there some) in
+      let long = taken_long going.x going.i small in
+      (omega (arith, e, long), omega (arith, small, long))
+
+  second_left_out : (j : ℕ) → (right ≡ None → ⊥) → j ≡ going.j → (j + 1 ≡ length (take going.j going.y) + 1) × (length (take going.j going.y) < length going.y)
+  second_left_out j some f =
+      let small = some_left going.y going.j (right_there some) in
+      let long = taken_long going.y going.j small in
+      (omega (arith, f, long), omega (arith, small, long))
+
   -- how the merge ends
   pub ends : (has has' : Bool) (i j : ℕ) → has ≡ is_some left → has' ≡ is_some right → (left ≡ None → right ≡ None → ⊥) → i ≡ going.i → j ≡ going.j
       → Ends HasTaken MayEnd first second (stopped_at site has has' i j)
@@ -120,24 +133,31 @@ module _ {S : Type 0} (HasTaken : S → List Event → Type 0) (MayEnd : Type 0)
     going.x_is,
     going.y_is,
     (
-      stuck first second past left left_rest right right_rest going some not not',
-      stays_stuck going.x going.y going.i going.j past going.reached (left_there (some_next left true p refl)) (right_there (some_next right true q refl)) left_waits right_waits,
+      (
+        stuck first second past left left_rest right right_rest going some not not',
+        stays_stuck going.x going.y going.i going.j past going.reached (left_there (some_next left true p refl)) (right_there (some_next right true q refl)) left_waits right_waits,
+      ),
+      record {
+        apart = apart_of going.x going.y going.i going.j past going.reached;
+        first = take going.i going.x;
+        second = take going.j going.y;
+        merged = reverse past;
+        beginnings = are_beginnings going.x going.y going.i going.j past going.reached left_waits right_waits;
+        first_stops = first_left_out i (some_next left true p refl) e;
+        second_stops = second_left_out j (some_next right true q refl) f;
+      },
     ),
   )
   ends true false i j p q some e f =
-      let small = some_left going.x going.i (left_there (some_next left true p refl)) in
-      let long = taken_long going.x going.i small in
       begins (how_far.First (i + 1)) some (
         all_of going.y going.j (none_there (drop going.j going.y) right right_rest going.right_is (is_none right false q refl)),
-        omega (arith, e, long),
-        omega (arith, small, long),
+        (first_left_out i (some_next left true p refl) e).0,
+        (first_left_out i (some_next left true p refl) e).1,
       )
   ends false has' i j p q some e f =
       let none = is_none left false p refl in
-      let small = some_left going.y going.j (right_there (some none)) in
-      let long = taken_long going.y going.j small in
       begins (how_far.Second (j + 1)) some (
         all_of going.x going.i (none_there (drop going.i going.x) left left_rest going.left_is none),
-        omega (arith, f, long),
-        omega (arith, small, long),
+        (second_left_out j (some none) f).0,
+        (second_left_out j (some none) f).1,
       )

@@ -10,6 +10,7 @@ pub mod MergeFault
 pub mod Judgement
 pub mod Merging
 pub mod Reach
+pub mod Stops
 pub mod Report
 pub mod Explanation
 pub mod Outcomes

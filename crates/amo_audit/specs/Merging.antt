@@ -15,6 +15,7 @@ use Rattle.amo_audit.specs.Merge.{IsPreferred}
 use Rattle.amo_audit.specs.declared.reach.Reach.{Reach}
 use Rattle.amo_audit.specs.declared.reach.Reach.TheVariants as how_far
 use Rattle.amo_audit.specs.Reach.{AreBeginnings, Reaches, StaysStuck}
+use Rattle.amo_audit.specs.Stops.{StopAt, both_at}
 
 -- this holds of the events of both
 abbrev pub OfSources : Source → Source → (List Event → List Event → Type 0) → Type 0
@@ -24,9 +25,13 @@ OfSources first second Holds = (x : List Event) × (y : List Event) × IsWhole f
 abbrev pub NeverMerge : List Event → List Event → Type 0
 NeverMerge x y = CannotMerge x y × StaysStuck x y
 
+-- the same of lists of which both stop, at these lines, counted from 1
+abbrev pub StopForGood : ℕ → ℕ → List Event → List Event → Type 0
+StopForGood first second x y = NeverMerge x y × StopAt (both_at first second) x y
+
 -- how a merge ends where neither next event may go, behind so many of each, if there is a next one of each
 abbrev pub stopped_at : {S : Type 0} → S → Bool → Bool → ℕ → ℕ → Ending S
-stopped_at site true true first second = ending.Stuck
+stopped_at site true true first second = ending.Stuck (first + 1) (second + 1)
 stopped_at site true false first second = ending.Early site (how_far.First (first + 1))
 stopped_at site false _ first second = ending.Early site (how_far.Second (second + 1))
 
@@ -66,5 +71,5 @@ module _ {S : Type 0} (HasTaken : S → List Event → Type 0) where
   abbrev pub Ends : Type 0 → Source → Source → Ending S → Type 0
   Ends MayEnd first second (ending.Whole site) = OfSources first second (Merges site)
   Ends MayEnd first second (ending.Early site reach) = OfSources first second (Begins site reach)
-  Ends MayEnd first second ending.Stuck = OfSources first second NeverMerge
+  Ends MayEnd first second (ending.Stuck at other) = OfSources first second (StopForGood at other)
   Ends MayEnd first second ending.GivenUp = MayEnd

@@ -121,7 +121,7 @@ fn merged_of(
     let site = Hosted::new(alloc, Vec::new(alloc))?;
     match merge_into(alloc, Source::Journal(first), Source::Journal(second), site)? {
         Ending::Whole(site) => Ok(Some(site.into_taker())),
-        Ending::Early(..) | Ending::Stuck => Ok(None),
+        Ending::Early(..) | Ending::Stuck(..) => Ok(None),
         Ending::GivenUp => unreachable!(),
     }
 }

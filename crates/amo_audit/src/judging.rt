@@ -83,7 +83,7 @@ fn judge_merged(alloc: Global, first: Lines<'_>, second: Lines<'_>) -> Result<Ju
         world,
     )? {
         Ending::Whole(_) => Ok(Judgement::Whole(Verdict::Yes)),
-        Ending::Early(..) | Ending::Stuck => Ok(Judgement::Stuck),
+        Ending::Early(..) | Ending::Stuck(..) => Ok(Judgement::Stuck),
         Ending::GivenUp => judge_at_fault(alloc, first, second),
     }
 }
@@ -96,7 +96,7 @@ fn judge_at_fault(alloc: Global, first: Lines<'_>, second: Lines<'_>) -> Result<
     let site = Hosted::new(alloc, Auditor::new(alloc)?)?;
     match merge_into(alloc, Source::Journal(first), Source::Journal(second), site)? {
         Ending::Whole(site) => Ok(Judgement::Whole(site.into_taker().verdict())),
-        Ending::Early(..) | Ending::Stuck => Ok(Judgement::Stuck),
+        Ending::Early(..) | Ending::Stuck(..) => Ok(Judgement::Stuck),
         Ending::GivenUp => unreachable!(),
     }
 }

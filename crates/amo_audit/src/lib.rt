@@ -11,7 +11,7 @@
 //!   other bytes it answers the verdict, which [`tell`] writes. [`explain_both`] does so of two journals. What may still be got is not lost
 //!   there, wherever some run keeps all of it.
 //! - [`outcomes_of`] tells what became of each put of two journals that are judged yes; of others it answers what is found, as
-//!   [`tell_judgement`] writes it.
+//!   [`tell_judgement`] writes it. [`stops_of`] tells at which lines two journals stop, as far as they merge.
 //! - [`audit_alone`] judges the events of one host, without the other's: whether each reply is right and no word is used twice. [`whose_are`] tells
 //!   whose events a journal has. [`sender_events`] reads a sender's journal alone, and judges it so; of another it answers [`SenderFound`].
 //! - [`merge`] makes one list of the events of two hosts, in the preferred interleaving: at each place the first list's next
@@ -60,6 +60,7 @@ mod sender_found;
 mod side;
 mod sides;
 mod site;
+mod stops;
 mod text_audit;
 mod verdict;
 mod whose;
@@ -79,5 +80,6 @@ pub use reach::Reach;
 pub use reporting::{report, tell, tell_judgement};
 pub use sender::sender_events;
 pub use sender_found::SenderFound;
+pub use stops::{Stops, stops_of};
 pub use verdict::Verdict;
 pub use whose::{Whose, whose_are};

@@ -33,7 +33,7 @@ pub fn merge(alloc: Global, first: &[Event], second: &[Event]) -> Result<Vec<Eve
     let site = Hosted::new(alloc, Vec::new(alloc))?;
     match merge_into(alloc, Source::Events(first), Source::Events(second), site)? {
         Ending::Whole(site) => Ok(site.into_taker()),
-        Ending::Early(..) | Ending::Stuck => Err(MergeFault::Stuck),
+        Ending::Early(..) | Ending::Stuck(..) => Err(MergeFault::Stuck),
         Ending::GivenUp => unreachable!(),
     }
 }
@@ -45,8 +45,8 @@ pub(crate) enum Ending<S> {
     Whole(S),
     /// As many as this were taken. One source has no more, and the next of the other delivers a packet that was not emitted so far.
     Early(S, Reach),
-    /// The next of each delivers a packet that was not emitted so far: no interleaving is honest, whatever follows.
-    Stuck,
+    /// The next of each, which has this place in it, counted from 1, delivers a packet that was not emitted so far: no interleaving is honest, whatever follows.
+    Stuck(usize, usize),
     /// The site was given up.
     GivenUp,
 }
@@ -101,7 +101,7 @@ fn stopped<S: Drop>(site: S, has_next: (bool, bool), first: usize, second: usize
     ensures { result ≡ stopped_at site has_next.0 has_next.1 first second }
 {
     match has_next {
-        (true, true) => Ending::Stuck,
+        (true, true) => Ending::Stuck(first + 1, second + 1),
         (true, false) => Ending::Early(site, Reach::First(first + 1)),
         (false, _) => Ending::Early(site, Reach::Second(second + 1)),
     }

@@ -90,7 +90,7 @@ fn outcomes_of_merged(
     match merge_into(alloc, Source::Journal(first), Source::Journal(second), site)? {
         Ending::Whole(site) => Ok(Ok(site.outcomes(alloc, Reach::Whole)?)),
         Ending::Early(site, reach) => Ok(Ok(site.outcomes(alloc, reach)?)),
-        Ending::Stuck => Ok(Err(Judgement::Stuck)),
+        Ending::Stuck(..) => Ok(Err(Judgement::Stuck)),
         Ending::GivenUp => outcomes_at_fault(alloc, first, second),
     }
 }
@@ -113,7 +113,7 @@ fn outcomes_at_fault(
     match merge_into(alloc, Source::Journal(first), Source::Journal(second), site)? {
         Ending::Whole(site) => site.into_taker().outcomes(alloc, Reach::Whole),
         Ending::Early(site, reach) => site.into_taker().outcomes(alloc, reach),
-        Ending::Stuck => Ok(Err(Judgement::Stuck)),
+        Ending::Stuck(..) => Ok(Err(Judgement::Stuck)),
         Ending::GivenUp => unreachable!(),
     }
 }

@@ -11,7 +11,7 @@ use crate::pieces::Journal;
 use crate::watched::Watched;
 use amo_audit::{
     Judgement, PiecesAudit, Reach, Verdict, Whose, audit, audit_alone, explain, explain_both,
-    merge, outcomes_of, report, tell, tell_judgement, whose_are,
+    merge, outcomes_of, report, stops_of, tell, tell_judgement, whose_are,
 };
 use amo_journal::{JournalFault, read_journal};
 use amo_text::Out;
@@ -132,8 +132,8 @@ fn tell_place<R: AllocGlobal + Eprint>(rt: &R, first: &Journal, second: Option<&
     }
 }
 
-/// Tells where two journals are at fault: the line at which one is no journal, or goes on with what the other one has not sent; or that of the event which is
-/// at fault in both together.
+/// Tells where two journals are at fault: the line at which one is no journal, or goes on with what the other one has not sent, as both may; or that of the event
+/// which is at fault in both together.
 fn tell_place_in_two<R: AllocGlobal + Eprint>(rt: &R, first: &Journal, second: &Journal) {
     match outcomes_of(rt.alloc(), first.text(), second.text()) {
         Ok(told) => match told.reach {
@@ -156,7 +156,23 @@ fn tell_place_judged<R: AllocGlobal + Eprint>(
         Judgement::First(verdict) => first.tell_place(rt, line_of(verdict)),
         Judgement::Second(verdict) => second.tell_place(rt, line_of(verdict)),
         Judgement::Whole(verdict) => tell_place_merged(rt, line_of(verdict), first, second),
-        Judgement::Shared | Judgement::Stuck => {}
+        Judgement::Stuck => tell_stops(rt, first, second),
+        Judgement::Shared => {}
+    }
+}
+
+/// Tells where two journals stop that are stuck: of each the first whole line that delivers what the other one has not sent so far.
+pub(crate) fn tell_stops<R: AllocGlobal + Eprint>(rt: &R, first: &Journal, second: &Journal) {
+    if let Ok(stops) = stops_of(rt.alloc(), first.lines(), second.lines()) {
+        tell_stop(rt, first, stops.first);
+        tell_stop(rt, second, stops.second);
+    }
+}
+
+/// Tells where a journal stops, if it does.
+fn tell_stop<R: Eprint>(rt: &R, journal: &Journal, line: Option<usize>) {
+    if let Some(line) = line {
+        journal.tell_place(rt, line);
     }
 }
 

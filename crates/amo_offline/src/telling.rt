@@ -3,7 +3,7 @@ ghost use Rattle.std.specs.Prelude.{◌≡◌, ◌<◌};
 
 use crate::doubts::{Doubts, EVERY_LINE};
 use crate::fault::OfflineFault;
-use crate::judging::{line_of, tell_found};
+use crate::judging::{line_of, tell_found, tell_stops};
 use crate::pieces::Journal;
 use crate::watched::Watched;
 use amo_audit::{Judgement, Reach, SenderFound, Verdict, audit};
@@ -159,6 +159,7 @@ fn tell_outcomes_by_both<R: AllocGlobal + Eprint + Print, E: Write + Drop>(
             match judgement {
                 Judgement::First(verdict) => tell_piece(rt, first.journal, line_of(verdict)),
                 Judgement::Second(verdict) => tell_piece(rt, second.journal, line_of(verdict)),
+                Judgement::Stuck => tell_stops(rt, first.journal, second.journal),
                 _ => {}
             }
             Ok(status)
