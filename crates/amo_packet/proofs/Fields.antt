@@ -1,15 +1,20 @@
 -- What a kind's fields say: the numbers read from them are those that they spell.
-use Rattle.std.proofs.Common.{◌≡◌, ◌<◌, ◌≤◌, ◌^◌, ◌%◌, ℕ, suc, Bool, List, [], ◌∷◌, ◌++◌, length, get_or, drop, None, subst, sym, ap, ◌∙◌, arith}
+use Rattle.std.proofs.Common.{◌≡◌, ◌<◌, ◌≤◌, ◌^◌, ◌%◌, ℕ, suc, Bool, List, [], ◌∷◌, ◌++◌, length, get_or, drop, Result, Ok, Err, None, refl, subst, sym, ap, ◌∙◌, arith}
 use Rattle.std.specs.List.{AllByRecursion}
 use Rattle.std.proofs.lemmas.List.{drop-drop, length-drop, drop_all, drop_more}
 use Rattle.byteorder.specs.Endian.{big_bytes, big_number}
+use Rattle.byteorder.specs.Numbers.{big_from-lt}
+use Rattle.amo_packet.specs.declared.fault.ReadFault.{ReadFault}
+use Rattle.amo_packet.specs.declared.packet.Body.{Body}
 use Rattle.amo_packet.specs.declared.packet.OwnedBody.{OwnedBody}
 use Rattle.amo_packet.specs.declared.packet.OwnedBody.TheVariants.{NeedUid, Accept, Send, Ack, Cleanup, Batch}
+use Rattle.amo_packet.specs.Packet.{body_of}
 use Rattle.amo_packet.specs.Batch.{messages, batch_from}
 use Rattle.amo_packet.specs.Lent.{split}
-use Rattle.amo_packet.specs.Fault.{first_of, message_faults}
+use Rattle.amo_packet.specs.Fault.{first_of, message_faults, first_fault}
 use Rattle.amo_packet.specs.Grammar.{header, flag, version_of, kind_of, parts, fields_of, spelling, CanBeWritten, FitsFields, Spells}
 use Rattle.amo_packet.specs.Message.{IsShort}
+use Rattle.amo_packet.specs.Reading.{IsReading, IsReadingUpTo}
 use Rattle.amo_packet.proofs.Batches.{messages-batch_from}
 use Rattle.amo_packet.proofs.MessageFaults.{length-split, split_spells}
 use Rattle.amo_packet.proofs.Numbers.{AreBytes, AreBytes-drop, big_bytes-of_8, big_bytes-of_4, big_bytes-of_2, big_bytes-all_8}
@@ -23,6 +28,30 @@ Spells-fields newest stream b fields v s f short e = record {
   fits = record { stream = s; identifiers = f; messages = short };
   exact = ap (λ (xs : List ℕ). header (version_of b) (kind_of b) stream ++ xs) e;
 }
+
+-- what is as long as a header is two numbers of four bytes, and fields
+pub header_read : (bytes : List ℕ) → 8 ≤ length bytes → AreBytes bytes → bytes ≡ big_bytes 4 (big_number 4 bytes) ++ big_bytes 4 (big_number 4 (drop 4 bytes)) ++ drop 8 bytes
+header_read bytes long fits =
+    let front = big_bytes-of_4 bytes (big_number 4 bytes) (omega arith) fits refl in
+    let back = big_bytes-of_4 (drop 4 bytes) (big_number 4 (drop 4 bytes)) (omega (arith, length-drop 4 bytes)) (AreBytes-drop 4 bytes fits) refl in
+    front ∙ ap (λ (xs : List ℕ). big_bytes 4 (big_number 4 bytes) ++ xs) (back ∙ ap (λ (xs : List ℕ). big_bytes 4 (big_number 4 (drop 4 bytes)) ++ xs) (drop-drop 4 4 bytes))
+
+read_whole : (newest version kind stream : ℕ) (bytes fields : List ℕ) (r : Result Body ReadFault) → 1 ≤ version → version ≤ newest → stream < 2 ^ 32
+    → stream ≡ big_number 4 (drop 4 bytes) → header version kind stream ++ fields ≡ bytes → IsReading version kind fields r → IsReadingUpTo newest bytes r
+read_whole newest version kind stream bytes fields (Ok body) one v small is whole h =
+    subst (λ (n : ℕ). Spells newest bytes (record { stream = n; body = body_of body })) is
+    (subst (λ (xs : List ℕ). Spells newest xs (record { stream = stream; body = body_of body })) whole (h newest stream v small))
+read_whole newest version kind stream bytes fields (Err fault) one v small is whole h = ap (first_fault newest) (sym whole) ∙ h newest stream one v
+
+-- what starts as a packet of a kind is read as its fields are
+pub start_known : (newest version kind : ℕ) (bytes fields : List ℕ) (r : Result Body ReadFault) → 1 ≤ version → version ≤ newest → 8 ≤ length bytes → AreBytes bytes
+    → big_bytes 4 (big_number 4 bytes) ≡ 0x41 ∷ 0x4D ∷ version ∷ kind ∷ [] → fields ≡ drop 8 bytes → IsReading version kind fields r → IsReadingUpTo newest bytes r
+start_known newest version kind bytes fields r one v long fits is behind h =
+    let stream = big_number 4 (drop 4 bytes) in
+    let small : stream < 2 ^ 32 = big_from-lt 0 4 (drop 4 bytes) (AreBytes-drop 4 bytes fits) in
+    let whole : header version kind stream ++ fields ≡ bytes =
+    ap (λ (xs : List ℕ). header version kind stream ++ xs) behind ∙ sym (header_read bytes long fits ∙ ap (λ (xs : List ℕ). xs ++ big_bytes 4 stream ++ drop 8 bytes) is) in
+    read_whole newest version kind stream bytes fields r one v small refl whole h
 
 -- what begins as a packet is a header and fields
 pub header_said : (bytes : List ℕ) (stream : ℕ) → 8 ≤ length bytes → AreBytes bytes → get_or bytes 0 0 ≡ 0x41 → get_or bytes 1 0 ≡ 0x4D → stream ≡ big_number 4 (drop 4 bytes)

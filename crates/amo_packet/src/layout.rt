@@ -27,6 +27,19 @@ pub const CLEANUP: u8 = 5;
 
 pub const BATCH: u8 = 6;
 
+/// The first four bytes of a needuid as one number: the magic, the version and the kind.
+pub const NEEDUID_START: u32 = 0x414D_0101;
+
+pub const ACCEPT_START: u32 = 0x414D_0102;
+
+pub const SEND_START: u32 = 0x414D_0103;
+
+pub const ACK_START: u32 = 0x414D_0104;
+
+pub const CLEANUP_START: u32 = 0x414D_0105;
+
+pub const BATCH_START: u32 = 0x414D_0206;
+
 /// The fields of a needuid: an identifier.
 pub const NEEDUID_LENGTH: usize = 8;
 

@@ -1,18 +1,20 @@
 //! Bytes into packets.
 #![tactic(auto, using(std::proofs::lemmas::Bool::Decides::nat_tests), unfolding(crate::specs::Fault::first_fault))]
 
-ghost use Rattle.std.specs.Prelude.{◌≡◌, ◌<◌, ◌≤◌, ◌^◌, ◌++◌, ◌↔◌, ◌⊎◌, ℕ, suc, length, drop, get_or, None, Err, OnOk, IfOk, IfErr, IsOkAnd, IsErrOf};
+ghost use Rattle.std.specs.Prelude.{◌≡◌, ◌<◌, ◌≤◌, ◌^◌, ◌++◌, ◌↔◌, ◌⊎◌, ℕ, List, suc, length, drop, get_or, None, Err, OnOk, IfOk, IfErr, IfSome, IfNone, IsOkAnd, IsErrOf};
+ghost use Rattle.byteorder.specs.Endian.{big_bytes};
 ghost use Rattle.amo_packet.specs.declared.fault.ReadFault.{ReadFault};
 ghost use Rattle.amo_packet.specs.declared.packet.OwnedPacket.{OwnedPacket};
 ghost use Rattle.amo_packet.specs.Packet.{packet_of, body_of};
-ghost use Rattle.amo_packet.specs.Grammar.{header, CanBeWritten, Spells};
+ghost use Rattle.amo_packet.specs.Grammar.{CanBeWritten, Spells};
 ghost use Rattle.amo_packet.specs.Fault.{first_of, message_faults, first_fault};
-ghost use Rattle.amo_packet.specs.Reading.{IsReading, IsReadingUpTo};
+ghost use Rattle.amo_packet.specs.Reading.{IsNoStart, IsSent, IsUnsent, IsReading, IsReadingUpTo};
 
 use crate::layout::{
-    ACCEPT, ACCEPT_LENGTH, ACK, ACK_LENGTH, BATCH, BATCH_LENGTH, BATCH_VERSION, CLEANUP,
-    CLEANUP_LENGTH, FIRST_VERSION, HEADER_LENGTH, LENGTH_LENGTH, MAGIC, NEEDUID, NEEDUID_LENGTH,
-    NEWEST_VERSION, SEND, SEND_LENGTH,
+    ACCEPT, ACCEPT_LENGTH, ACCEPT_START, ACK, ACK_LENGTH, ACK_START, BATCH, BATCH_LENGTH,
+    BATCH_START, BATCH_VERSION, CLEANUP, CLEANUP_LENGTH, CLEANUP_START, FIRST_VERSION,
+    HEADER_LENGTH, LENGTH_LENGTH, MAGIC, NEEDUID, NEEDUID_LENGTH, NEEDUID_START, NEWEST_VERSION,
+    SEND, SEND_LENGTH, SEND_START,
 };
 use crate::{Body, MAX_BATCH, MAX_MESSAGE, Packet, Parts, ReadFault};
 use byteorder::{BigEndian, ByteOrder};
@@ -52,68 +54,50 @@ fn read_up_to(newest: u8, bytes: &[u8]) -> Result<Packet<'_>, ReadFault>
     ensures fits { IfOk result (λ p. CanBeWritten (body_of p.body)) }
     ensures fault { (f : ReadFault) → IsErrOf result f ↔ (first_fault newest bytes.now ≡ Some f) }
 {
-    let (version, kind, stream, fields) = read_header(bytes)?;
-    let body = read_body(newest, version, kind, fields)?;
-    Ok(Packet { stream, body })
-}
-
-/// The version, the kind, the stream and the fields of what begins as a packet.
-#[inline(always)]
-fn read_header(bytes: &[u8]) -> Result<(u8, u8, u32, &[u8]), ReadFault>
-    ensures found { IfOk result (λ h. (h.2 < 2 ^ 32) × (bytes.now ≡ header h.0 h.1 h.2 ++ h.3.now)) }
-    ensures fault { IfErr result (λ f. (newest : ℕ) → first_fault newest bytes.now ≡ Some f) }
-{
     if bytes.len() < HEADER_LENGTH {
         return Err(ReadFault::Short);
     }
-    if bytes[0] != MAGIC[0] || bytes[1] != MAGIC[1] {
-        return Err(ReadFault::Magic);
-    }
     let stream = BigEndian::read_u32(&bytes[4..]);
-    Ok((bytes[2], bytes[3], stream, &bytes[HEADER_LENGTH..]))
+    let body = read_body(newest, bytes)?;
+    Ok(Packet { stream, body })
 }
 
-/// What a packet of the version and the kind says by these fields.
+/// What the packet says.
+// One comparison tells the magic, the version and the kind; what is wrong with another start is asked behind that. Each arm
+// takes the fields itself, so that their length costs nothing.
 #[inline(always)]
-fn read_body(newest: u8, version: u8, kind: u8, fields: &[u8]) -> Result<Body<'_>, ReadFault>
+fn read_body(newest: u8, bytes: &[u8]) -> Result<Body<'_>, ReadFault>
     requires newest { (FIRST_VERSION ≤ newest) × (newest ≤ NEWEST_VERSION) }
-    ensures { IsReadingUpTo newest version kind fields.now result }
+    requires long { HEADER_LENGTH ≤ length bytes.now }
+    ensures { IsReadingUpTo newest bytes.now result }
 {
-    // Nearly every packet is of the first version: whether it is of a newer one is asked behind that.
-    if version == FIRST_VERSION {
-        return read_body_1(kind, fields);
-    }
-    if version == BATCH_VERSION && version <= newest {
-        return read_body_2(kind, fields);
-    }
-    Err(ReadFault::Version)
-}
-
-/// The same of version 02.
-#[inline(always)]
-fn read_body_2(kind: u8, fields: &[u8]) -> Result<Body<'_>, ReadFault>
-    ensures { IsReading BATCH_VERSION kind fields.now result }
-{
-    if kind == BATCH {
-        read_batch(fields)
-    } else {
-        Err(ReadFault::Kind)
+    let start = BigEndian::read_u32(bytes);
+    match start {
+        NEEDUID_START => read_needuid(&bytes[HEADER_LENGTH..]),
+        ACCEPT_START => read_accept(&bytes[HEADER_LENGTH..]),
+        SEND_START => read_send(&bytes[HEADER_LENGTH..]),
+        ACK_START => read_ack(&bytes[HEADER_LENGTH..]),
+        CLEANUP_START => read_cleanup(&bytes[HEADER_LENGTH..]),
+        BATCH_START if newest >= BATCH_VERSION => read_batch(&bytes[HEADER_LENGTH..]),
+        _ => Err(start_fault(newest, start)),
     }
 }
 
-/// The same of version 01.
+/// What is wrong with a start that a reader of the versions up to the newest does not know.
 #[inline(always)]
-fn read_body_1(kind: u8, fields: &[u8]) -> Result<Body<'_>, ReadFault>
-    ensures { IsReading FIRST_VERSION kind fields.now result }
+fn start_fault(newest: u8, start: u32) -> ReadFault
+    requires newest { (FIRST_VERSION ≤ newest) × (newest ≤ NEWEST_VERSION) }
+    requires unknown { IsNoStart newest start }
+    ensures { (stream : ℕ) (fields : List ℕ) → first_fault newest (big_bytes 4 start ++ big_bytes 4 stream ++ fields) ≡ Some result }
 {
-    match kind {
-        NEEDUID => read_needuid(fields),
-        ACCEPT => read_accept(fields),
-        SEND => read_send(fields),
-        ACK => read_ack(fields),
-        CLEANUP => read_cleanup(fields),
-        _ => Err(ReadFault::Kind),
+    let bytes = start.to_be_bytes();
+    if bytes[0] != MAGIC[0] || bytes[1] != MAGIC[1] {
+        return ReadFault::Magic;
     }
+    if bytes[2] < FIRST_VERSION || bytes[2] > newest {
+        return ReadFault::Version;
+    }
+    ReadFault::Kind
 }
 
 #[inline(always)]
@@ -138,17 +122,43 @@ fn read_accept(fields: &[u8]) -> Result<Body<'_>, ReadFault>
 fn read_send(fields: &[u8]) -> Result<Body<'_>, ReadFault>
     ensures { IsReading FIRST_VERSION SEND fields.now result }
 {
-    if fields.len() < SEND_LENGTH {
-        return Err(ReadFault::Short);
+    match sent_message(fields) {
+        Some(message) => Ok(Body::Send(BigEndian::read_u64(fields), message)),
+        None => Err(send_fault(fields)),
     }
-    let id = BigEndian::read_u64(fields);
+}
+
+/// The message that these fields of a send spell, if they spell one.
+#[inline(always)]
+fn sent_message(fields: &[u8]) -> Option<&[u8]>
+    ensures some { IfSome result (λ message. IsSent fields.now message.now) }
+    ensures none { IfNone result (IsUnsent fields.now) }
+{
+    // Where the fields are not all there the length wraps, and is too long: one comparison tells both.
+    let length = fields.len().wrapping_sub(SEND_LENGTH);
+    if length > MAX_MESSAGE || BigEndian::read_u16(&fields[8..]) != length as u16 {
+        return None;
+    }
+    Some(&fields[SEND_LENGTH..])
+}
+
+/// What is wrong with the fields of a send that spell no message.
+#[inline(always)]
+fn send_fault(fields: &[u8]) -> ReadFault
+    requires { IsUnsent fields.now }
+    ensures { IsReading FIRST_VERSION SEND fields.now (Err result) }
+{
+    if fields.len() < SEND_LENGTH {
+        return ReadFault::Short;
+    }
     let length = usize::from(BigEndian::read_u16(&fields[8..]));
     if length > MAX_MESSAGE {
-        return Err(ReadFault::Length);
+        ReadFault::Length
+    } else if fields.len() < SEND_LENGTH + length {
+        ReadFault::Short
+    } else {
+        ReadFault::Long
     }
-    let message = &fields[SEND_LENGTH..];
-    expect_length(message, length)?;
-    Ok(Body::Send(id, message))
 }
 
 #[inline(always)]
