@@ -17,6 +17,9 @@ use Rattle.amo_book.specs.Pass.{GrownBy, automaton_after, event}
 use Rattle.amo_book.specs.Charge.{ChargeState}
 use Rattle.amo_book.specs.Drive.{Driven}
 use Rattle.amo_book.specs.declared.foresee.Foreseen.{Foreseen}
+use Rattle.amo_book.specs.Look.{Finds}
+use Rattle.amo_core.specs.declared.summary.Summary.{Summary}
+use Rattle.amo_core.specs.Summary.{summary_of}
 use Rattle.amo_book.specs.Foresee.{Foresees, Tells}
 use Rattle.amo_book.specs.Rule.{Slot, share, Has, slot_of}
 use Rattle.amo_book.specs.Plays.{Sat, IsAtRest, view, taken, Counts, Looks, Sees, witness, joined}
@@ -160,6 +163,22 @@ foreseen_by id id' p m n o cid place side stream held act x old new foreseen sam
       tells = subst (λ (y : Automaton). Tells (row y act) y old new foreseen) is tells;
       found = λ sender. ap mode_of (sym is) ∙ found sender;
     }
+
+-- how a side stands
+pub seen_by : (id id' : TableId) (p : ℕ) (m n o : Sat) (cid : TableId) (place : ℕ) (side : End) (stream : ℕ) (held : Mode) (x : Automaton)
+    (summary : Summary) → id' ≡ id → Studied p side stream place x m n → o ≡ released n.0
+    → summary ≡ summary_of x → (side ≡ Sender → mode_of x ≡ held)
+    → Finds (pass_of id p m) (pass_of id' p o) (charge_of cid place side stream held) summary
+seen_by id id' p m n o cid place side stream held x summary same studied back tells found =
+    let seen : o.0.seen ≡ n.0.seen = ap (λ (z : Sat). z.0.seen) back in
+    let is : x ≡ automaton_after side stream o.0.seen = studied.found ∙ ap (automaton_after side stream) (sym seen) in (
+      record {
+        same = record { book = same; number = refl; mine_stays = ap (events_of p) seen ∙ studied.mine_stays };
+        extends = subst (λ (h : List Event). Extends h m.0.seen) (sym seen) studied.extends;
+        tells = tells ∙ ap summary_of is;
+      },
+      λ sender. ap (λ (z : Summary). z.mode) tells ∙ found sender,
+    )
 
 -- a pass that was dealt has seen nothing
 pub new_pass : (p : ℕ) (m : Sat) → m ≡ (view [] [] (share p [] ∷ []) None, []) → IsPass p m

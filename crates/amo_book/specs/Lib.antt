@@ -7,6 +7,7 @@ pub mod Fault
 pub mod Foresee
 pub mod Gathering
 pub mod Index
+pub mod Look
 pub mod Pass
 pub mod Plays
 pub mod Rule

@@ -23,7 +23,7 @@
 //! A call tries the gate of its side once. It moves the automaton out of its slot, lets it act, adds 1 to the count, which
 //! is where the event takes its place, moves the automaton home and opens the gate. Where the gate is held it answers
 //! Busy, and nothing has happened. Calls on two sides never find each other's gate held. [`Book::foresee`] opens the gate again with no
-//! event: it tells what an act would do, for a host that has to know before.
+//! event: it tells what an act would do, for a host that has to know before. So does [`Book::look`], which tells how a side stands.
 //!
 //! Histories are newest first, as in `amo_world`.
 #![tactic(auto)]
@@ -38,6 +38,7 @@ mod drive;
 mod fault;
 mod foresee;
 mod index;
+mod look;
 mod pass;
 mod plays;
 mod site;

@@ -1,10 +1,11 @@
 //! What lies in a slot.
 ghost use Rattle.std.specs.Prelude.{◌≡◌, IfOk};
 ghost use Rattle.amo_core.specs.Automaton.{row, mode_of, handed_back, Writes};
+ghost use Rattle.amo_core.specs.Summary.{summary_of};
 ghost use Rattle.amo_book.specs.Foresee.{Tells};
 
 use crate::Foreseen;
-use amo_core::{Act, Advanced, Automaton, Mode, Outcome};
+use amo_core::{Act, Advanced, Automaton, Mode, Outcome, Summary};
 use amo_packet::MAX_PACKET;
 use std::alloc::{AllocError, Global};
 use std::marker::Model;
@@ -64,6 +65,13 @@ impl Housed {
         } else {
             Foreseen::Keeps(self.automaton.write_emission(act, buffer))
         }
+    }
+
+    /// As [`Automaton::summary`].
+    pub fn summary(&self) -> Summary
+        ensures { result ≡ summary_of self.now }
+    {
+        self.automaton.summary()
     }
 
     /// As [`Automaton::mode`].

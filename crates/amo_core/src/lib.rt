@@ -13,7 +13,7 @@
 //!
 //! A [`Sender`] and a [`Receiver`] can be driven by hand, call by call. Whoever keeps sides of both kinds keeps an
 //! [`Automaton`], either of the two. It steps by any act: it writes what it emits into a buffer, and becomes what the row
-//! says. The two halves, emission and advance, can be had apart.
+//! says. The two halves, emission and advance, can be had apart. A [`Summary`] tells how it is: its mode, and how many messages it has.
 //!
 //! The method is Belsnes's (1976) as presented by Lynch, *Distributed Algorithms*, chapter 22. A message travels under an
 //! identifier that the receiver made for this one handshake; the receiver takes a message only under the identifier
@@ -33,6 +33,7 @@ mod payload;
 mod receiver;
 mod reply;
 mod sender;
+mod summary;
 
 pub use act::Act;
 pub use automaton::Automaton;
@@ -47,3 +48,4 @@ pub use payload::Payload;
 pub use receiver::{GetRefusal, Receiver, ReceiverMode};
 pub use reply::Reply;
 pub use sender::{AckReply, MAX_WAITING, PutRefusal, Sender, SenderMode};
+pub use summary::Summary;

@@ -56,6 +56,13 @@ impl Messages {
         self.items.len() == 1
     }
 
+    /// How many messages there are.
+    pub fn len(&self) -> usize
+        ensures { result ≡ length (messages self.now) }
+    {
+        self.items.len()
+    }
+
     /// Takes the first message, and leaves those after it. Where there are none, a message without a byte is left.
     pub(crate) fn take_first(&mut self) -> Message
         ensures first { result ≡ self.old.first }

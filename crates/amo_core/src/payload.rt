@@ -1,8 +1,8 @@
 //! What travels under one identifier: a message by itself, or a batch.
-ghost use Rattle.std.specs.Prelude.{◌≡◌};
+ghost use Rattle.std.specs.Prelude.{◌≡◌, length};
 ghost use Rattle.amo_packet.specs.Packet.{body_of};
 ghost use Rattle.amo_packet.specs.Grammar.{CanBeWritten};
-ghost use Rattle.amo_core.specs.Sender.{carrying};
+ghost use Rattle.amo_core.specs.Sender.{carrying, messages_in};
 
 use crate::Messages;
 use amo_packet::{Body, Message};
@@ -25,6 +25,16 @@ impl Payload {
         match self {
             Payload::Message(message) => Body::Send(id, message.bytes()),
             Payload::Batch(messages) => Body::Batch(id, messages.as_parts()),
+        }
+    }
+
+    /// How many messages it is.
+    pub fn len(&self) -> usize
+        ensures { result ≡ length (messages_in self.now) }
+    {
+        match self {
+            Payload::Message(_) => 1,
+            Payload::Batch(messages) => messages.len(),
         }
     }
 }

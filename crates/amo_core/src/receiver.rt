@@ -7,6 +7,7 @@ mod advance;
 mod emission;
 mod handshake;
 mod lookup;
+mod summary;
 
 use crate::{Messages, Mode};
 use amo_packet::Message;

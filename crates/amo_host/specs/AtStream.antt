@@ -5,11 +5,13 @@ use Rattle.amo_packet.specs.declared.packet.OwnedPacket.{OwnedPacket}
 use Rattle.amo_core.specs.declared.act.Act.{Act}
 use Rattle.amo_core.specs.declared.act.Act.TheVariants as act
 use Rattle.amo_core.specs.declared.mode.Mode.{Mode}
+use Rattle.amo_core.specs.declared.summary.Summary.{Summary}
 use Rattle.amo_window.specs.declared.timers.Timer.{Timer}
 use Rattle.amo_window.specs.Timers as timers
 use Rattle.amo_book.specs.Book.{Each}
 use Rattle.amo_book.specs.Charge.{ChargeState}
 use Rattle.amo_book.specs.Foresee.{Foresees}
+use Rattle.amo_book.specs.Look.{Stands}
 use Rattle.amo_book.specs.Pass.{PassState}
 use Rattle.amo_book.specs.declared.drive.Done.{Done}
 use Rattle.amo_book.specs.declared.foresee.Foreseen.{Foreseen}
@@ -78,6 +80,11 @@ abbrev pub Foretells : {W : Type 0} → Station W → ℕ → Act → PassState 
 Foretells s stream a v w old new None = ¬ (Contains (streams_of s.host.modes) stream) × (w ≡ v) × (new ≡ old)
 Foretells s stream a v w old new (Some foreseen) =
     (place : ℕ) × (charge : ChargeState) × (slice_get s.charges place ≡ Some charge) × (charge.stream ≡ stream) × Foresees v w charge a old new foreseen
+
+-- how the host's side of this stream stands, if there is a charge of it
+abbrev pub FindsAt : {W : Type 0} → Station W → ℕ → PassState → PassState → Option Summary → Type 0
+FindsAt s stream v w None = ¬ (Contains (streams_of s.host.modes) stream) × (w ≡ v)
+FindsAt s stream v w (Some summary) = Contains (streams_of s.host.modes) stream × Stands v w s.host.side stream summary
 
 -- the packet of this stream's mode is emitted again, if there is such a charge
 abbrev pub ResendsAt : {W : Type 0} → ℕ → ℕ → Station W → Station W → PassState → PassState → List ℕ → List ℕ → Turned → Type 0

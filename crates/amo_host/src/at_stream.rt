@@ -5,14 +5,14 @@ ghost use Rattle.std.specs.Bool.{OnFalse};
 ghost use Rattle.amo_packet.specs.Packet.{packet_of, body_of};
 ghost use Rattle.amo_packet.specs.Grammar.{CanBeWritten, CarriesNoBytes};
 ghost use Rattle.amo_world.specs.History.{IsRight};
-ghost use Rattle.amo_host.specs.AtStream.{AreCalm, Delivers, FailsToDeliver, Foretells, HasMode, IsDue, IsNextDue, MayBegin, ResendsAt, StartFails, StartsAt, hastened, repeated};
+ghost use Rattle.amo_host.specs.AtStream.{AreCalm, Delivers, FailsToDeliver, FindsAt, Foretells, HasMode, IsDue, IsNextDue, MayBegin, ResendsAt, StartFails, StartsAt, hastened, repeated};
 ghost use Rattle.amo_host.specs.Host.{streams_of};
 ghost use Rattle.amo_host.specs.Station.{IsStation, BelongTogether};
 ghost use Rattle.amo_host.specs.Turn.{NoEvent, Nothing};
 
 use crate::{Pump, PumpFault, Turned};
 use amo_book::{Book, Foreseen, Pass};
-use amo_core::{Act, Mode};
+use amo_core::{Act, Mode, Summary};
 use amo_packet::{MAX_PACKET, Packet};
 use amo_word::Words;
 
@@ -97,6 +97,25 @@ impl<W: Words + Drop> Pump<W> {
         };
         let foreseen = book.foresee(pass, &self.charges[place], act, out)?;
         Ok(Some(foreseen))
+    }
+
+    /// How this stream's side stands after all that the pass has seen then, if there is a charge of it. No event is made.
+    pub fn look(
+        &self,
+        book: &Book,
+        pass: &mut Pass,
+        stream: u32,
+    ) -> Result<Option<Summary>, PumpFault>
+        requires { BelongTogether book.now pass.old self.now }
+        ensures found { IfOk result (FindsAt self.now stream pass.old pass.new) }
+        ensures busy { IfErr result (λ fault. (fault ≡ PumpFault.Busy) × (pass.new ≡ pass.old)) }
+        ensures together { BelongTogether book.now pass.new self.now }
+    {
+        let Some(place) = self.place_of(stream) else {
+            return Ok(None);
+        };
+        let summary = book.look(pass, &self.charges[place])?;
+        Ok(Some(summary))
     }
 
     /// Emits the packet of this stream's mode again.
