@@ -1,6 +1,6 @@
 -- An ack that ends a handshake.
 use Rattle.std.specs.Prelude.{◌==◌, ◌&&◌, if◌then◌else◌, Option, Some, None}
-use Rattle.std.proofs.Common.{◌≡◌, ℕ, Bool, true, false, [], ◌∷◌, List, refl, sym, ap, ◌∙◌, subst}
+use Rattle.std.proofs.Common.{◌≡◌, ℕ, Bool, true, false, [], ◌∷◌, List, drop, length, refl, sym, ap, ◌∙◌, subst}
 use Rattle.std.proofs.lemmas.Bool.{eq-eqb, eqb-true}
 use Rattle.amo_object.specs.declared.step.End.{End}
 use Rattle.amo_object.specs.declared.step.End.TheVariants.{Sender, Receiver}
@@ -17,16 +17,17 @@ use Rattle.amo_core.specs.declared.reply.Reply.TheVariants.{Done}
 use Rattle.amo_core.specs.declared.sender.SenderMode.{SenderMode}
 use Rattle.amo_core.specs.declared.sender.SenderMode.TheVariants as sender_mode
 use Rattle.amo_core.specs.Automaton.{mode_of}
+use Rattle.amo_core.specs.Summary.{summary_of}
 use Rattle.amo_core.specs.Receiver as receiver
 use Rattle.amo_core.specs.Sender as sender
 use Rattle.amo_world.specs.declared.event.Event.{Event}
 use Rattle.amo_world.specs.History.{after_if, stream_after}
 use Rattle.amo_world.specs.Stream.{Stream, after, automaton_of}
-use Rattle.amo_book.specs.Pass.{automaton_after, event}
+use Rattle.amo_book.specs.Pass.{GrownBy, PassState, automaton_after, event}
 use Rattle.amo_host.specs.AtStream.{HasMode}
-use Rattle.amo_live.specs.Host.{HostState, Happens}
+use Rattle.amo_live.specs.Host.{HostState, Happens, IsWhole}
 use Rattle.amo_live.specs.Service.{begins_to_send}
-use Rattle.amo_live.specs.Shown.{BeginsToSend, EndsHandshake}
+use Rattle.amo_live.specs.Shown.{BeginsToSend, EndsHandshake, told_at, told_behind}
 
 -- only a sender is quiet
 receiver_mode_is : (m : ReceiverMode) → receiver.kind m ≡ mode.Quiet → ⊥
@@ -83,32 +84,53 @@ mode_after : (past : List Event) (e : Event) → mode_of (automaton_after e.side
 mode_after past e = ap (λ (b : Bool). mode_of (automaton_of (after_if b (stream_after e.stream past) e) e.side)) (eq-eqb e.stream e.stream refl)
 
 -- A delivery that found the sender sending and left it quiet was that of an ack under its identifier.
-ended_by : (past : List Event) (number stream : ℕ) (p : OwnedPacket) (word : ℕ) → mode_of (automaton_after Sender stream past) ≡ mode.Send
+ended_by : (past : List Event) (number stream : ℕ) (p : OwnedPacket) (word messages : ℕ) → mode_of (automaton_after Sender stream past) ≡ mode.Send
     → mode_of (automaton_after Sender stream (event number Sender stream (act.Deliver p word) Done ∷ past)) ≡ mode.Quiet
-    → EndsHandshake (event number Sender stream (act.Deliver p word) Done ∷ past) (event number Sender stream (act.Deliver p word) Done) p.body
-ended_by past number stream p word found quiet =
+    → messages ≡ told_at (summary_of (automaton_after Sender stream past))
+    → EndsHandshake (event number Sender stream (act.Deliver p word) Done ∷ past) (event number Sender stream (act.Deliver p word) Done) p.body messages
+ended_by past number stream p word messages found quiet told =
     let e = event number Sender stream (act.Deliver p word) Done in
     let state = (stream_after stream past).sender.state in
     let sent = sends state.mode found in
     let under = quiet_after state sent.0 sent.1.0 sent.1.1 p.body (sym (mode_after past e) ∙ quiet) in
-    record { past = past; stands = ([], refl); id = sent.0; got = under.0; says = under.1; load = sent.1.0; sent = sent.1.1 }
+    record {
+      past = past;
+      stands = ([], refl);
+      id = sent.0;
+      got = under.0;
+      says = under.1;
+      load = sent.1.0;
+      sent = sent.1.1;
+      tells = told ∙ ap (λ (m : SenderMode). told_behind (length (sender.held_by m)) (length state.waiting)) sent.1.1;
+    }
+
+-- where all that was seen before and after an event is known to be the pass's own, nothing happened between
+between : (v w : PassState) (e : Event) (grown : GrownBy v w e) → IsWhole v → IsWhole w → grown.earlier ≡ v.seen
+between v w e grown first second =
+    ap (λ (l : List Event). drop 1 l) (sym grown.seen ∙ (second.own ∙ (grown.mine_grew ∙ ap (λ (l : List Event). e ∷ l) (sym first.own))))
 
 -- what happened at a side, at that side under another name
-at_side : {L S : Type 0} (h g : HostState L S) (side : End) (stream : ℕ) (p : OwnedPacket) (word : ℕ) (known : Mode) → side ≡ Sender → Happens h g side stream (act.Deliver p word) known
-    → HasMode h.pump.host stream mode.Send → known ≡ mode.Quiet → EndsHandshake g.pass.seen (event h.pass.number side stream (act.Deliver p word) Done) p.body
-at_side h g side stream p word known sends happens has quiet =
+at_side : {L S : Type 0} (h g : HostState L S) (side : End) (stream : ℕ) (p : OwnedPacket) (word messages : ℕ) (known : Mode) → side ≡ Sender → Happens h g side stream (act.Deliver p word) known
+    → HasMode h.pump.host stream mode.Send → known ≡ mode.Quiet → IsWhole h.pass → IsWhole g.pass → messages ≡ told_at (summary_of (automaton_after side stream h.pass.seen))
+    → EndsHandshake g.pass.seen (event h.pass.number side stream (act.Deliver p word) Done) p.body messages
+at_side h g side stream p word messages known sends happens has quiet before now told =
     let here : Happens h g Sender stream (act.Deliver p word) known = subst (λ (s : End). Happens h g s stream (act.Deliver p word) known) sends happens in
     let e = event h.pass.number Sender stream (act.Deliver p word) Done in
     let after : mode_of (automaton_after Sender stream (e ∷ here.grown.earlier)) ≡ mode.Quiet =
     subst (λ (seen : List Event). mode_of (automaton_after Sender stream seen) ≡ mode.Quiet) here.grown.seen (sym here.mode_is ∙ quiet) in
-    subst (λ (s : End). EndsHandshake g.pass.seen (event h.pass.number s stream (act.Deliver p word) Done) p.body) (sym sends)
-    (subst (λ (seen : List Event). EndsHandshake seen e p.body) (sym here.grown.seen) (ended_by here.grown.earlier h.pass.number stream p word (here.found mode.Send refl has) after))
+    let counts : messages ≡ told_at (summary_of (automaton_after Sender stream here.grown.earlier)) =
+    subst (λ (seen : List Event). messages ≡ told_at (summary_of (automaton_after Sender stream seen))) (sym (between h.pass g.pass e here.grown before now))
+    (subst (λ (s : End). messages ≡ told_at (summary_of (automaton_after s stream h.pass.seen))) sends told) in
+    subst (λ (s : End). EndsHandshake g.pass.seen (event h.pass.number s stream (act.Deliver p word) Done) p.body messages) (sym sends)
+    (subst (λ (seen : List Event). EndsHandshake seen e p.body messages) (sym here.grown.seen)
+    (ended_by here.grown.earlier h.pass.number stream p word messages (here.found mode.Send refl has) after counts))
 
 -- so a delivery that left quiet what had been sending ended a handshake
-pub ends_handshake : {L S : Type 0} (h g : HostState L S) (stream : ℕ) (p : OwnedPacket) (word : ℕ) (known : Mode) → Happens h g h.side stream (act.Deliver p word) known → HasMode h.pump.host stream mode.Send → known ≡ mode.Quiet
-    → EndsHandshake g.pass.seen (event h.pass.number h.side stream (act.Deliver p word) Done) p.body
-ends_handshake h g stream p word known happens has quiet =
-    at_side h g h.side stream p word known (quiet_side h.side (stream_after stream g.pass.seen) (sym happens.mode_is ∙ quiet)) happens has quiet
+pub ends_handshake : {L S : Type 0} (h g : HostState L S) (stream : ℕ) (p : OwnedPacket) (word messages : ℕ) (known : Mode) → Happens h g h.side stream (act.Deliver p word) known → HasMode h.pump.host stream mode.Send → known ≡ mode.Quiet
+    → IsWhole h.pass → IsWhole g.pass → messages ≡ told_at (summary_of (automaton_after h.side stream h.pass.seen))
+    → EndsHandshake g.pass.seen (event h.pass.number h.side stream (act.Deliver p word) Done) p.body messages
+ends_handshake h g stream p word messages known happens has quiet before now told =
+    at_side h g h.side stream p word messages known (quiet_side h.side (stream_after stream g.pass.seen) (sym happens.mode_is ∙ quiet)) happens has quiet before now told
 
 -- only a sender sends
 receiver_sends : (m : ReceiverMode) → receiver.kind m ≡ mode.Send → ⊥

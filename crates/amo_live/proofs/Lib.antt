@@ -17,5 +17,4 @@ pub mod Getting
 pub mod Doubting
 pub mod Keeping
 pub mod Listening
-pub mod Holding
 pub mod Wholeness

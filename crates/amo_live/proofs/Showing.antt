@@ -19,6 +19,7 @@ use Rattle.amo_core.specs.declared.act.Act.TheVariants as act
 use Rattle.amo_core.specs.declared.mode.Mode.{Mode}
 use Rattle.amo_core.specs.declared.mode.Mode.TheVariants as kind_of
 use Rattle.amo_core.specs.declared.reply.Reply.TheVariants as reply
+use Rattle.amo_core.specs.Summary.{summary_of}
 use Rattle.amo_world.specs.declared.event.Event.{Event}
 use Rattle.amo_book.specs.declared.fault.PutFault.{PutFault}
 use Rattle.amo_book.specs.declared.fault.PutFault.TheVariants as put_fault
@@ -27,7 +28,7 @@ use Rattle.amo_book.specs.declared.fault.AckFault.TheVariants as ack_fault
 use Rattle.amo_book.specs.Calls.{put_answer, ack_answer}
 use Rattle.amo_world.specs.History.{Extends}
 use Rattle.amo_world.proofs.Extensions.{further}
-use Rattle.amo_book.specs.Pass.{PassState, Answer, Grown, GrownBy, event, mine}
+use Rattle.amo_book.specs.Pass.{PassState, Answer, Grown, GrownBy, automaton_after, event, mine}
 use Rattle.amo_host.specs.AtStream.{HasMode}
 use Rattle.amo_journal.specs.declared.version.Version.{Version}
 use Rattle.amo_journal.specs.declared.version.Version.TheVariants.{One, Two}
@@ -35,7 +36,7 @@ use Rattle.amo_journal.specs.Version.{newest}
 use Rattle.amo_live.specs.declared.fault.LiveFault.{LiveFault}
 use Rattle.amo_lines.specs.declared.lines.Spelling.{Spelling}
 use Rattle.amo_lines.specs.declared.lines.Word.{Word}
-use Rattle.amo_live.specs.Host.{HostState, Did, Delivered, Looks, got_at, got_in, word_for}
+use Rattle.amo_live.specs.Host.{HostState, Did, Delivered, IsWhole, Looks, got_at, got_in, word_for}
 use Rattle.amo_live.specs.Service.{start_of}
 use Rattle.amo_live.proofs.Emissions.{grown_extends}
 use Rattle.amo_live.proofs.Getting.{same_message}
@@ -44,7 +45,7 @@ use Rattle.amo_live.proofs.Repeating.{looks_extend, looks_still, none_extends, n
 use Rattle.amo_lines.specs.Object.{Name}
 use Rattle.amo_lines.specs.Owed.{answered, first_id}
 use Rattle.amo_lines.specs.Spelt.{Refused, message_line, ok_line, refused_line, settled_line, word_line, word_of}
-use Rattle.amo_live.specs.Shown.{BeginsWithPut, IsRefusing, IsShown, says_nothing, says_message, says_answer, says_put, Said, Says, Shows, ShowsMore, Tells, Told, behind, said_of, told_ack, told_answer, told_answers, told_line, told_put, told_settled}
+use Rattle.amo_live.specs.Shown.{BeginsWithPut, IsRefusing, IsShown, says_nothing, says_message, says_answer, says_put, Said, Says, Shows, ShowsMore, Tells, Told, behind, said_of, told_ack, told_answer, told_at, told_answers, told_line, told_put, told_settled}
 
 -- what a pass has seen is what it had seen, and more
 itself : (events : List Event) → Extends events events
@@ -110,7 +111,7 @@ tells_still seen later spelling e old new more (inr tells) = inr (record {
       record { past = begun.past; stands = further later seen (e ∷ begun.past) more begun.stands; asked = begun.asked; sends = begun.sends };
   ends = λ some.
       let ended = tells.ends some in
-      record { past = ended.past; stands = further later seen (e ∷ ended.past) more ended.stands; id = ended.id; got = ended.got; says = ended.says; load = ended.load; sent = ended.sent };
+      record { past = ended.past; stands = further later seen (e ∷ ended.past) more ended.stands; id = ended.id; got = ended.got; says = ended.says; load = ended.load; sent = ended.sent; tells = ended.tells };
 })
 
 shows_still : (seen later : List Event) (spelling : Spelling) (events : List Event) (old new : Told) → Extends later seen → Shows seen spelling events old new → Shows later spelling events old new
@@ -169,9 +170,13 @@ look_shows h g spelling stream a known old new looks same = shows_none spelling 
 pub undelivered_shows : {L S : Type 0} (h g : HostState L S) (spelling : Spelling) (bytes : List ℕ) (word : ℕ) (old new : Told) → Delivered h g bytes word None → new ≡ old → ShowsMore spelling h.pass g.pass old new
 undelivered_shows h g spelling bytes word old new none same = shows_none spelling h.pass g.pass old new (none_extends h g bytes word none) (none_still h g bytes word none) same
 
+-- It is known that all was the pass's own that was seen before and after, and of how many messages an ack tells that ends the handshake of this stream.
+abbrev pub Counts : {L S : Type 0} → HostState L S → HostState L S → ℕ → ℕ → Type 0
+Counts h g stream messages = IsWhole h.pass × IsWhole g.pass × (messages ≡ told_at (summary_of (automaton_after h.side stream h.pass.seen)))
+
 -- a delivery shows what it settles, and what its packet tells
 pub delivery_shows : {L S : Type 0} (h g : HostState L S) (spelling : Spelling) (bytes : List ℕ) (p : OwnedPacket) (word stream : ℕ) (mode : Mode) (settles : Bool) (messages : ℕ) (old new : Told) → Spells (newest h.journal.version) bytes p
-    → Delivered h g bytes word (Some (stream, mode)) → (settles ≡ true → HasMode h.pump.host p.stream kind_of.NeedId × (mode ≡ kind_of.Send)) → (messages ≢ 0 → HasMode h.pump.host p.stream kind_of.Send × (mode ≡ kind_of.Quiet))
+    → Delivered h g bytes word (Some (stream, mode)) → (settles ≡ true → HasMode h.pump.host p.stream kind_of.NeedId × (mode ≡ kind_of.Send)) → (messages ≢ 0 → HasMode h.pump.host p.stream kind_of.Send × (mode ≡ kind_of.Quiet) × Counts h g p.stream messages)
     → new ≡ told_ack spelling p.stream p.body messages (told_settled settles spelling stream old) → ShowsMore spelling h.pass g.pass old new
 delivery_shows h g spelling bytes p word stream mode settles messages old new spelt (q, spells, is, happens) begun ended told =
     let one : q ≡ p = Spells-unique (newest h.journal.version) (newest h.journal.version) bytes q p spells spelt in
@@ -186,7 +191,10 @@ delivery_shows h g spelling bytes p word stream mode settles messages old new sp
       lines = let first = told_settled settles spelling stream old in
           told ∙ (ap (λ (n : ℕ). told_ack spelling n p.body messages first) here ∙ ap (λ (r : OwnedPacket). told_ack spelling stream r.body messages first) (sym one));
       begins = λ some. let known = begun some in sending_begins h g stream q (word_for q.body word) mode happens (subst (λ (n : ℕ). HasMode h.pump.host n kind_of.NeedId) here known.0) known.1;
-      ends = λ some. let known = ended some in ends_handshake h g stream q (word_for q.body word) mode happens (subst (λ (n : ℕ). HasMode h.pump.host n kind_of.Send) here known.0) known.1;
+      ends = λ some.
+          let known = ended some in
+          let counts = subst (λ (n : ℕ). Counts h g n messages) here known.2 in
+          ends_handshake h g stream q (word_for q.body word) messages mode happens (subst (λ (n : ℕ). HasMode h.pump.host n kind_of.Send) here known.0) known.1 counts.0 counts.1 counts.2;
     }))
 
 -- what an ack tells, as its answers were told
@@ -262,7 +270,7 @@ module _ (spelling : Spelling) (v w : PassState) (stream : ℕ) (old new : Told)
 
 -- a delivery with what it shows, and then what follows it
 pub delivered_then : {L S : Type 0} (h g : HostState L S) (r : Result (Unit {0}) LiveFault) (spelling other : Spelling) (bytes : List ℕ) (p : OwnedPacket) (word stream : ℕ) (mode : Mode) (settles : Bool) (messages : ℕ) (w x : PassState) (old new more : Told)
-    → Spells (newest h.journal.version) bytes p → Delivered h g bytes word (Some (stream, mode)) → (settles ≡ true → HasMode h.pump.host p.stream kind_of.NeedId × (mode ≡ kind_of.Send)) → (messages ≢ 0 → HasMode h.pump.host p.stream kind_of.Send × (mode ≡ kind_of.Quiet))
+    → Spells (newest h.journal.version) bytes p → Delivered h g bytes word (Some (stream, mode)) → (settles ≡ true → HasMode h.pump.host p.stream kind_of.NeedId × (mode ≡ kind_of.Send)) → (messages ≢ 0 → HasMode h.pump.host p.stream kind_of.Send × (mode ≡ kind_of.Quiet) × Counts h g p.stream messages)
     → w ≡ g.pass → new ≡ told_ack spelling p.stream p.body messages (told_settled settles spelling stream old) → other ≡ spelling → OnOk r (ShowsMore other w x new more)
     → OnOk r (ShowsMore spelling h.pass x old more)
 delivered_then h g r spelling other bytes p word stream mode settles messages w x old new more spelt delivered begun ended pass told same then =

@@ -5,13 +5,12 @@ use mathlib.Core.Logic.{dite}
 use native.Mathlib.Decide.{ℕ_discrete}
 use Rattle.amo_world.specs.declared.event.Event.{Event}
 use Rattle.amo_world.specs.History.{Extends, IsRight, events_of}
-use Rattle.amo_world.proofs.Extensions.{earlier_too, further}
+use Rattle.amo_world.proofs.Extensions.{antisymmetric, earlier_too, further}
 use Rattle.amo_world.proofs.Picks.{own, others, picked_later}
-use Rattle.amo_book.specs.Book.{Each}
 use Rattle.amo_book.specs.Pass.{IsSamePass, Met, PassState, mine}
 use Rattle.amo_book.specs.Rule.{AllBelow}
 use Rattle.amo_host.specs.Station.{BelongTogether}
-use Rattle.amo_live.specs.Emitted.{AreEmitted, OutboxState, WereEmitted}
+use Rattle.amo_live.specs.Emitted.{AreEmitted, OutboxState}
 use Rattle.amo_live.specs.Host.{HostState, IsHost, IsWhole}
 
 -- where of two passes the first made no event, each is the second's
@@ -54,22 +53,35 @@ whole passes o o' v w two other same later before below right first silent secon
 pub met_before : (one two one' two' : PassState) → Met one two one' two' → Extends one'.seen two.seen
 met_before one two one' two' (history, from_one, from_two, one_after, two_after) = further one'.seen history two.seen one_after from_two
 
+-- and what it had seen, the second one has
+met_after : (one two one' two' : PassState) → Met one two one' two' → Extends two'.seen two.seen
+met_after one two one' two' (history, from_one, from_two, one_after, two_after) = further two'.seen history two.seen two_after from_two
+
 -- what its passes know once they met
 pub host_met : {L S : Type 0} (h : HostState L S) (o w : PassState) → IsHost h → IsSamePass h.other o × IsSamePass h.pass w → Met h.other h.pass o w → Extends o.seen w.seen
     → AllBelow h.book.passes o.seen → IsRight w.seen → (w ≡ h.pass) × IsWhole w
 host_met h o w is same met later below right =
     whole h.book.passes h.other o h.pass w is.silent.two same.0 same.1 later (met_before h.other h.pass o w met) below right is.silent.number is.silent.silent is.number
 
--- a host that has handed on what was to leave
-pub host_sent : {L S : Type 0} (h : HostState L S) (o w : PassState) (m : OutboxState) (link : L) → IsHost h → IsSamePass h.other o → w ≡ h.pass → m ≡ record h.outbox { leaving = [] }
-    → IsHost (record h { pass = w; other = o; link = link; outbox = m })
-host_sent h o w m link is same still sent = record {
+-- the same where it looked before: nor has it seen more by that
+pub host_looked : {L S : Type 0} (h : HostState L S) (o u w : PassState) → IsHost h → IsSamePass h.pass u → Extends u.seen h.pass.seen → IsSamePass h.other o × IsSamePass u w → Met h.other u o w
+    → Extends o.seen w.seen → AllBelow h.book.passes o.seen → IsRight w.seen → (w ≡ h.pass) × ((u.seen ≡ h.pass.seen) × IsWhole w)
+host_looked h o u w is same more both met later below right =
+    let before : Extends o.seen h.pass.seen = further o.seen u.seen h.pass.seen (met_before h.other u o w met) more in
+    let stays : IsSamePass h.pass w = record { book = both.1.book ∙ same.book; number = both.1.number ∙ same.number; mine_stays = both.1.mine_stays ∙ same.mine_stays } in
+    let t = whole h.book.passes h.other o h.pass w is.silent.two both.0 stays later before below right is.silent.number is.silent.silent is.number in
+    let back : Extends h.pass.seen u.seen = subst (λ (p : PassState). Extends p.seen u.seen) t.0 (met_after h.other u o w met) in
+    (t.0, (antisymmetric u.seen h.pass.seen more back, t.1))
+
+-- a host whose passes met
+pub host_learned : {L S : Type 0} (h : HostState L S) (o w : PassState) → IsHost h → IsSamePass h.other o → w ≡ h.pass → IsHost (record h { pass = w; other = o })
+host_learned h o w is same still = record {
   together = subst (λ p. BelongTogether h.book p h.pump) (sym still) is.together;
   station = is.station;
   side = is.side;
   few = is.few;
   sides = is.sides;
-  places = ap (λ (x : OutboxState). length x.recent) sent ∙ is.places;
+  places = is.places;
   number = ap (λ (p : PassState). p.number) still ∙ is.number;
   silent = record {
     two = is.silent.two;
@@ -77,5 +89,21 @@ host_sent h o w m link is same still sent = record {
     number = same.number ∙ is.silent.number;
     silent = same.mine_stays ∙ is.silent.silent;
   };
-  emitted = subst (AreEmitted w) (sym sent) (record { leaving = tt; recent = subst (λ p. Each (WereEmitted p) h.outbox.recent) (sym still) is.emitted.recent });
+  emitted = subst (λ p. AreEmitted p h.outbox) (sym still) is.emitted;
 }
+
+-- a host that has handed on what was to leave
+pub host_sent : {L S : Type 0} (h : HostState L S) (o w : PassState) (m : OutboxState) (link : L) → IsHost h → IsSamePass h.other o → w ≡ h.pass → m ≡ record h.outbox { leaving = [] }
+    → IsHost (record h { pass = w; other = o; link = link; outbox = m })
+host_sent h o w m link is same still sent =
+    let learned = host_learned h o w is same still in record {
+      together = learned.together;
+      station = is.station;
+      side = is.side;
+      few = is.few;
+      sides = is.sides;
+      places = ap (λ (x : OutboxState). length x.recent) sent ∙ is.places;
+      number = learned.number;
+      silent = learned.silent;
+      emitted = subst (AreEmitted w) (sym sent) (record { leaving = tt; recent = learned.emitted.recent });
+    }

@@ -1,5 +1,5 @@
 -- A host at work.
-use Rattle.std.specs.Prelude.{◌≡◌, ℕ, zero, suc, Bool, true, false, if◌then◌else◌, Option, Some, List, [], ◌∷◌, ◌++◌, get_or, slice_get, ◌<◌, ◌≤◌, ◌≢◌, ◌⊎◌, is_some, None, Contains, length, map}
+use Rattle.std.specs.Prelude.{◌≡◌, ℕ, zero, suc, Bool, true, false, if◌then◌else◌, Option, Some, List, [], ◌∷◌, ◌++◌, get_or, slice_get, ◌⊎◌, ◌&&◌, nat_lt, is_some, None, length, map}
 use Rattle.amo_object.specs.declared.step.End.{End}
 use Rattle.amo_object.specs.declared.step.End.TheVariants.{Sender, Receiver}
 use Rattle.amo_core.specs.declared.act.Act.{Act}
@@ -7,17 +7,17 @@ use Rattle.amo_core.specs.declared.act.Act.TheVariants as act
 use Rattle.amo_core.specs.declared.mode.Mode.{Mode}
 use Rattle.amo_core.specs.declared.mode.Mode.TheVariants as mode
 use Rattle.amo_core.specs.Sender.{max_waiting}
+use Rattle.amo_core.specs.Summary.{summary_of}
+use Rattle.amo_core.specs.declared.summary.Summary.{Summary}
 use Rattle.amo_journal.specs.declared.version.Version.{Version}
 use Rattle.amo_journal.specs.declared.version.Version.TheVariants.{One, Two}
-use Rattle.amo_book.specs.Pass.{PassState, mine}
-use Rattle.amo_host.specs.AtStream.{AreCalm, HasMode}
-use Rattle.amo_host.specs.Host as host
+use Rattle.amo_book.specs.Pass.{PassState, automaton_after, mine}
+use Rattle.amo_host.specs.AtStream.{AreCalm}
 use Rattle.amo_live.specs.Client.{has}
 use Rattle.amo_live.specs.Host.{puts_in}
 use Rattle.amo_live.specs.Shown.{Told}
 use Rattle.amo_lines.specs.declared.lines.Spelling.{Spelling}
 use Rattle.amo_live.specs.declared.service.Lane.{Lane}
-use Rattle.amo_live.specs.declared.service.door.SenderLane.{SenderLane}
 use Rattle.amo_live.specs.declared.service.door.Settled.{Settled}
 use Rattle.amo_live.specs.declared.service.Service.{Service}
 use Rattle.amo_live.specs.declared.service.Setup.{Setup}
@@ -59,7 +59,7 @@ has_come service = is_some service.come
 
 -- what is known of a stream at first: it has no messages
 abbrev pub nothing_known : Lane
-nothing_known = record { waiting = 0; began = 0; held = 0; owed = false; travelling = 0; last = None; in_doubt = false }
+nothing_known = record { waiting = 0; began = 0; held = 0; owed = false; in_doubt = false }
 
 -- what is known of a stream, from 1 on, if it is there
 abbrev pub lane_at : List Lane → ℕ → Option Lane
@@ -69,45 +69,40 @@ lane_at lanes (suc place) = slice_get lanes place
 abbrev pub lane_of : {L S W : Type 0} → Service L S W → ℕ → Option Lane
 lane_of service stream = lane_at service.lanes.items stream
 
--- how a stream of a sender is of which this is known; one that is not there is as it was at first
-abbrev pub as_sender : Lane → SenderLane
-as_sender lane = record { waiting = lane.waiting; travelling = lane.travelling; owed = lane.owed; last = lane.last }
+-- how the host's side of a stream stands by the tables, after all that happened at the host
+abbrev pub summary_on : {L S W : Type 0} → Service L S W → ℕ → Summary
+summary_on service stream = summary_of (automaton_after service.host.side stream service.host.pass.seen)
 
-abbrev pub sender_by : Option Lane → SenderLane
-sender_by None = as_sender nothing_known
-sender_by (Some lane) = as_sender lane
+-- the side is up
+abbrev pub is_up : Mode → Bool
+is_up mode.Down = false
+is_up _ = true
 
-abbrev pub sender_of : {L S W : Type 0} → Service L S W → ℕ → SenderLane
-sender_of service stream = sender_by (lane_of service stream)
+-- whether a message can be put at a side that stands so: at a sender that is up, and at which fewer wait than may
+abbrev pub takes_put : End → Summary → Bool
+takes_put Sender summary = is_up summary.mode && nat_lt summary.waiting max_waiting
+takes_put Receiver summary = false
 
--- a stream takes no message more: it is not there, or as many wait there as may
-abbrev pub IsFull : {L S W : Type 0} → Service L S W → ℕ → Type 0
-IsFull service stream = (has (streams_of service) stream ≡ false) ⊎ (max_waiting ≤ (sender_of service stream).waiting)
+-- whether one can be got there: at a receiver, where one has come that was not got
+abbrev pub gives_message : End → Summary → Bool
+gives_message Sender summary = false
+gives_message Receiver summary = nat_lt 0 summary.held
+
+-- no message can be put on a stream, or be got of it: it is not there, or its side stands so that none can
+abbrev pub CannotPut : {L S W : Type 0} → Service L S W → ℕ → Type 0
+CannotPut service stream = (has (streams_of service) stream ≡ false) ⊎ (takes_put service.host.side (summary_on service stream) ≡ false)
+
+abbrev pub CannotGet : {L S W : Type 0} → Service L S W → ℕ → Type 0
+CannotGet service stream = (has (streams_of service) stream ≡ false) ⊎ (gives_message service.host.side (summary_on service stream) ≡ false)
 
 -- whether this is the mode of a receiver that holds messages
 abbrev pub is_rcvd : Option Mode → Bool
 is_rcvd (Some mode.Rcvd) = true
 is_rcvd _ = false
 
--- how many messages have come and were not got, by what is known of a stream
-abbrev pub held_by : Option Lane → ℕ
-held_by None = 0
-held_by (Some lane) = lane.held
-
-abbrev pub held_of : {L S W : Type 0} → Service L S W → ℕ → ℕ
-held_of service stream = held_by (lane_of service stream)
-
--- a message has come to a stream and was not got, and the stream's side is one that holds messages
-abbrev pub Holds : {L S W : Type 0} → Service L S W → ℕ → Type 0
-Holds service stream = (0 < held_of service stream) × HasMode service.host.pump.host stream mode.Rcvd
-
--- the stream's side is not there, or is in another mode
-abbrev pub IsElsewhere : host.Host → ℕ → Type 0
-IsElsewhere h stream = (¬ (Contains (host.streams_of h.modes) stream)) ⊎ ((other : Mode) × HasMode h stream other × (other ≢ mode.Rcvd))
-
--- no message has come that was not got, or the stream's side holds none
-abbrev pub HoldsNone : {L S W : Type 0} → Service L S W → ℕ → Type 0
-HoldsNone service stream = (held_of service stream ≡ 0) ⊎ IsElsewhere service.host.pump.host stream
+-- it looked how a stream stands, and nothing happened
+abbrev pub HasLooked : {L S W : Type 0} → Service L S W → Service L S W → Type 0
+HasLooked before after = after ≡ record before { host = record before.host { other = after.host.other } }
 
 -- whether it is in doubt what became of an earlier message of a stream
 abbrev pub doubted : List Lane → ℕ → Bool

@@ -1,5 +1,5 @@
 -- What clients are shown.
-use Rattle.std.specs.Prelude.{◌≡◌, ◌≢◌, ◌⊎◌, ℕ, zero, suc, Bool, true, false, if◌then◌else◌, Option, List, [], ◌∷◌, ◌++◌}
+use Rattle.std.specs.Prelude.{◌≡◌, ◌≢◌, ◌⊎◌, ℕ, zero, suc, Bool, true, false, if◌then◌else◌, Option, List, [], ◌∷◌, ◌++◌, ◌-◌, length}
 use Rattle.std.specs.List.{flat_map}
 use Rattle.std.specs.Io.KnownBytes.{Appends}
 use Rattle.amo_core.specs.declared.act.Act.{Act}
@@ -7,6 +7,7 @@ use Rattle.amo_core.specs.declared.act.Act.TheVariants.{Put, Get, Ack, Deliver}
 use Rattle.amo_core.specs.declared.payload.Payload.{Payload}
 use Rattle.amo_core.specs.declared.mode.Mode.TheVariants as mode
 use Rattle.amo_core.specs.declared.sender.SenderMode.TheVariants.{Send}
+use Rattle.amo_core.specs.declared.summary.Summary.{Summary}
 use Rattle.amo_core.specs.Sender as sender
 use Rattle.amo_core.specs.declared.reply.Reply.{Reply}
 use Rattle.amo_core.specs.declared.reply.Reply.TheVariants.{Ok, Got, Yes, No}
@@ -20,6 +21,7 @@ use Rattle.amo_lines.specs.declared.lines.Spelling.{Spelling}
 use Rattle.amo_lines.specs.declared.lines.Word.{Word}
 use Rattle.amo_lines.specs.declared.lines.Word.TheVariants as word
 use Rattle.amo_lines.specs.Object.{Name}
+use Rattle.amo_live.specs.declared.service.door.Settled.{Settled}
 use Rattle.amo_lines.specs.Owed.{Owed, answered, first_id, owing}
 use Rattle.amo_lines.specs.Spelt.{Refused, message_line, ok_line, refused_line, settled_line, word_line, word_of}
 
@@ -94,9 +96,22 @@ pub record BeginsToSend (seen : List Event) (e : Event) : Type 0 where
   pub asked : sender.kind (stream_after e.stream past).sender.state.mode ≡ mode.NeedId
   pub sends : sender.kind (stream_after e.stream (e ∷ past)).sender.state.mode ≡ mode.Send
 
+-- Of how many messages an ack tells that ends the handshake in which so many travel, with so many behind them: of all, but for the stream's last one, whose
+-- answer a call asks for.
+abbrev pub told_behind : ℕ → ℕ → ℕ
+told_behind travelling zero = travelling - 1
+told_behind travelling (suc waiting) = travelling
+
+-- the same of a sender that stands so, and of what is noted of the end
+abbrev pub told_at : Summary → ℕ
+told_at summary = told_behind summary.held summary.waiting
+
+abbrev pub told_in : Settled → ℕ
+told_in end = end.messages - (if end.is_last then 1 else 0)
+
 -- In what was seen an event delivered this packet, which is an ack that ended a handshake: after all that happened before, the sender of its stream sent
--- messages under the identifier that the ack names.
-pub record EndsHandshake (seen : List Event) (e : Event) (body : OwnedBody) : Type 0 where
+-- messages under the identifier that the ack names, and of so many of them it tells.
+pub record EndsHandshake (seen : List Event) (e : Event) (body : OwnedBody) (messages : ℕ) : Type 0 where
   pub past : List Event
   pub stands : Extends seen (e ∷ past)
   pub id : ℕ
@@ -104,6 +119,7 @@ pub record EndsHandshake (seen : List Event) (e : Event) (body : OwnedBody) : Ty
   pub says : body ≡ packet.Ack id got
   pub load : Payload
   pub sent : (stream_after e.stream past).sender.state.mode ≡ Send id load
+  pub tells : messages ≡ told_behind (length (sender.messages_in load)) (length (stream_after e.stream past).sender.state.waiting)
 
 -- A packet was delivered that settled what became of earlier messages, or told of messages: it brought the sender to send, if it is told that it settled any,
 -- and ended the handshake of those that it told of.
@@ -115,7 +131,7 @@ pub record TellsDelivery (seen : List Event) (spelling : Spelling) (e : Event) (
   pub messages : ℕ
   pub lines : new ≡ told_ack spelling e.stream packet.body messages (told_settled settles spelling e.stream old)
   pub begins : settles ≡ true → BeginsToSend seen e
-  pub ends : messages ≢ 0 → EndsHandshake seen e packet.body
+  pub ends : messages ≢ 0 → EndsHandshake seen e packet.body messages
 
 -- what an event tells: what its reply does, or a packet that was delivered
 abbrev pub Tells : List Event → Spelling → Event → Told → Told → Type 0

@@ -4,7 +4,9 @@ ghost use Rattle.amo_packet.specs.Packet.{body_of, packet_of};
 ghost use Rattle.amo_packet.specs.Grammar.{CanBeWritten, Spells};
 ghost use Rattle.amo_packet.specs.Stream.{IsStream};
 ghost use Rattle.amo_journal.specs.Version.{newest};
+ghost use Rattle.amo_core.specs.Summary.{summary_of};
 ghost use Rattle.amo_book.specs.Book.{Each};
+ghost use Rattle.amo_book.specs.Pass.{automaton_after};
 ghost use Rattle.amo_host.specs.AtStream.{AreCalm, HasMode, IsDue, IsNextDue};
 ghost use Rattle.amo_host.specs.Host.{streams_of};
 ghost use Rattle.amo_live.specs.Emitted.{WasEmitted};
@@ -14,7 +16,7 @@ ghost use Rattle.amo_live.specs.Noted.{Holds, IsSameJournal};
 use crate::outbox::Outbox;
 use crate::{Durable, GivenWord, Journal, LiveFault, Traffic};
 use amo_book::{Book, OpenFault, Pass};
-use amo_core::Mode;
+use amo_core::{Mode, Summary};
 use amo_host::{NewPumpFault, Pump};
 use amo_journal::Version;
 use amo_net::{Link, MAX_DATAGRAM};
@@ -175,6 +177,13 @@ impl<L: Link, S: Sink> Host<L, S> {
         }
     }
 
+    /// The side of its streams that it has.
+    pub fn side(&self) -> End
+        ensures { result ≡ self.now.side }
+    {
+        self.side
+    }
+
     /// How many streams it has, from 1 on.
     pub fn streams(&self) -> u32
         ensures streams { result ≡ self.now.streams }
@@ -189,6 +198,29 @@ impl<L: Link, S: Sink> Host<L, S> {
         ensures absent { IfNone result (¬ (Contains (streams_of self.now.pump.host.modes) stream)) }
     {
         self.pump.mode_of(stream)
+    }
+
+    /// How this host's side of a stream stands after all that happened at the host. That is what the journal has lines of.
+    pub fn look(&mut self, stream: u32) -> Result<Summary, LiveFault>
+        ensures stands { IfOk result (λ summary. summary ≡ summary_of (automaton_after self.old.side stream self.old.pass.seen)) }
+        ensures whole { OnOk result (IsWhole self.new.pass) }
+        ensures same { self.new ≡ record self.old { other = self.new.other } }
+    {
+        match self.pump.look(&self.book, &mut self.pass, stream) {
+            Ok(Some(summary)) => {
+                self.book.meet(&mut self.other, &mut self.pass);
+                Ok(summary)
+            }
+            Ok(None) | Err(_) => Err(LiveFault::Busy),
+        }
+    }
+
+    /// From now on it knows that nothing happened in its book but what it did itself.
+    pub(crate) fn meet(&mut self)
+        ensures whole { IsWhole self.new.pass }
+        ensures same { self.new ≡ record self.old { other = self.new.other } }
+    {
+        self.book.meet(&mut self.other, &mut self.pass);
     }
 
     /// Whether no side waits for its peer.

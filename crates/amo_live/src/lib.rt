@@ -82,7 +82,7 @@ pub use limits::{Ended, Limits};
 pub use lives_file::OpenedLives;
 pub use notices::{Notices, Silence};
 pub use plan::Plan;
-pub use service::{EventAt, MOST_DATAGRAMS, SenderLane, Service, Settled, Setup};
+pub use service::{EventAt, MOST_DATAGRAMS, Service, Settled, Setup};
 pub use socket::Socket;
 pub use starting::start;
 pub use words::Lineage;

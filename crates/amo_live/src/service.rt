@@ -9,7 +9,7 @@ ghost use Rattle.amo_live.specs.Callers.{MovesNone, MovesWithin};
 ghost use Rattle.amo_live.specs.Client.{PutsNamed, has};
 ghost use Rattle.amo_live.specs.Host.{Delivered, Did, IsNoted};
 ghost use Rattle.amo_live.specs.Service.{IsAtRest, got_by, is_in_doubt, lane_of, new_version, nothing_known, settled_by, shown_by, spelling_of, start_of, starts_batches, streams_of, unanswered_by, words_of};
-ghost use Rattle.amo_live.specs.Shown.{BeginsWithPut, ShowsMore, behind};
+ghost use Rattle.amo_live.specs.Shown.{BeginsWithPut, ShowsMore, behind, told_in};
 ghost use Rattle.amo_live.specs.Words.{BearsNew, IsNew, StaysDrawn};
 
 mod door;
@@ -30,7 +30,7 @@ use amo_object::End;
 use amo_packet::{Body, MAX_BATCH, Packet, read};
 use amo_text::Sink;
 use amo_window::Pace;
-pub use door::{EventAt, SenderLane, Settled};
+pub use door::{EventAt, Settled};
 use std::alloc::{AllocError, Global};
 
 /// How many datagrams a turn takes at most.
@@ -50,10 +50,6 @@ pub(crate) struct Lane {
     held: usize,
     /// One was put, and its client does not know yet what became of it.
     owed: bool,
-    /// How many travel in the handshake that is open.
-    travelling: u64,
-    /// Whether the last one was got, once that is known of one.
-    last: Option<bool>,
     /// It is not settled what became of one that an earlier life sent.
     in_doubt: bool,
 }
@@ -68,8 +64,6 @@ impl Lane {
             began: 0,
             held: 0,
             owed: false,
-            travelling: 0,
-            last: None,
             in_doubt: false,
         }
     }
@@ -561,11 +555,13 @@ impl<L: Link, S: Sink, W: Lineage> Service<L, S, W> {
             return Ok(());
         }
         let before = self.host.mode_of(packet.stream);
-        let end = self.end_by(&packet);
+        let end = self.end_by(&packet)?;
         let Some((stream, mode)) = self.deliver_anew(&packet, bytes, now)? else {
             self.drop_idle();
             return Ok(());
         };
+        // Nothing else happened meanwhile: the handshake that ended, if one did, is that which was looked at.
+        self.host.meet();
         let is_other = is_other(before, mode);
         self.tell_settled(stream, before, mode)?;
         self.tell_ack(&packet, told_by_ack(before, mode, end))?;
@@ -680,7 +676,7 @@ fn is_other(before: Option<Mode>, after: Mode) -> bool {
 /// Of how many messages a packet tells whose delivery found a sender in one mode and left it in the other: where that ended a handshake, of all that
 /// travelled in it, but for the stream's last one.
 fn told_by_ack(before: Option<Mode>, after: Mode, end: Settled) -> u64
-    ensures { result ≢ 0 → (before ≡ Some Send) × (after ≡ Quiet) }
+    ensures { result ≢ 0 → (before ≡ Some Send) × (after ≡ Quiet) × (result ≡ told_in end) }
 {
     match (before, after) {
         (Some(Mode::Send), Mode::Quiet) => end.messages.saturating_sub(u64::from(end.is_last)),

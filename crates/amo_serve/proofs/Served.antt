@@ -23,7 +23,13 @@ use Rattle.amo_door.specs.Answer.{put_body, status_of_put}
 use Rattle.amo_door.specs.Numbers.{HasStream, Table, decision, last_of, made_for, number_of}
 use Rattle.amo_door.specs.Refusal.{status_of}
 use Rattle.amo_door.specs.Turns.{Answer, Answers, Claimed, Fresh, Gone, Keeps, NotNow, Repeated, Stands, Turn, Unclaimed, all_made, fresh, in_front, newest}
-use Rattle.amo_serve.specs.Serving.{AnswersPut, AnswersTake, AnswersUnclaimed, Happened, IsFull, IsMessage, IsPut, IsStill, IsTurn, Serves, SpellsPut, SpellsTaken, Takes, got_by_turn, got_by_turns, put_by_turn, put_by_turns}
+use Rattle.amo_serve.specs.Serving.{AnswersPut, AnswersTake, AnswersUnclaimed, CarriesMade, Happened, IsFull, IsPut, IsStill, IsTurn, Serves, SpellsPut, SpellsTaken, Takes, got_by_turn, got_by_turns, put_by_turn, put_by_turns}
+use Rattle.amo_live.specs.Service.{words_of}
+use Rattle.amo_live.specs.Words.{BearsNew, words_in}
+use Rattle.amo_live.specs.declared.service.Service.{Service}
+use Rattle.amo_live.proofs.Fresh.{bears_none}
+use Rattle.amo_serve.specs.States.{HasLooked}
+use Rattle.amo_serve.specs.declared.responder.Responder.{Responder}
 use Rattle.amo_serve.specs.declared.responder.taking.Taken.{Taken}
 use Rattle.amo_serve.specs.declared.responder.taking.Taken.TheVariants as taken
 
@@ -43,6 +49,17 @@ serves_still s v = serves_none s s v v refl (still v v refl)
 pub each_serves : {T E : Type 0} (result : Result T E) (s : Table) (v : PassState) → OnOk result (Serves s s v v)
 each_serves (Ok value) s v = serves_still s v
 each_serves (Err fault) s v = tt
+
+-- nor did one where it looked how a stream stands
+pub looked_serves : {L S W : Type 0} (r s : Responder L S W) → HasLooked r s → Serves r.numbers s.numbers r.service.host.pass s.service.host.pass
+looked_serves {L = L} {S = S} {W = W} r s looked =
+    serves_none r.numbers s.numbers r.service.host.pass s.service.host.pass (ap (λ (x : Responder L S W). x.numbers) looked.0)
+    (still r.service.host.pass s.service.host.pass (ap (λ (x : Service L S W). x.host.pass) looked.1))
+
+pub looked_bears : {L S W : Type 0} {drawn : W → ℕ → Type 0} (r s : Responder L S W) → HasLooked r s → BearsNew drawn (words_of r.service) (words_of s.service) r.service.host.pass s.service.host.pass
+looked_bears {L = L} {S = S} {W = W} r s looked =
+    bears_none (words_of r.service) (words_of s.service) r.service.host.pass s.service.host.pass (ap (λ (x : Service L S W). words_of x) looked.1)
+    (ap (λ (x : Service L S W). words_in (mine x.host.pass)) looked.1)
 
 -- nor behind that
 pub still_to : (v u w : PassState) → w ≡ u → IsStill v u → IsStill v w
@@ -242,13 +259,13 @@ module _ (s t : Table) (v w : PassState) (claim : Claim) where
 
   -- it was taken before
   pub taken_before : (made : Made) (answer : DoorAnswer) → HasStream s claim.stream → decision s.life (last_of s claim.stream) claim None ≡ Again → last_of s claim.stream ≡ Some made → t ≡ s → IsStill v w
-      → IsMessage claim.stream made answer → AnswersTake s t v w claim answer
+      → CarriesMade claim.stream made answer → AnswersTake s t v w claim answer
   taken_before made answer has again last same kept told =
       not_taken (Repeated made) answer has (subst (λ (d : Decision). Answers d (last_of s claim.stream) claim None (Repeated made)) (sym again) last) refl same kept told
 
   -- it was taken now
   pub taken_now : (message : List ℕ) (place : EventPlace) (answer : DoorAnswer) → HappensAt v w Receiver claim.stream act.Get (event_reply.Got message) place.position → ((past : List Turn) → Keeps past s → Keeps (Claimed claim None (Fresh (made_for claim message place)) ∷ past) t)
-      → puts_in (mine w) ≡ puts_in (mine v) → gets_in (mine w) ≡ (claim.stream, message) ∷ gets_in (mine v) → IsMessage claim.stream (made_for claim message place) answer → AnswersTake s t v w claim answer
+      → puts_in (mine w) ≡ puts_in (mine v) → gets_in (mine w) ≡ (claim.stream, message) ∷ gets_in (mine v) → CarriesMade claim.stream (made_for claim message place) answer → AnswersTake s t v w claim answer
   taken_now message place answer at keeps puts gets told = record {
     told = Fresh (made_for claim message place);
     turn = record { keeps = keeps; puts = puts; gets = gets; extends = happens_extends v w Receiver claim.stream act.Get (event_reply.Got message) place.position at; happened = at };

@@ -89,7 +89,7 @@ SpellsPut life stream Gone answer = answer.status ≡ status_of OtherLife
 SpellsPut life stream NotNow answer = answer.status ≡ status_of Full
 
 -- an answer is the message that was made: its bytes, and in front of them which it is and where its event stands
-pub record IsMessage (stream : ℕ) (made : Made) (answer : DoorAnswer) : Type 0 where
+pub record CarriesMade (stream : ℕ) (made : Made) (answer : DoorAnswer) : Type 0 where
   pub status : answer.status ≡ 200
   pub kind : answer.kind ≡ Bytes
   pub place : answer.extra ≡ Message stream made.number made.place
@@ -97,8 +97,8 @@ pub record IsMessage (stream : ℕ) (made : Made) (answer : DoorAnswer) : Type 0
 
 -- the same of a claim to take: the message
 abbrev pub SpellsTaken : ℕ → Answer → DoorAnswer → Type 0
-SpellsTaken stream (Fresh made) answer = IsMessage stream made answer
-SpellsTaken stream (Repeated made) answer = IsMessage stream made answer
+SpellsTaken stream (Fresh made) answer = CarriesMade stream made answer
+SpellsTaken stream (Repeated made) answer = CarriesMade stream made answer
 SpellsTaken stream (Stands number) answer = answer.status ≡ status_of Conflict
 SpellsTaken stream Gone answer = answer.status ≡ status_of OtherLife
 SpellsTaken stream NotNow answer = answer.status ≡ 204
@@ -124,3 +124,8 @@ pub data AnswersUnclaimed (s t : Table) (v w : PassState) (stream : ℕ) (messag
 abbrev pub Takes : Table → Table → PassState → PassState → Claim → Taken → Type 0
 Takes s t v w claim (taken.Answer answer) = AnswersTake s t v w claim answer
 Takes s t v w claim (taken.NotYet back) = (back ≡ claim) × (t ≡ s) × IsStill v w
+
+-- it waits
+abbrev pub IsNotYet : Taken → Type 0
+IsNotYet (taken.Answer answer) = ⊥
+IsNotYet (taken.NotYet back) = Unit {0}

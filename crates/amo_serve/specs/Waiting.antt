@@ -4,9 +4,8 @@ use Rattle.std.specs.Int.{div_ceil}
 use Rattle.amo_door.specs.declared.claim.Claim.{Claim}
 use Rattle.amo_door.specs.declared.claim.Decision.TheVariants.{Next}
 use Rattle.amo_door.specs.Numbers.{Table, decision, last_of}
-use Rattle.amo_live.specs.declared.service.Service.{Service}
-use Rattle.amo_object.specs.declared.step.End.{End}
-use Rattle.amo_serve.specs.States.{IsReached}
+use Rattle.amo_serve.specs.States.{is_reached, side_of, summary_at}
+use Rattle.amo_serve.specs.declared.responder.Responder.{Responder}
 use Rattle.amo_serve.specs.declared.waiting.Awaited.{Awaited}
 use Rattle.amo_serve.specs.declared.waiting.Awaited.TheVariants as awaited
 
@@ -19,6 +18,6 @@ abbrev pub IsNext : Table → Claim → Type 0
 IsNext table claim = decision table.life (last_of table claim.stream) claim None ≡ Next
 
 -- What a client may wait for on: what is not so yet. A claim that it waits for is for the next message.
-abbrev pub MayWait : {L S W : Type 0} → End → Service L S W → Table → Awaited → Type 0
-MayWait side service table (awaited.State stream) = IsReached side service stream false
-MayWait side service table (awaited.Take claim) = IsReached side service claim.stream false × IsNext table claim
+abbrev pub MayWait : {L S W : Type 0} → Responder L S W → Awaited → Type 0
+MayWait responder (awaited.State stream) = is_reached (side_of responder) (summary_at responder stream) ≡ false
+MayWait responder (awaited.Take claim) = (is_reached (side_of responder) (summary_at responder claim.stream) ≡ false) × IsNext responder.numbers claim

@@ -100,10 +100,11 @@ impl<L: Link, S: Sink, W: Lineage> Responder<L, S, W> {
             "Puts and takes for another number than the next one.",
             counts.conflicts,
         )?;
-        match self.identity.side {
+        match self.service.host.side() {
             End::Sender => self.push_sender(&mut text)?,
             End::Receiver => self.push_receiver(&mut text)?,
         }
+        self.push_traffic(&mut text)?;
         push_gauge(
             &mut text,
             "amo_journal_next_line",
@@ -140,25 +141,59 @@ impl<L: Link, S: Sink, W: Lineage> Responder<L, S, W> {
             "Puts for which a stream had no room.",
             counts.full,
         )?;
-        let mut waiting = 0u64;
-        let mut open = 0u64;
-        for place in 0..self.streams {
-            let lane = self.service.sender_lane(place.saturating_add(1));
-            waiting = waiting.saturating_add(lane.waiting);
-            open = open.saturating_add(u64::from(lane.owed));
-        }
         push_gauge(
             text,
             "amo_waiting_messages",
             "Messages that wait for their handshake.",
-            waiting,
+            self.service.figures().waiting,
         )?;
         push_gauge(
             text,
             "amo_open_streams",
             "Streams whose last message is on its way.",
-            open,
-        )
+            self.service.open_streams(),
+        )?;
+        self.push_handshakes(text)
+    }
+
+    /// Appends how a sender's handshakes ended, and how long they took.
+    fn push_handshakes(&self, text: &mut Vec<u8>) -> Result<(), AllocError> {
+        let figures = self.service.figures();
+        let times = self.service.times();
+        for (name, help, value) in [
+            (
+                "amo_yes_total",
+                "Messages of which it was told that they were got.",
+                figures.yes,
+            ),
+            (
+                "amo_no_total",
+                "Messages of which it was told that they may or may not have been got.",
+                figures.no,
+            ),
+            (
+                "amo_handshakes_total",
+                "Handshakes that ended.",
+                figures.ended,
+            ),
+        ] {
+            push_counter(text, name, help, value)?;
+        }
+        for (name, help, of_thousand) in [
+            (
+                "amo_handshake_p50_microseconds",
+                "Within how long half of the handshakes ended.",
+                500,
+            ),
+            (
+                "amo_handshake_p99_microseconds",
+                "Within how long 99 of 100 handshakes ended.",
+                990,
+            ),
+        ] {
+            push_gauge(text, name, help, times.within(of_thousand).unwrap_or(0))?;
+        }
+        Ok(())
     }
 
     /// Appends what a receiver counted.
@@ -176,15 +211,69 @@ impl<L: Link, S: Sink, W: Lineage> Responder<L, S, W> {
             "Takes that came again.",
             counts.taken_again,
         )?;
-        let mut ready = 0u64;
-        for place in 0..self.streams {
-            ready = ready.saturating_add(u64::from(self.service.holds(place.saturating_add(1))));
-        }
         push_gauge(
             text,
             "amo_ready_streams",
             "Streams of which a message can be taken.",
-            ready,
+            self.service.ready_streams(),
+        )?;
+        push_gauge(
+            text,
+            "amo_held_messages",
+            "Messages that have come and were not taken.",
+            self.service.figures().held,
+        )
+    }
+
+    /// Appends what went through the link, what came and did nothing, and what the journal got.
+    fn push_traffic(&self, text: &mut Vec<u8>) -> Result<(), AllocError> {
+        let figures = self.service.figures();
+        let (traffic, dropped) = (figures.traffic, figures.dropped);
+        for (name, help, value) in [
+            ("amo_packets_sent_total", "Packets that left.", traffic.sent),
+            (
+                "amo_packets_again_total",
+                "Packets that left again, as nothing had answered them in time.",
+                traffic.again,
+            ),
+            (
+                "amo_packets_received_total",
+                "Datagrams that came from the other host.",
+                traffic.received,
+            ),
+            (
+                "amo_packets_unread_total",
+                "Datagrams that were no packets for which the journal has lines.",
+                dropped.unread,
+            ),
+            (
+                "amo_packets_foreign_total",
+                "Packets for streams that the host has not.",
+                dropped.foreign,
+            ),
+            (
+                "amo_packets_idle_total",
+                "Packets that would have changed nothing.",
+                dropped.idle,
+            ),
+            (
+                "amo_link_faults_total",
+                "Calls of the link that failed.",
+                traffic.faults,
+            ),
+            (
+                "amo_journal_bytes_total",
+                "Bytes of lines that the journal got.",
+                figures.bytes,
+            ),
+        ] {
+            push_counter(text, name, help, value)?;
+        }
+        push_gauge(
+            text,
+            "amo_open_handshakes",
+            "Handshakes that are open.",
+            figures.open,
         )
     }
 }

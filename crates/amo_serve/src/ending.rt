@@ -93,14 +93,14 @@ impl<L: Link, S: Sink, W: Lineage> Responder<L, S, W> {
     /// How the host ends, if it does now.
     pub(crate) fn ended(&self, farewell: &mut Farewell, now: u64) -> Option<Ended>
         ensures goes_on { self.now.ends ≡ false → (result ≡ None) × (farewell.new ≡ farewell.old) }
-        ensures ends { IsTrue self.now.ends → (rests holds : Bool) × (IsTrue rests ↔ IsAtRest self.now.service) × (self.now.identity.side ≡ Sender → holds ≡ false)
+        ensures ends { IsTrue self.now.ends → (rests holds : Bool) × (IsTrue rests ↔ IsAtRest self.now.service) × (self.now.service.host.side ≡ Sender → holds ≡ false)
             × (farewell.new ≡ begun farewell.old now) × (result ≡ ended_of farewell.new rests holds now) }
     {
         if !self.ends {
             return None;
         }
         farewell.begin(now);
-        let holds = self.identity.side == End::Receiver && self.service.figures().held > 0;
+        let holds = self.service.host.side() == End::Receiver && self.service.figures().held > 0;
         farewell.ended(self.service.is_at_rest(), holds, now)
     }
 
@@ -111,7 +111,7 @@ impl<L: Link, S: Sink, W: Lineage> Responder<L, S, W> {
         };
         let figures = self.service.figures();
         let (open, waiting, held) = (figures.open, figures.waiting, figures.held);
-        let _ = match self.identity.side {
+        let _ = match self.service.host.side() {
             End::Sender => eprintln!(rt;
                 "amo: not finished: handshakes {open}, messages behind them {waiting}"
             ),

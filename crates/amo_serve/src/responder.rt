@@ -1,12 +1,13 @@
 //! What callers are answered, by the host and by what was made for them in its life.
 ghost use Rattle.std.specs.Prelude.{◌≡◌, ◌↔◌, [], IfOk, IsTrue, OnOk};
 ghost use Rattle.amo_live.specs.Host.{IsNoted};
+ghost use Rattle.amo_live.specs.Service as live;
 ghost use Rattle.amo_live.specs.Service.{words_of};
 ghost use Rattle.amo_live.specs.Words.{BearsNew};
 ghost use Rattle.amo_door.specs.Numbers.{HasStream};
 ghost use Rattle.amo_door.specs.Turns.{Keeps};
 ghost use Rattle.amo_serve.specs.Serving.{IsAtOnce, Serves};
-ghost use Rattle.amo_serve.specs.States.{IsJournalLine, IsQuestion, IsRefused, TellsCall, side_of};
+ghost use Rattle.amo_serve.specs.States.{IsJournalLine, IsQuestion, IsRefused, TellsCall};
 ghost use Rattle.amo_door.specs.declared.refusal.Refusal.TheVariants.{UnknownLine};
 ghost use Rattle.amo_serve.specs.declared.responder.Reply.TheVariants.{Got};
 
@@ -21,7 +22,6 @@ use amo_archive::Handshakes;
 use amo_door::{About, Answer, Call, Claim, Happening, Kind, Numbers, Refusal, Word};
 use amo_live::{Lineage, LiveFault, Service};
 use amo_net::Link;
-use amo_object::End;
 use amo_packet::Message;
 use amo_text::Sink;
 use std::alloc::{AllocError, Global};
@@ -32,8 +32,6 @@ pub use taking::Taken;
 pub struct Identity {
     /// The version of the program.
     pub version: String,
-    /// The side of the host.
-    pub side: End,
     /// The address of the host on the other side.
     pub peer: String,
     /// Since when it lives, in seconds from 1970 on.
@@ -105,7 +103,6 @@ impl<L: Link + Drop, S: Sink + Drop, W: Lineage + Drop> Responder<L, S, W> {
         lines: u64,
     ) -> Result<Responder<L, S, W>, AllocError>
         ensures service { IfOk result (λ responder. responder.service ≡ service) }
-        ensures side { IfOk result (λ responder. side_of responder ≡ identity.side) }
         // Nothing was made yet for a caller, in this life.
         ensures made { IfOk result (λ responder. Keeps [] responder.numbers) }
         ensures life { IfOk result (λ responder. responder.numbers.life ≡ life) }
@@ -156,7 +153,7 @@ impl<L: Link, S: Sink, W: Lineage> Responder<L, S, W> {
         // A question is answered by the host as it is, or waits, or goes to the journal.
         ensures told { IfOk result (TellsCall self.old call) }
         // Nothing happens at the host for it.
-        ensures quiet { IsQuestion call → self.new.service ≡ self.old.service }
+        ensures quiet { IsQuestion call → live.HasLooked self.old.service self.new.service }
     {
         self.counts.requests = self.counts.requests.saturating_add(1);
         match call {
@@ -212,7 +209,7 @@ impl<L: Link, S: Sink, W: Lineage> Responder<L, S, W> {
     fn respond_of_host(&self) -> Result<Reply, LiveFault> {
         let about = About {
             version: self.identity.version.as_str(),
-            side: self.identity.side,
+            side: self.service.host.side(),
             streams: self.streams,
             peer: self.identity.peer.as_str(),
             since: self.identity.since,

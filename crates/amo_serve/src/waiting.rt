@@ -1,9 +1,10 @@
 //! Clients' requests, and those who wait for what they asked.
-ghost use Rattle.std.specs.Prelude.{◌≡◌, IsTrue, OnOk, false};
+ghost use Rattle.std.specs.Prelude.{◌≡◌, IfOk, IsTrue, OnOk, false};
 ghost use Rattle.amo_live.specs.Host.{IsNoted};
 ghost use Rattle.amo_live.specs.Service.{words_of};
 ghost use Rattle.amo_live.specs.Words.{BearsNew};
 ghost use Rattle.amo_serve.specs.Serving.{Serves};
+ghost use Rattle.amo_serve.specs.States.{HasLooked};
 ghost use Rattle.amo_serve.specs.Waiting.{IsNext, MayWait};
 
 use crate::client::Client;
@@ -149,7 +150,7 @@ impl<L: Link, S: Durable, W: Lineage> Responder<L, S, W> {
             until,
         } = waiter;
         let is_late = until <= now || self.ends;
-        let waited = if is_late || has_hung_up || self.is_over(&awaited) {
+        let waited = if is_late || has_hung_up || self.is_over(&awaited)? {
             self.look_at_wait(door.presence(client), awaited, is_late, now)?
         } else {
             Waited::Still(awaited)
@@ -169,12 +170,19 @@ impl<L: Link, S: Durable, W: Lineage> Responder<L, S, W> {
     }
 
     /// Whether a wait is over, whatever its time: what is waited for is so, or nothing is to come for its claim, since that message was taken meanwhile.
-    fn is_over(&self, awaited: &Awaited) -> bool
-        ensures { result ≡ false → MayWait self.now.identity.side self.now.service self.now.numbers awaited.now }
+    fn is_over(&mut self, awaited: &Awaited) -> Result<bool, LiveFault>
+        ensures waits { IfOk result (λ over. over ≡ false → MayWait self.old awaited.now) }
+        ensures looked { HasLooked self.old self.new }
     {
         match awaited {
-            Awaited::State(stream) => self.is_reached(*stream),
-            Awaited::Take(claim) => self.is_reached(claim.stream) || !self.is_next(claim),
+            Awaited::State(stream) => {
+                let summary = self.look(*stream)?;
+                Ok(self.is_reached(&summary))
+            }
+            Awaited::Take(claim) => {
+                let summary = self.look(claim.stream)?;
+                Ok(self.is_reached(&summary) || !self.is_next(claim))
+            }
         }
     }
 
@@ -209,14 +217,17 @@ impl<L: Link, S: Durable, W: Lineage> Responder<L, S, W> {
     }
 
     /// What comes now of a wait for a stream's state.
-    fn look_at_state(&self, stream: u32, is_late: bool) -> Result<Waited, LiveFault> {
+    fn look_at_state(&mut self, stream: u32, is_late: bool) -> Result<Waited, LiveFault>
+        ensures { HasLooked self.old self.new }
+    {
         if !self.has_stream(stream) {
             return Ok(Waited::Answer(Answer::nothing(self.alloc)));
         }
-        if !is_late && !self.is_reached(stream) {
+        let summary = self.look(stream)?;
+        if !is_late && !self.is_reached(&summary) {
             return Ok(Waited::Still(Awaited::State(stream)));
         }
-        Ok(Waited::Answer(self.state(stream)?))
+        Ok(Waited::Answer(self.state(stream, &summary)?))
     }
 
     /// What comes now of a wait for a message.

@@ -282,7 +282,7 @@ fn begin<'a, R: AllocGlobal + Clock + Eprint + Files<File = File> + RandomSource
     let mut words = open_lives::<R, N>(rt, file, plan, lines, why, blank)?;
     begin_life(rt.alloc(), &mut words, file, lines, why)?;
     let (life, archive) = life_told(rt, side, host.journal.as_str(), file)?;
-    let identity = identity_of(rt, host, side)?;
+    let identity = identity_of(rt, host)?;
     Ok(Begun {
         words,
         life,
@@ -305,11 +305,7 @@ fn life_told<R: AllocGlobal + Files<File = File>>(
 }
 
 /// What is told of a host.
-fn identity_of<R: AllocGlobal + Clock>(
-    rt: &R,
-    host: &HostSettings,
-    side: End,
-) -> Result<Identity, Failure> {
+fn identity_of<R: AllocGlobal + Clock>(rt: &R, host: &HostSettings) -> Result<Identity, Failure> {
     let alloc = rt.alloc();
     let since = match SystemTime::now(rt) {
         Ok(now) => match now.duration_since(UNIX_EPOCH) {
@@ -320,7 +316,6 @@ fn identity_of<R: AllocGlobal + Clock>(
     };
     Ok(Identity {
         version: String::from_str(alloc, VERSION)?,
-        side,
         peer: String::from_str(alloc, host.peer.as_str())?,
         since,
     })

@@ -1,15 +1,16 @@
-//! What callers are told by other means than what is shown: puts, gets, and how streams are.
-ghost use Rattle.std.specs.Prelude.{◌≡◌, ◌∷◌, ◌++◌, [], None, false, length, IfOk, IfSome, IsTrue, OnOk};
+//! What callers are told by other means than what is shown: puts, gets, and ends of handshakes.
+ghost use Rattle.std.specs.Prelude.{◌≡◌, ◌≢◌, ◌∷◌, ◌++◌, [], length, IfNone, IfOk, IfSome, OnOk};
 ghost use Rattle.amo_live.specs.Callers.{Gets, GetsNone, PutsAt};
-ghost use Rattle.amo_live.specs.Host.{IsNoted};
-ghost use Rattle.amo_live.specs.Service.{Holds, HoldsNone, IsFull, PutsNone, sender_of, settled_by, streams_of, words_of};
+ghost use Rattle.amo_live.specs.Host.{IsNoted, IsWhole};
+ghost use Rattle.amo_live.specs.Service.{CannotGet, CannotPut, HasLooked, PutsNone, gives_message, settled_by, summary_on, streams_of, takes_put, words_of};
+ghost use Rattle.amo_live.specs.Shown.{told_at, told_in};
 ghost use Rattle.amo_live.specs.Words.{BearsNew};
 
-use crate::service::getting::is_rcvd;
 use crate::service::{Lane, Service};
 use crate::{Lineage, LiveFault};
-use amo_core::MAX_WAITING;
+use amo_core::{MAX_WAITING, Mode};
 use amo_net::Link;
+use amo_object::End;
 use amo_packet::{Body, Message, Packet};
 use amo_text::Sink;
 use std::alloc::{AllocError, AllocFailed};
@@ -21,19 +22,6 @@ pub struct EventAt {
     pub position: u64,
     /// The number of its line in the journal.
     pub line: u64,
-}
-
-/// How a stream of a sender is.
-#[derive(Clone, Copy, PartialEq, Eq)]
-pub struct SenderLane {
-    /// How many messages wait for their handshake.
-    pub waiting: u64,
-    /// How many travel in the handshake that is open.
-    pub travelling: u64,
-    /// One was put of which it is not known yet what became of it.
-    pub owed: bool,
-    /// Whether the last one was got, once that was known of one.
-    pub last: Option<bool>,
 }
 
 /// The end of a handshake, and what became of the messages that travelled in it.
@@ -67,16 +55,29 @@ impl<L: Link, S: Sink, W: Lineage> Service<L, S, W> {
         self.host.outbox.leaving()
     }
 
-    /// The end of the handshake that is open on a packet's stream, if the delivery of the packet is the next event, and ends it.
-    pub(crate) fn end_by(&self, packet: &Packet<'_>) -> Settled {
-        let lane = self.lane(packet.stream).unwrap_or(Lane::new());
-        Settled {
+    /// The end of the handshake that is open on a packet's stream, if the delivery of the packet is the next event, and ends it: only an ack does.
+    pub(crate) fn end_by(&mut self, packet: &Packet<'_>) -> Result<Settled, LiveFault>
+        ensures told { IfOk result (λ end. told_in end ≢ 0 → IsWhole self.old.host.pass × (told_in end ≡ told_at (summary_on self.old packet.now.stream))) }
+        ensures looked { HasLooked self.old self.new }
+    {
+        let line = self.host.next_line();
+        let Body::Ack(_, was_got) = packet.body else {
+            return Ok(Settled {
+                stream: packet.stream,
+                was_got: false,
+                messages: 0,
+                is_last: false,
+                line,
+            });
+        };
+        let summary = self.host.look(packet.stream)?;
+        Ok(Settled {
             stream: packet.stream,
-            was_got: matches!(packet.body, Body::Ack(_, true)),
-            messages: lane.travelling,
-            is_last: lane.waiting == 0,
-            line: self.host.next_line(),
-        }
+            was_got,
+            messages: summary.held as u64,
+            is_last: summary.waiting == 0,
+            line,
+        })
     }
 
     /// A handshake ended so.
@@ -90,34 +91,49 @@ impl<L: Link, S: Sink, W: Lineage> Service<L, S, W> {
         }
     }
 
-    /// How a stream of a sender is. One that the host has not is as it was at first.
-    pub fn sender_lane(&self, stream: u32) -> SenderLane
-        ensures { result ≡ sender_of self.now stream }
-    {
-        let lane = match self.lane(stream) {
-            Some(lane) => lane,
-            None => Lane::new(),
-        };
-        SenderLane {
-            waiting: lane.waiting,
-            travelling: lane.travelling,
-            owed: lane.owed,
-            last: lane.last,
+    /// On how many streams of a sender the last message that was put has no answer yet.
+    pub fn open_streams(&self) -> u64 {
+        let mut open = 0u64;
+        for lane in &self.lanes {
+            open = open.saturating_add(u64::from(lane.owed));
         }
+        open
     }
 
-    /// Whether a message has come to a stream and was not got.
-    pub fn holds(&self, stream: u32) -> bool
-        ensures yes { IsTrue result → Holds self.now stream }
-        ensures no { result ≡ false → HoldsNone self.now stream }
-    {
-        match self.lane(stream) {
-            Some(lane) => lane.held > 0 && is_rcvd(self.host.mode_of(stream)),
-            None => false,
+    /// Of how many streams of a receiver a message has come and was not got.
+    pub fn ready_streams(&self) -> u64 {
+        let mut ready = 0u64;
+        for lane in &self.lanes {
+            ready = ready.saturating_add(u64::from(lane.held > 0));
         }
+        ready
     }
 
-    /// Puts a message on a stream as `put` does, and shows nothing. None where it is not taken: the stream is full, and then nothing happens.
+    /// Whether a message can be put on a stream.
+    fn takes_put(&mut self, stream: u32) -> Result<bool, LiveFault>
+        ensures takes { IfOk result (λ takes. takes ≡ takes_put self.old.host.side (summary_on self.old stream)) }
+        ensures looked { HasLooked self.old self.new }
+    {
+        let summary = self.host.look(stream)?;
+        Ok(match self.host.side() {
+            End::Sender => summary.mode != Mode::Down && summary.waiting < MAX_WAITING,
+            End::Receiver => false,
+        })
+    }
+
+    /// Whether a message can be got of a stream.
+    fn gives_message(&mut self, stream: u32) -> Result<bool, LiveFault>
+        ensures gives { IfOk result (λ gives. gives ≡ gives_message self.old.host.side (summary_on self.old stream)) }
+        ensures looked { HasLooked self.old self.new }
+    {
+        let summary = self.host.look(stream)?;
+        Ok(match self.host.side() {
+            End::Sender => false,
+            End::Receiver => summary.held > 0,
+        })
+    }
+
+    /// Puts a message on a stream as `put` does, and shows nothing. None exactly where none can be put, as the stream is full, and then nothing happens.
     #[tactic(auto, using(crate::proofs::Putting::put_none_still, crate::proofs::Getting::put_gets, crate::proofs::Fresh::bears_none))]
     pub fn put_for_caller(
         &mut self,
@@ -129,7 +145,8 @@ impl<L: Link, S: Sink, W: Lineage> Service<L, S, W> {
         ensures noted { OnOk result (IsNoted S.written self.new.host) }
         ensures put { IfOk result (PutsAt self.old.host.pass self.new.host.pass stream message) }
         ensures none_got { OnOk result (GetsNone self.old.host.pass self.new.host.pass) }
-        ensures full { IfOk result (λ put. IsFull self.old stream → (put ≡ None) × (self.new ≡ self.old)) }
+        ensures full { IfOk result (λ put. IfNone put (CannotPut self.old stream × HasLooked self.old self.new)) }
+        ensures room { IfOk result (λ put. IfSome put (λ at. ¬ (CannotPut self.old stream))) }
         ensures line { IfOk result (λ put. IfSome put (λ at. at.line ≡ self.old.host.journal.next)) }
         ensures streams { streams_of self.new ≡ streams_of self.old }
         ensures words { OnOk result (BearsNew W.is_drawn (words_of self.old) (words_of self.new) self.old.host.pass self.new.host.pass) }
@@ -137,23 +154,21 @@ impl<L: Link, S: Sink, W: Lineage> Service<L, S, W> {
         let Some(lane) = self.lane(stream) else {
             return Ok(None);
         };
-        if lane.waiting >= MAX_WAITING as u64 {
+        if !self.takes_put(stream)? {
             return Ok(None);
         }
         let line = self.host.next_line();
-        match self.host.put(stream, message)? {
-            Err(_) => Ok(None),
-            Ok(position) => {
-                self.keep_put(stream)?;
-                self.owe(stream, lane);
-                self.begin(stream, now)?;
-                Ok(Some(EventAt { position, line }))
-            }
-        }
+        let Ok(position) = self.host.put(stream, message)? else {
+            return Err(LiveFault::Busy);
+        };
+        self.keep_put(stream)?;
+        self.owe(stream, lane);
+        self.begin(stream, now)?;
+        Ok(Some(EventAt { position, line }))
     }
 
-    /// Gets the next message that has come to a stream, if one has, and shows nothing. Those that came with it are acknowledged once the
-    /// last of them was got.
+    /// Gets the next message that has come to a stream, and shows nothing. None exactly where none has come that was not got, and then nothing happens. Those
+    /// that came with it are acknowledged once the last of them was got.
     #[tactic(auto, using(crate::proofs::Getting::was_got, crate::proofs::Getting::got_none, crate::proofs::Getting::got_none_still, crate::proofs::Getting::got_on, crate::proofs::Getting::resend_gets, crate::proofs::Getting::resend_extends, crate::proofs::Getting::get_puts, crate::proofs::Fresh::bears_none))]
     pub fn get_for_caller(
         &mut self,
@@ -164,6 +179,8 @@ impl<L: Link, S: Sink, W: Lineage> Service<L, S, W> {
         ensures noted { OnOk result (IsNoted S.written self.new.host) }
         ensures none_put { OnOk result (PutsNone self.old.host.pass self.new.host.pass) }
         ensures got { IfOk result (Gets self.old.host.pass self.new.host.pass stream) }
+        ensures none { IfOk result (λ got. IfNone got (CannotGet self.old stream × HasLooked self.old self.new)) }
+        ensures some { IfOk result (λ got. IfSome got (λ g. ¬ (CannotGet self.old stream))) }
         ensures line { IfOk result (λ got. IfSome got (λ g. g.1.line ≡ self.old.host.journal.next)) }
         ensures streams { streams_of self.new ≡ streams_of self.old }
         ensures words { OnOk result (BearsNew W.is_drawn (words_of self.old) (words_of self.new) self.old.host.pass self.new.host.pass) }
@@ -171,12 +188,12 @@ impl<L: Link, S: Sink, W: Lineage> Service<L, S, W> {
         let Some(lane) = self.lane(stream) else {
             return Ok(None);
         };
-        if !self.holds(stream) {
+        if !self.gives_message(stream)? {
             return Ok(None);
         }
         let line = self.host.next_line();
         let Some((message, position)) = self.host.get(stream)? else {
-            return Ok(None);
+            return Err(LiveFault::Busy);
         };
         self.got = self.got.saturating_add(1);
         let held = lane.held.saturating_sub(1);

@@ -45,13 +45,11 @@ impl<L: Link, S: Sink, W: Lineage> Service<L, S, W> {
     {
         match started {
             Some(Mode::NeedId) => {
-                let travelling = lane.waiting.min(self.most_at_once());
-                let waiting = lane.waiting.saturating_sub(travelling);
+                let waiting = lane.waiting.saturating_sub(self.most_at_once());
                 self.set_lane(
                     stream,
                     Lane {
                         waiting,
-                        travelling,
                         began,
                         ..lane
                     },
@@ -122,19 +120,7 @@ impl<L: Link, S: Sink, W: Lineage> Service<L, S, W> {
         if let Some(lane) = self.lane(stream) {
             let holds_more = is_other && mode == Mode::Rcvd;
             let held = if holds_more { brought } else { lane.held };
-            let travelling = if mode == Mode::Quiet {
-                0
-            } else {
-                lane.travelling
-            };
-            self.set_lane(
-                stream,
-                Lane {
-                    held,
-                    travelling,
-                    ..lane
-                },
-            );
+            self.set_lane(stream, Lane { held, ..lane });
             if is_other && mode == Mode::Quiet {
                 self.times.note(now.saturating_sub(lane.began));
             }
@@ -274,7 +260,6 @@ impl<L: Link, S: Sink, W: Lineage> Service<L, S, W> {
             stream,
             Lane {
                 owed: false,
-                last: Some(was_got),
                 ..lane
             },
         );

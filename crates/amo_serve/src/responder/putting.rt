@@ -1,8 +1,8 @@
 //! Puts for callers, each once.
-ghost use Rattle.std.specs.Prelude.{◌≡◌, ◌+◌, ◌<◌, ◌^◌, IfOk, IfSome, IsSome, OnOk, Some};
+ghost use Rattle.std.specs.Prelude.{◌≡◌, ◌+◌, ◌<◌, ◌^◌, IfNone, IfOk, IfSome, IsSome, OnOk, Some};
 ghost use Rattle.amo_live.specs.Callers.{GetsNone, PutsAt};
 ghost use Rattle.amo_live.specs.Host.{IsNoted};
-ghost use Rattle.amo_live.specs.Service.{words_of};
+ghost use Rattle.amo_live.specs.Service.{HasLooked, words_of};
 ghost use Rattle.amo_live.specs.Words.{BearsNew};
 ghost use Rattle.amo_door.specs.declared.claim.Decision.TheVariants as AnyDecision;
 ghost use Rattle.amo_door.specs.declared.refusal.Refusal.TheVariants.{Conflict, Full};
@@ -10,6 +10,7 @@ ghost use Rattle.amo_door.specs.Answer.{put_body, status_of_put};
 ghost use Rattle.amo_door.specs.Numbers.{HasStream, decision, last_of, number_of};
 ghost use Rattle.amo_door.specs.Refusal.{status_of};
 ghost use Rattle.amo_serve.specs.Serving.{AnswersPut, AnswersUnclaimed, Serves};
+ghost use Rattle.amo_serve.specs.States.{Refuses};
 
 use crate::responder::{Reply, Responder};
 use amo_door::{Answer, Claim, Decision, EventPlace, Happening, Refusal, When};
@@ -67,6 +68,7 @@ impl<L: Link, S: Sink, W: Lineage> Responder<L, S, W> {
         requires stream { HasStream self.old.numbers claim.stream }
         ensures noted { OnOk result (IsNoted S.written self.new.service.host) }
         ensures answered { IfOk result (AnswersPut self.old.numbers self.new.numbers self.old.service.host.pass self.new.service.host.pass claim message) }
+        ensures full { IfOk result (λ answer. answer.status ≡ status_of Full → Refuses self.old claim.stream) }
         ensures words { OnOk result (BearsNew W.is_drawn (words_of self.old.service) (words_of self.new.service) self.old.service.host.pass self.new.service.host.pass) }
     {
         let stream = claim.stream;
@@ -85,6 +87,7 @@ impl<L: Link, S: Sink, W: Lineage> Responder<L, S, W> {
         requires next { decision self.old.numbers.life (last_of self.old.numbers claim.stream) claim (Some message) ≡ AnyDecision.Next }
         ensures noted { OnOk result (IsNoted S.written self.new.service.host) }
         ensures answered { IfOk result (AnswersPut self.old.numbers self.new.numbers self.old.service.host.pass self.new.service.host.pass claim message) }
+        ensures full { IfOk result (λ answer. answer.status ≡ status_of Full → Refuses self.old claim.stream) }
         ensures words { OnOk result (BearsNew W.is_drawn (words_of self.old.service) (words_of self.new.service) self.old.service.host.pass self.new.service.host.pass) }
     {
         let stream = claim.stream;
@@ -109,6 +112,7 @@ impl<L: Link, S: Sink, W: Lineage> Responder<L, S, W> {
         requires next { number_of (last_of self.old.numbers stream) + 1 < 2 ^ 64 }
         ensures noted { OnOk result (IsNoted S.written self.new.service.host) }
         ensures answered { IfOk result (AnswersUnclaimed self.old.numbers self.new.numbers self.old.service.host.pass self.new.service.host.pass stream message) }
+        ensures full { IfOk result (λ answer. answer.status ≡ status_of Full → Refuses self.old stream) }
         ensures words { OnOk result (BearsNew W.is_drawn (words_of self.old.service) (words_of self.new.service) self.old.service.host.pass self.new.service.host.pass) }
     {
         let copy = message.clone()?;
@@ -130,6 +134,7 @@ impl<L: Link, S: Sink, W: Lineage> Responder<L, S, W> {
         requires { IsNoted S.written self.old.service.host }
         ensures noted { OnOk result (IsNoted S.written self.new.service.host) }
         ensures put { IfOk result (PutsAt self.old.service.host.pass self.new.service.host.pass stream message) }
+        ensures full { IfOk result (λ put. IfNone put (Refuses self.old stream)) }
         ensures none_got { OnOk result (GetsNone self.old.service.host.pass self.new.service.host.pass) }
         ensures words { OnOk result (BearsNew W.is_drawn (words_of self.old.service) (words_of self.new.service) self.old.service.host.pass self.new.service.host.pass) }
         ensures same { self.new ≡ record self.old { service = self.new.service } }
@@ -173,10 +178,12 @@ impl<L: Link, S: Sink, W: Lineage> Responder<L, S, W> {
     fn tell_conflict(&mut self, stream: u32) -> Result<Answer, LiveFault>
         requires { HasStream self.old.numbers stream }
         ensures status { IfOk result (λ answer. answer.status ≡ status_of Conflict) }
-        ensures same { self.new ≡ record self.old { counts = self.new.counts } }
+        ensures same { self.new ≡ record self.old { counts = self.new.counts; service = self.new.service } }
+        ensures looked { HasLooked self.old.service self.new.service }
     {
         self.counts.conflicts = self.counts.conflicts.saturating_add(1);
-        let state = self.sender_state(stream);
+        let summary = self.look(stream)?;
+        let state = self.sender_state(stream, &summary);
         Ok(Answer::conflict_at_sender(self.alloc, self.numbers.life(), stream, state)?)
     }
 }

@@ -1,13 +1,13 @@
 //! Takes for callers, each once.
 ghost use Rattle.std.specs.Prelude.{◌≡◌, IfOk, IfSome, IsSome, None, OnOk, true};
 ghost use Rattle.amo_live.specs.Host.{IsNoted};
-ghost use Rattle.amo_live.specs.Service.{words_of};
+ghost use Rattle.amo_live.specs.Service.{CannotGet, HasLooked, words_of};
 ghost use Rattle.amo_live.specs.Words.{BearsNew};
 ghost use Rattle.amo_door.specs.declared.claim.Decision.TheVariants as AnyDecision;
 ghost use Rattle.amo_door.specs.declared.refusal.Refusal.TheVariants.{Conflict};
 ghost use Rattle.amo_door.specs.Numbers.{HasStream, decision, last_of};
 ghost use Rattle.amo_door.specs.Refusal.{status_of};
-ghost use Rattle.amo_serve.specs.Serving.{IsAtOnce, IsMessage, Serves, Takes};
+ghost use Rattle.amo_serve.specs.Serving.{CarriesMade, IsAtOnce, IsNotYet, Serves, Takes};
 
 use crate::responder::putting::place_of;
 use crate::responder::{Reply, Responder};
@@ -59,6 +59,7 @@ impl<L: Link, S: Sink, W: Lineage> Responder<L, S, W> {
         requires stream { HasStream self.old.numbers claim.stream }
         ensures noted { OnOk result (IsNoted S.written self.new.service.host) }
         ensures taken { IfOk result (Takes self.old.numbers self.new.numbers self.old.service.host.pass self.new.service.host.pass claim) }
+        ensures none { IfOk result (λ taken. IsNotYet taken → CannotGet self.old.service claim.stream) }
         ensures words { OnOk result (BearsNew W.is_drawn (words_of self.old.service) (words_of self.new.service) self.old.service.host.pass self.new.service.host.pass) }
     {
         let stream = claim.stream;
@@ -83,6 +84,7 @@ impl<L: Link, S: Sink, W: Lineage> Responder<L, S, W> {
         requires next { decision self.old.numbers.life (last_of self.old.numbers claim.stream) claim None ≡ AnyDecision.Next }
         ensures noted { OnOk result (IsNoted S.written self.new.service.host) }
         ensures taken { IfOk result (Takes self.old.numbers self.new.numbers self.old.service.host.pass self.new.service.host.pass claim) }
+        ensures none { IfOk result (λ taken. IsNotYet taken → CannotGet self.old.service claim.stream) }
         ensures words { OnOk result (BearsNew W.is_drawn (words_of self.old.service) (words_of self.new.service) self.old.service.host.pass self.new.service.host.pass) }
     {
         let stream = claim.stream;
@@ -99,7 +101,7 @@ impl<L: Link, S: Sink, W: Lineage> Responder<L, S, W> {
     fn tell_taken(&self, stream: u32) -> Result<Answer, LiveFault>
         requires stream { HasStream self.now.numbers stream }
         requires made { IsSome (last_of self.now.numbers stream) }
-        ensures { IfOk result (λ answer. IfSome (last_of self.now.numbers stream) (λ made. IsMessage stream made answer)) }
+        ensures { IfOk result (λ answer. IfSome (last_of self.now.numbers stream) (λ made. CarriesMade stream made answer)) }
     {
         let Some(made) = self.numbers.last(stream) else {
             unreachable!()
@@ -111,10 +113,12 @@ impl<L: Link, S: Sink, W: Lineage> Responder<L, S, W> {
     fn tell_taken_conflict(&mut self, stream: u32) -> Result<Answer, LiveFault>
         requires { HasStream self.old.numbers stream }
         ensures status { IfOk result (λ answer. answer.status ≡ status_of Conflict) }
-        ensures same { self.new ≡ record self.old { counts = self.new.counts } }
+        ensures same { self.new ≡ record self.old { counts = self.new.counts; service = self.new.service } }
+        ensures looked { HasLooked self.old.service self.new.service }
     {
         self.counts.conflicts = self.counts.conflicts.saturating_add(1);
-        let state = self.receiver_state(stream);
+        let summary = self.look(stream)?;
+        let state = self.receiver_state(stream, &summary);
         Ok(Answer::conflict_at_receiver(self.alloc, self.numbers.life(), stream, state)?)
     }
 }

@@ -1,10 +1,9 @@
-use Rattle.std.proofs.Common.{Ok, Err, refl, subst, sym}
+use Rattle.std.proofs.Common.{Ok, Err, subst, sym}
 use Rattle.std.specs.Prelude.{IfOk, OnOk, Result}
-use Rattle.amo_live.specs.Service.{words_of}
-use Rattle.amo_live.proofs.Fresh.{bears_none}
 use Rattle.amo_door.specs.declared.call.Call.{Call}
 use Rattle.amo_serve.specs.States.{TellsCall}
-use Rattle.amo_serve.proofs.Served.{each_serves}
+use Rattle.amo_serve.specs.declared.responder.Responder.{Responder}
+use Rattle.amo_serve.proofs.Served.{looked_bears, looked_serves}
 use Rattle.amo_serve.proofs.responder.Responder.respond.Goals as goal
 
 -- what holds whatever the result is
@@ -15,13 +14,13 @@ each_way (Err fault) p = tt
 -- nothing happens where it is told what became of a message
 pub returns-in-Outcome-clause-serves : goal.returns-in-Outcome-clause-serves
 returns-in-Outcome-clause-serves g c =
-    let before = c.args.self.now in
-    each_serves c.respond_to_outcome.result before.numbers before.service.host.pass
+    let counted : Responder g.row.L.Denot g.row.S.Denot g.row.W.Denot = record c.args.self.now { counts = record c.args.self.now.counts { requests = c.saturating_add-self.result } } in
+    each_way c.respond_to_outcome.result (looked_serves counted c.respond_to_outcome.new.self c.respond_to_outcome.ensures.looked)
 
 pub returns-in-Outcome-clause-words : goal.returns-in-Outcome-clause-words
 returns-in-Outcome-clause-words g c =
-    let service = c.args.self.now.service in
-    each_way c.respond_to_outcome.result (bears_none (words_of service) (words_of service) service.host.pass service.host.pass refl refl)
+    let counted : Responder g.row.L.Denot g.row.S.Denot g.row.W.Denot = record c.args.self.now { counts = record c.args.self.now.counts { requests = c.saturating_add-self.result } } in
+    each_way c.respond_to_outcome.result (looked_bears counted c.respond_to_outcome.new.self c.respond_to_outcome.ensures.looked)
 
 -- it is told one of two things, by what the question is
 told_either : {A T E : Type 0} (P Q : T → Type 0) (result : Result T E) → (A → IfOk result P) → (¬ A → IfOk result Q) → IfOk result (λ told. (A → P told) × (¬ A → Q told))

@@ -2,7 +2,7 @@ use Rattle.std.proofs.Common.{◌≡◌, None, refl, rules}
 use Rattle.amo_door.specs.declared.claim.Decision.TheVariants as decided
 use Rattle.amo_door.specs.declared.claim.Made.{Made}
 use Rattle.amo_door.specs.Numbers.{decision, last_of}
-use Rattle.amo_serve.specs.Serving.{IsMessage}
+use Rattle.amo_serve.specs.Serving.{CarriesMade}
 use Rattle.amo_serve.proofs.Served.{conflicting_take, made_before, said_of, still, taken_before}
 use Rattle.amo_serve.proofs.responder.Responder.take.Goals as goal
 
@@ -15,7 +15,7 @@ returns-in_ok-tell_taken-in-Again-clause-taken g c =
     let (made, is) = made_before s.life c.args.claim None last again in
     let answer = c.in_ok-tell_taken-in-Again.field-0 in
     taken_before s s v v c.args.claim made answer c.requires.stream again is refl (still v v refl)
-    (said_of (λ (m : Made). IsMessage c.args.claim.stream m answer) last made is c.in_ok-tell_taken-in-Again.ensures)
+    (said_of (λ (m : Made). CarriesMade c.args.claim.stream m answer) last made is c.in_ok-tell_taken-in-Again.ensures)
 
 pub returns-in_ok-tell_taken_conflict-in-Conflict-clause-taken : goal.returns-in_ok-tell_taken_conflict-in-Conflict-clause-taken
 returns-in_ok-tell_taken_conflict-in-Conflict-clause-taken g c =

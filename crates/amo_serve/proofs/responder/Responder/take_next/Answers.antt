@@ -7,7 +7,7 @@ use Rattle.amo_live.specs.Callers.{HappensAt, gets_in}
 use Rattle.amo_live.specs.Host.{puts_in}
 use Rattle.amo_door.specs.declared.claim.Made.{Made}
 use Rattle.amo_door.specs.Numbers.{last_of, made_for}
-use Rattle.amo_serve.specs.Serving.{IsMessage}
+use Rattle.amo_serve.specs.Serving.{CarriesMade}
 use Rattle.amo_serve.proofs.Served.{said_of, taken_now}
 use Rattle.amo_serve.proofs.responder.Responder.take_next.Goals as goal
 
@@ -29,4 +29,4 @@ returns-clause-taken g c =
     let at : HappensAt v w Receiver c.args.claim.stream act.Get (event_reply.Got message) place.position = rw (told, pass) one.1 in
     let last : last_of c.note_take.new.self c.args.claim.stream ≡ Some (made_for c.args.claim message place) = search rules in
     taken_now s c.note_take.new.self v w c.args.claim message place answer at (λ past keeps. c.note_take.ensures.turns past (rw start keeps)) puts gets
-    (said_of (λ (m : Made). IsMessage c.args.claim.stream m answer) (last_of c.note_take.new.self c.args.claim.stream) (made_for c.args.claim message place) last c.in_ok-tell_taken.ensures)
+    (said_of (λ (m : Made). CarriesMade c.args.claim.stream m answer) (last_of c.note_take.new.self c.args.claim.stream) (made_for c.args.claim message place) last c.in_ok-tell_taken.ensures)
