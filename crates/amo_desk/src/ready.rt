@@ -22,8 +22,10 @@ const LOOKING: u64 = 50;
 /// What a host waits for, by the numbers that the system has for them. A negative number is not waited for.
 #[derive(Clone, Copy)]
 pub struct Waited {
-    /// Where lines come from.
+    /// Where lines come from: it is waited for to have no writer any more.
     pub lines: i32,
+    /// And also for lines.
+    pub reads: bool,
     /// Where datagrams come from.
     pub socket: i32,
     /// Where messages go: it is waited for to be gone, as a pipe that nobody will read any more.
@@ -39,6 +41,8 @@ pub struct Waited {
 pub struct Ready {
     /// Lines may have come, or their end.
     pub lines: bool,
+    /// No more lines come than have: nobody writes any more.
+    pub is_last: bool,
     /// Datagrams may have come.
     pub socket: bool,
     /// There was something before it waited.
@@ -59,17 +63,31 @@ pub fn wait<C: Clock, L: Link, S: Sink, W: Lineage>(
 ) -> Ready
     ensures { Listened service.old service.new }
 {
-    let mut waited = [
-        watched(what.lines, net::POLLIN),
-        watched(what.socket, net::POLLIN),
-        watched(what.output, if what.takes { net::POLLOUT } else { 0 }),
-        watched(what.bell, net::POLLIN),
-    ];
+    let mut waited = all_of(what);
     let at_once = net::poll(&mut waited, 0) != 0;
     if !at_once && limit != 0 && !comes_soon(rt, service, &mut waited) {
         net::poll(&mut waited, limit);
     }
     found_in(&waited, at_once, service.has_come())
+}
+
+/// The same without a host: until what is waited for has come, or for so many milliseconds.
+pub fn wait_alone(what: Waited, limit: i32) -> Ready {
+    let mut waited = all_of(what);
+    net::poll(&mut waited, limit);
+    found_in(&waited, true, false)
+}
+
+/// What is waited for, as the system is asked for it.
+fn all_of(what: Waited) -> [pollfd; 4] {
+    let lines = if what.reads { net::POLLIN } else { 0 };
+    let output = if what.takes { net::POLLOUT } else { 0 };
+    [
+        watched(what.lines, lines | net::POLLRDHUP),
+        watched(what.socket, net::POLLIN),
+        watched(what.output, output),
+        watched(what.bell, net::POLLIN),
+    ]
 }
 
 /// Whether something comes while the host looks.
@@ -109,6 +127,7 @@ fn watched(number: i32, events: i16) -> pollfd {
 fn found_in(waited: &[pollfd; 4], at_once: bool, heard: bool) -> Ready {
     Ready {
         lines: waited[0].revents != 0,
+        is_last: waited[0].revents & !net::POLLIN != 0,
         socket: heard || waited[1].revents != 0,
         at_once,
         is_gone: waited[2].revents & !net::POLLOUT != 0,

@@ -1,6 +1,7 @@
 //! A live host's turns: it waits for its socket and its clients' lines, and does what has come.
-ghost use Rattle.std.specs.Prelude.{◌≡◌, ◌≢◌, ◌≤◌, ℕ, List, [], ◌∷◌, None, true, false, IfOk, OnOk, length, take};
+ghost use Rattle.std.specs.Prelude.{◌≡◌, ◌≢◌, ◌≤◌, ◌↔◌, ℕ, List, [], ◌∷◌, None, true, false, IfOk, OnOk, length, take};
 ghost use Rattle.std.specs.Io.KnownBytes.{Appends, Consumes};
+ghost use Rattle.amo_lines.specs.Backlog.{kept_on};
 ghost use Rattle.amo_lines.specs.Input.{Waits, is_torn};
 ghost use Rattle.amo_desk.specs.Serving.{Moves, Serves, message_of, moment};
 ghost use Rattle.amo_live.specs.Host.{IsNoted};
@@ -8,24 +9,28 @@ ghost use Rattle.amo_live.specs.Service.{Listened, shown_by, spelling_of, stream
 ghost use Rattle.amo_live.specs.Shown.{IsRefusing, IsShown, ShowsMore, behind};
 ghost use Rattle.amo_live.specs.Words.{BearsNew};
 ghost use Rattle.amo_live.specs.declared.limits.Ended.TheVariants.{AtRest};
+ghost use Rattle.amo_object.specs.declared.step.End.TheVariants.{Sender};
 
-use crate::ready::{Ready, Waited, takes_more, wait};
+use crate::ahead::{Ahead, read_byte};
+use crate::clock::{microseconds, milliseconds, started};
+use crate::ready::{Ready, Waited, takes_more, wait, wait_alone};
 use crate::stats::Stats;
 use crate::{Keeper, ServeFault};
 use amo_lines::{Backlog, Id, Input, Line, LineFault, NamedMessage, Spelling};
-use amo_live::{Bell, Durable, Ended, Figures, Limits, Lineage, MOST_DATAGRAMS, Notices, Service};
+use amo_live::{
+    Bell, Durable, Ended, Figures, Limits, Lineage, MOST_DATAGRAMS, Notices, Service, Setup,
+};
 use amo_net::Link;
+use amo_object::End;
 use amo_text::Sink;
 use std::alloc::{AllocError, Global};
 use std::io::{Read, Write};
+use std::os::fd::AsRawFd;
 use std::rt::Clock;
 use std::time::Instant;
 
-/// How long a receiver waits at its end for what is still on its way, in microseconds, where it was not told.
-const LINGER: u64 = 1_000_000;
-
-/// The longest that it waits without looking up, in microseconds.
-const LONGEST: u64 = 60_000_000;
+/// How long a receiver waits at its end for what is still on its way, in microseconds, where it was not told; and a sender, at least, for who reads.
+pub(crate) const LINGER: u64 = 1_000_000;
 
 /// How many bytes of messages are shown in a turn at most: what a pipe that says that it takes more takes without a wait.
 const ROOM: usize = 4096;
@@ -50,6 +55,8 @@ pub struct Desk<I, O> {
     pub socket_number: i32,
     /// The lines that have come.
     pub input: Input,
+    /// What is known of those that come behind them.
+    pub ahead: Ahead,
     /// How lines are spelt.
     pub spelling: Spelling,
     /// Lines are messages to be put. Otherwise none is read.
@@ -58,6 +65,41 @@ pub struct Desk<I, O> {
     pub kept: Backlog,
     /// Where the host is asked to come to its end.
     pub bell: Bell,
+}
+
+impl<I: Read + AsRawFd + Drop, O: Write + AsRawFd + Drop> Desk<I, O> {
+    /// The clients of a host of this set-up, of whom nothing was read and to whom nothing was shown: a host that sends takes lines from the reader, and one that
+    /// receives leaves it alone; answers and messages go to the output. The system waits for the host's socket by this number. Who rings the bell asks the
+    /// host to come to its end.
+    pub fn new(
+        alloc: Global,
+        setup: &Setup,
+        reader: I,
+        output: O,
+        number: i32,
+        bell: Bell,
+    ) -> Result<Desk<I, O>, AllocError>
+        ensures streams { IfOk result (λ desk. (desk.reader ≡ reader) × (desk.output ≡ output)) }
+        ensures spelling { IfOk result (λ desk. desk.spelling ≡ setup.now.spelling) }
+        ensures puts { IfOk result (λ desk. (desk.puts ≡ true) ↔ (setup.now.side ≡ Sender)) }
+        ensures input { IfOk result (λ desk. desk.input ≡ record { rest = []; skips = false; taken = 0; is_open = true }) }
+        ensures kept { IfOk result (λ desk. (stream : ℕ) → kept_on stream desk.kept ≡ []) }
+    {
+        Ok(Desk {
+            reader_number: reader.as_raw_fd(),
+            reader,
+            output_number: output.as_raw_fd(),
+            room: 0,
+            output,
+            socket_number: number,
+            input: Input::new(alloc)?,
+            ahead: Ahead::Unseen,
+            spelling: setup.spelling,
+            puts: setup.side == End::Sender,
+            kept: Backlog::new(alloc, setup.streams)?,
+            bell,
+        })
+    }
 }
 
 /// Makes one turn after another until the clients are done. The keeper looks at the host behind each.
@@ -100,18 +142,20 @@ pub fn serve<
         let now = microseconds(rt, &start)?;
         notices.tell(rt, service, now);
         stats.tell(rt, service, now);
+        let has_answers = !service.shown().is_empty();
         let is_over = limits.count.is_some_and(|count| count <= service.got());
-        since = (is_over || desk.takes_none()).then_some(since.unwrap_or(now));
+        since = (is_over || desk.takes_none(has_answers)).then_some(since.unwrap_or(now));
+        let end = end_of(limits, has_answers, since);
         let is_shown = service.shown().is_empty() && !service.has_unread();
         let is_at_rest = service.is_at_rest() && is_shown && desk.keeps_none();
         let holds = desk.bell.was_rung() && service.figures().held > 0;
-        if let Some(ended) = ending(limits, is_at_rest, holds, since, now) {
+        if let Some(ended) = ending(limits, since.is_some() && is_at_rest, holds, end, now) {
             tell_end(rt, service, desk, ended);
             stats.tell_last(rt, service, now);
             return Ok(desk.ended(ended));
         }
-        let until = stats.until(until(limits, service.next_due(), since));
-        turn(
+        let until = stats.until(until(service.next_due(), end));
+        let shown = turn(
             rt,
             service,
             desk,
@@ -119,6 +163,10 @@ pub fn serve<
             limits.sync,
             milliseconds(until, now),
         )?;
+        // Somebody reads answers that waited, and is given as long again.
+        if has_answers && shown > 0 && !desk.bell.was_rung() {
+            since = None;
+        }
         keeper.look(service)?;
         told_torn = told_torn || desk.tell_of_torn(rt);
     }
@@ -137,7 +185,7 @@ fn tell_end<C: Eprint, L: Link, S: Durable, W: Lineage, I: Read, O: Write>(
     desk.tell_of_unread(rt, service.shown().len());
 }
 
-/// One turn, which waits at most so many milliseconds.
+/// One turn, which waits at most so many milliseconds. Answers how many bytes were shown.
 fn turn<C: Clock + Eprint, L: Link, S: Durable, W: Lineage, I: Read, O: Write>(
     rt: &C,
     service: &mut Service<L, S, W>,
@@ -145,7 +193,7 @@ fn turn<C: Clock + Eprint, L: Link, S: Durable, W: Lineage, I: Read, O: Write>(
     start: &Instant,
     sync: bool,
     limit: i32,
-) -> Result<(), ServeFault>
+) -> Result<usize, ServeFault>
     requires { IsNoted S.written service.old.host }
     ensures noted { OnOk result (IsNoted S.written service.new.host) }
     ensures serves { OnOk result ((bytes : List ℕ) × Consumes (I.remaining desk.old.reader) (I.remaining desk.new.reader) bytes
@@ -169,18 +217,18 @@ fn turn<C: Clock + Eprint, L: Link, S: Durable, W: Lineage, I: Read, O: Write>(
     // After the datagrams: what they made room for is put before the host waits again.
     take_lines(rt, service, desk, now)?;
     service.host.write_down(sync)?;
-    hand_out(service, desk, text_first)?;
-    Ok(())
+    let count = hand_out(service, desk, text_first)?;
+    Ok(count)
 }
 
 /// Shows what is to be shown, and hands the packets that are to leave to the link. Text goes first where it has messages or what became of them: no ack
 /// leaves before its message was shown. That lines were taken is shown behind their packets, which others wait for. Answers that a sender's output does not
-/// take without a wait stay for a later turn.
+/// take without a wait stay for a later turn. Answers how many bytes were shown.
 fn hand_out<L: Link, S: Durable, W: Lineage, I: Read, O: Write>(
     service: &mut Service<L, S, W>,
     desk: &mut Desk<I, O>,
     text_first: bool,
-) -> Result<(), ServeFault>
+) -> Result<usize, ServeFault>
     requires noted { IsNoted S.written service.old.host }
     requires flushed { S.flushed service.old.host.journal.sink ≡ S.written service.old.host.journal.sink }
     ensures noted { IsNoted S.written service.new.host }
@@ -204,7 +252,7 @@ fn hand_out<L: Link, S: Durable, W: Lineage, I: Read, O: Write>(
     }
     // Whether the output takes more is asked while the peer is at work, and not while it waits.
     desk.room();
-    Ok(())
+    Ok(count)
 }
 
 /// Puts what came: first what waits, stream after stream, and then each line, until as many messages wait as may.
@@ -407,9 +455,10 @@ fn reason_of(alloc: Global, fault: LineFault, streams: usize) -> Result<String, 
     }
 }
 
-/// When the host ends at the latest, if it does. Since a time it takes no line, if so.
-fn end_of(limits: Limits, since: Option<u64>) -> Option<u64> {
+/// When the host ends at the latest, if it does. Since a time it takes no line, if so. Who reads its answers is given a moment at least.
+fn end_of(limits: Limits, has_answers: bool, since: Option<u64>) -> Option<u64> {
     let limit = match limits.wait {
+        Some(wait) if has_answers => wait.max(LINGER),
         Some(wait) => wait,
         None if limits.lingers => LINGER,
         None => return None,
@@ -417,18 +466,19 @@ fn end_of(limits: Limits, since: Option<u64>) -> Option<u64> {
     Some(since?.saturating_add(limit))
 }
 
-/// How the host ends, if it does now. One that was asked to come to its end and holds messages which were not got does not end at rest.
+/// How the host ends, if it does now: it takes no line any more and is at rest, or this is when it ends at the latest. One that was asked to come to its
+/// end and holds messages which were not got does not end at rest.
 fn ending(
     limits: Limits,
     is_at_rest: bool,
     holds: bool,
-    since: Option<u64>,
+    end: Option<u64>,
     now: u64,
 ) -> Option<Ended> {
-    if since.is_some() && is_at_rest {
+    if is_at_rest {
         return Some(Ended::AtRest);
     }
-    if now < end_of(limits, since)? {
+    if now < end? {
         return None;
     }
     if holds || limits.wait.is_some() {
@@ -438,9 +488,9 @@ fn ending(
     }
 }
 
-/// When it looks up at the latest.
-fn until(limits: Limits, due: Option<u64>, since: Option<u64>) -> Option<u64> {
-    match (due, end_of(limits, since)) {
+/// When it looks up at the latest: where something is to be sent again, or where it ends.
+fn until(due: Option<u64>, end: Option<u64>) -> Option<u64> {
+    match (due, end) {
         (Some(due), Some(end)) => Some(due.min(end)),
         (due, None) => due,
         (None, end) => end,
@@ -448,9 +498,11 @@ fn until(limits: Limits, due: Option<u64>, since: Option<u64>) -> Option<u64> {
 }
 
 impl<I: Read, O: Write> Desk<I, O> {
-    /// Whether no line is taken any more.
-    fn takes_none(&self) -> bool {
-        self.bell.was_rung() || !self.input.is_open()
+    /// Whether no line is taken any more; or none before who reads has answers that wait, and nobody writes more of them.
+    pub(crate) fn takes_none(&self, has_answers: bool) -> bool {
+        self.bell.was_rung()
+            || !self.input.is_open()
+            || (has_answers && self.ahead == Ahead::Last && !self.kept.is_full())
     }
 
     /// Whether no message waits to be put: none was refused, or the host comes to its end before.
@@ -458,19 +510,23 @@ impl<I: Read, O: Write> Desk<I, O> {
         self.bell.was_rung() || self.kept.is_empty()
     }
 
-    /// Tells which lines were not put, where the host was asked to come to its end.
-    fn tell_of_rest<C: Eprint>(&self, rt: &C) {
-        if !self.bell.was_rung() {
+    /// Tells which lines were not put, where the host was asked to come to its end, or nobody read its output.
+    pub(crate) fn tell_of_rest<C: Eprint>(&self, rt: &C) {
+        let why = if self.bell.was_rung() {
+            "was asked to come to its end"
+        } else if self.puts && self.input.is_open() {
+            "nobody reads its output"
+        } else {
             return;
-        }
+        };
         let (kept, lines) = (self.kept.len(), self.input.lines());
         let _ = if !self.puts {
-            eprintln!(rt; "amo: was asked to come to its end")
+            eprintln!(rt; "amo: {why}")
         } else if kept == 0 {
-            eprintln!(rt; "amo: was asked to come to its end: no line behind line {lines} was put")
+            eprintln!(rt; "amo: {why}: no line behind line {lines} was put")
         } else {
             eprintln!(rt;
-                "amo: was asked to come to its end: {kept} of the lines up to line {lines} were not put, and none behind it"
+                "amo: {why}: {kept} of the lines up to line {lines} were not put, and none behind it"
             )
         };
     }
@@ -505,8 +561,9 @@ impl<I: Read, O: Write> Desk<I, O> {
         }
     }
 
-    /// Waits, also until what waits to be shown can be, and reads lines once where some have come, unless as many messages wait to be put as may, or answers
-    /// to be shown. A host that puts none reads nothing, and ends where nobody reads its messages any more. Answers how many datagrams are to be taken.
+    /// Waits, also until what waits to be shown can be, and reads lines once where some have come, unless as many messages wait to be put as may. Where answers
+    /// wait to be shown it looks for the end of lines alone. A host that puts none reads nothing, and ends where nobody reads its messages any more. Answers
+    /// how many datagrams are to be taken.
     fn wait<C: Clock, L: Link, S: Sink, W: Lineage>(
         &mut self,
         rt: &C,
@@ -516,10 +573,11 @@ impl<I: Read, O: Write> Desk<I, O> {
         ensures listened { Listened service.old service.new }
         ensures unread { OnOk result (self.old.puts ≡ false → self.new.reader ≡ self.old.reader) }
         ensures waits { OnOk result ((bytes : List ℕ) × Consumes (I.remaining self.old.reader) (I.remaining self.new.reader) bytes × Waits self.old.input self.new.input bytes) }
-        ensures same { self.new ≡ record self.old { reader = self.new.reader; input = self.new.input; bell = self.new.bell } }
+        ensures same { self.new ≡ record self.old { reader = self.new.reader; input = self.new.input; ahead = self.new.ahead; bell = self.new.bell } }
     {
         let has_answers = self.puts && !service.shown().is_empty();
-        let reads = self.reads() && !has_answers;
+        let limit = self.limit(has_answers, limit);
+        let reads = self.reads();
         let what = self.waited(reads, has_answers, service.has_unread());
         let ready = wait(rt, service, what, limit);
         let datagrams = datagrams_in(&ready);
@@ -530,9 +588,58 @@ impl<I: Read, O: Write> Desk<I, O> {
             self.bell.hear()?;
         }
         if ready.lines && reads {
-            self.input.fill(&mut self.reader)?;
+            self.read(has_answers, ready.is_last)?;
         }
         Ok(datagrams)
+    }
+
+    /// How many milliseconds it waits, where it would so many: not at all where a byte was read as answers waited, which wait no longer. It may be the end of a
+    /// line, and nothing more come.
+    fn limit(&mut self, has_answers: bool, limit: i32) -> i32
+        ensures { self.new ≡ record self.old { ahead = self.new.ahead } }
+    {
+        if has_answers || self.ahead == Ahead::Unseen {
+            return limit;
+        }
+        self.ahead = Ahead::Unseen;
+        0
+    }
+
+    /// Waits until the output takes more of what a start tells, or for so many milliseconds. Meanwhile it is heard that the host is asked to come to its end,
+    /// and looked for the end of lines.
+    pub(crate) fn wait_to_tell(&mut self, limit: i32) -> Result<(), ServeFault>
+        ensures { self.new ≡ record self.old { reader = self.new.reader; input = self.new.input; ahead = self.new.ahead; bell = self.new.bell } }
+    {
+        let reads = self.reads();
+        let mut what = self.waited(reads, true, false);
+        what.socket = NOTHING;
+        let ready = wait_alone(what, limit);
+        if ready.bell {
+            self.bell.hear()?;
+        }
+        if ready.lines && reads {
+            self.read(true, ready.is_last)?;
+        }
+        Ok(())
+    }
+
+    /// Reads lines once, as some have come, or their end. Where answers wait to be shown a byte is read, once, and then it is looked whether anybody writes more:
+    /// so the end of lines is seen, and no more of them kept.
+    fn read(&mut self, has_answers: bool, is_last: bool) -> Result<(), ServeFault>
+        requires { self.old.input.is_open ≡ true }
+        ensures waits { OnOk result ((bytes : List ℕ) × Consumes (I.remaining self.old.reader) (I.remaining self.new.reader) bytes × Waits self.old.input self.new.input bytes) }
+        ensures same { self.new ≡ record self.old { reader = self.new.reader; input = self.new.input; ahead = self.new.ahead } }
+    {
+        if !has_answers {
+            self.input.fill(&mut self.reader)?;
+            return Ok(());
+        }
+        let is_unseen = self.ahead == Ahead::Unseen;
+        self.ahead = if is_last { Ahead::Last } else { Ahead::More };
+        if is_unseen {
+            read_byte(&mut self.input, &mut self.reader)?;
+        }
+        Ok(())
     }
 
     /// Whether lines are read now.
@@ -545,8 +652,14 @@ impl<I: Read, O: Write> Desk<I, O> {
 
     /// What is waited for, where lines are read or not, answers wait to be shown or not, and messages do.
     fn waited(&self, reads: bool, has_answers: bool, has_messages: bool) -> Waited {
+        let is_seen = has_answers && self.ahead == Ahead::Last;
         Waited {
-            lines: if reads { self.reader_number } else { NOTHING },
+            lines: if reads && !is_seen {
+                self.reader_number
+            } else {
+                NOTHING
+            },
+            reads: !has_answers || self.ahead == Ahead::Unseen,
             socket: self.socket_number,
             output: if self.puts && !has_answers {
                 NOTHING
@@ -625,7 +738,7 @@ impl<I: Read, O: Write> Desk<I, O> {
 
     /// How many of these bytes are shown now: at a sender whole lines, as far as there is room for them. So much less room is known then, and at a receiver
     /// none.
-    fn shown_now(&mut self, shown: &[u8]) -> usize
+    pub(crate) fn shown_now(&mut self, shown: &[u8]) -> usize
         ensures same { self.new ≡ record self.old { room = self.new.room } }
         ensures most { result ≤ length shown.now }
         ensures received { self.old.puts ≡ false → result ≡ length shown.now }
@@ -674,32 +787,5 @@ fn datagrams_in(ready: &Ready) -> u32 {
         (false, _) => 0,
         (true, false) => 1,
         (true, true) => MOST_DATAGRAMS,
-    }
-}
-
-/// When the turns began.
-fn started<C: Clock>(rt: &C) -> Result<Instant, ServeFault> {
-    match Instant::now(rt) {
-        Ok(start) => Ok(start),
-        Err(_) => Err(ServeFault::Clock),
-    }
-}
-
-/// How many microseconds have passed.
-fn microseconds<C: Clock>(rt: &C, start: &Instant) -> Result<u64, ServeFault> {
-    match start.elapsed(rt) {
-        Ok(passed) => Ok(u64::try_from(passed.as_micros()).unwrap_or(u64::MAX)),
-        Err(_) => Err(ServeFault::Clock),
-    }
-}
-
-/// How many milliseconds there are until a time, rounded up, as the system counts them. Without a time there is no limit.
-fn milliseconds(until: Option<u64>, now: u64) -> i32 {
-    match until {
-        None => -1,
-        Some(until) => {
-            let left = until.saturating_sub(now).min(LONGEST);
-            left.div_ceil(1000) as i32
-        }
     }
 }

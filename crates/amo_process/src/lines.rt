@@ -9,7 +9,7 @@ use crate::opening::{
 };
 use crate::stopping::hang_bell;
 use amo_client::check_address;
-use amo_desk::{ProcessFault, run_process};
+use amo_desk::{Desk, ProcessFault, ServeFault, Telling, run_process};
 use amo_disk::{Cause, Disk, Gathered, Opened, Start, open};
 use amo_live::{Aside, Bell, Durable, Ended, HostLives, Lineage, LiveFault, Plan, Socket};
 use amo_object::End;
@@ -205,7 +205,7 @@ fn prepare<'a, R: AllocGlobal + Eprint + Files<File = File> + Net + RandomSource
     })
 }
 
-/// Tells what became of messages of earlier lives, and runs the host.
+/// Tells what became of messages of earlier lives, and runs the host. One that is to end before all of that was read does not come to work.
 fn tell_and_run<
     R: AllocGlobal + Clock + Eprint + Files<File = File>,
     I: Read + AsRawFd + Drop,
@@ -227,43 +227,61 @@ fn tell_and_run<
 ) -> Result<Result<(Ended, Bell), ProcessFault>, HostFailure>
     requires { (1 ≤ plan.setup.streams) × (plan.setup.streams ≤ 256) }
 {
-    let mut output = output;
-    let retold = tell_earlier(rt, path, start.lines, &plan, &mut output)?;
-    let mut marker = Marker::new(rt, path, &plan, &retold)?;
     let number = socket.number();
+    let mut desk = Desk::new(rt.alloc(), &plan.setup, input, output, number, bell)?;
+    let Some(retold) = tell_earlier(rt, path, start.lines, &plan, &mut desk)? else {
+        return Ok(Ok((Ended::OnItsWay, desk.bell)));
+    };
+    let mut marker = Marker::new(rt, path, &plan, &retold)?;
     Ok(run_process(
         rt,
         plan,
-        input,
-        output,
+        desk,
         socket,
-        number,
         disk,
         start,
         words,
-        bell,
         retold.in_doubt.as_slice(),
         &mut marker,
     ))
 }
 
-/// Tells, where the host is a sender, what became of the messages of its earlier lives, which are on so many lines of its journal.
-fn tell_earlier<R: AllocGlobal + Eprint + Files<File = File>, O: Write>(
+/// Tells, where the host is a sender, what became of the messages of its earlier lives, which are on so many lines of its journal. None where it is to end
+/// before all of that was read: then it is not kept that it was told.
+fn tell_earlier<R: AllocGlobal + Clock + Eprint + Files<File = File>, I: Read, O: Write>(
     rt: &R,
     path: &str,
     lines: u64,
     plan: &Plan,
-    output: &mut O,
-) -> Result<Retold, HostFailure> {
+    desk: &mut Desk<I, O>,
+) -> Result<Option<Retold>, HostFailure> {
     if plan.setup.side == End::Receiver {
-        return Ok(Retold {
+        return Ok(Some(Retold {
             in_doubt: Vec::new(rt.alloc()),
             is_whole: true,
-        });
+        }));
     }
     let errors = Aside::new(rt);
-    match tell_untold(rt, &errors, path, lines, plan.setup.spelling.json, output) {
-        Ok(retold) => Ok(retold),
-        Err(fault) => Err(HostFailure::of_retelling(fault)),
+    let mut telling = match Telling::new(rt, desk, plan.limits.wait) {
+        Ok(telling) => telling,
+        Err(fault) => return Err(failed(fault)),
+    };
+    let json = plan.setup.spelling.json;
+    let fault = match tell_untold(rt, &errors, path, lines, json, &mut telling) {
+        Ok(retold) => return Ok(Some(retold)),
+        Err(fault) => fault,
+    };
+    match telling.is_over() {
+        Ok(true) => {
+            telling.tell_end(&errors);
+            Ok(None)
+        }
+        Ok(false) => Err(HostFailure::of_retelling(fault)),
+        Err(fault) => Err(failed(fault)),
     }
+}
+
+/// A host cannot go on, for this reason.
+fn failed(fault: ServeFault) -> HostFailure {
+    HostFailure::Host(ProcessFault::Serve(fault))
 }

@@ -54,7 +54,7 @@ returns-clause-shown g c =
     let to_lines = shows_after spelling (spelling_of c.resend.new.self) v c.resend.new.self.host.pass c.take_lines.new.service.host.pass old resent taken spells to_resend c.in_ok-take_lines.ensures.shown in
     let synced : c.write_down.new.self.pass ≡ c.take_lines.new.service.host.pass = ap (λ (t : HostState g.row.L.Denot g.row.S.Denot). t.pass) c.in_ok-write_down.ensures.same in
     let sent : c.hand_out.new.service.host.pass ≡ c.write_down.new.self.pass = search rules in
-    let shown = c.in_ok-hand_out.ensures.shown in
+    let shown = c.in_ok-count.ensures.shown in
     let appends : Appends (g.O.Write.contents c.args.desk.now.output) (g.O.Write.contents c.hand_out.new.desk.output) shown.0 = search rules in
     shown_part spelling v c.take_lines.new.service.host.pass c.hand_out.new.service.host.pass old taken (shown_by c.hand_out.new.service) (g.O.Write.contents c.args.desk.now.output) (g.O.Write.contents c.hand_out.new.desk.output)
     shown.0 (sent ∙ synced) to_lines appends shown.2
