@@ -12,6 +12,7 @@
 mod due;
 mod fault;
 mod pace;
+mod spacing;
 mod timers;
 mod window;
 

@@ -4,6 +4,7 @@ ghost use Rattle.std.specs.Bool.{OnFalse};
 ghost use Rattle.std.specs.List.Sorted.{IsStrictlyIncreasing};
 ghost use Rattle.amo_window.specs.Timers.{resting};
 
+use crate::spacing::Spacing;
 use crate::{Due, Pace, WindowFault};
 use std::alloc::{AllocError, Global};
 use std::marker::Model;
@@ -69,9 +70,10 @@ impl Timer {
 /// after the next, then 4, and so on up to 64, which then stays; or at another [`Pace`]. It starts anew once it is stopped.
 ///
 /// The room is made once, by [`Timers::new`] or [`Timers::paced`]; no other call takes memory. [`Timers::sent`] and [`Timers::stop`] find
-/// their stream by a binary search, and [`Timers::due`] goes over the streams once.
+/// their stream at once where all follow at equal distances, else by a binary search, and [`Timers::due`] goes over the streams once.
 #[derive(Drop)]
 pub struct Timers {
+    spacing: Spacing,
     timers: Vec<Timer>,
 }
 
@@ -112,7 +114,10 @@ impl Timers {
             return Err(WindowFault::Limits);
         }
         let timers = unset_timers(alloc, pace, streams)?;
-        Ok(Timers { timers })
+        Ok(Timers {
+            spacing: Spacing::of(streams),
+            timers,
+        })
     }
 
     /// Something was sent on this stream at this time: the stream is due again one interval later, or at `u64::MAX`
@@ -182,6 +187,18 @@ impl Timers {
 
     /// The place of the timer of this stream.
     fn find(&self, stream: u32) -> Option<usize>
+        ensures found { IfSome result (λ place. slice_get (streams_of self.now) place ≡ Some stream) }
+        ensures absent { IfNone result (¬ (Contains (streams_of self.now) stream)) }
+    {
+        let place = self.spacing.place(stream);
+        match self.timers.get(place) {
+            Some(timer) if timer.stream == stream => Some(place),
+            _ => self.search(stream),
+        }
+    }
+
+    /// The place, wherever it is.
+    fn search(&self, stream: u32) -> Option<usize>
         ensures found { IfSome result (λ place. slice_get (streams_of self.now) place ≡ Some stream) }
         ensures absent { IfNone result (¬ (Contains (streams_of self.now) stream)) }
     {

@@ -2,7 +2,7 @@ use Rattle.std.proofs.Common.{rules}
 use Rattle.std.proofs.lemmas.List.Sorted.{answers_always}
 use Rattle.amo_window.specs.Timers.{unset}
 use Rattle.amo_window.proofs.Rising.{searched}
-use Rattle.amo_window.proofs.timers.Timers.find.Goals as goal
+use Rattle.amo_window.proofs.timers.Timers.search.Goals as goal
 
 -- the closure gives a timer's stream, and the slice is the list of timers
 pub returns : goal.returns
