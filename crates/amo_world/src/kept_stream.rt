@@ -25,7 +25,9 @@ pub(crate) struct KeptStream {
 }
 
 impl KeptStream {
+    ghost use Rattle.std.specs.Borrow.{sem};
     ghost use Rattle.amo_world.specs.Stream.{initial};
+    ghost use Rattle.amo_world.specs.KeptStream.{LendsSide};
 
     /// The stream of this number, with nothing done yet.
     pub(crate) fn new(alloc: Global, number: u32) -> KeptStream
@@ -43,6 +45,18 @@ impl KeptStream {
         match side {
             End::Sender => &self.sender,
             End::Receiver => &self.receiver,
+        }
+    }
+
+    // Inlined, as what passes through it.
+    #[inline(always)]
+    fn side_mut(&mut self, side: End) -> &mut KeptSide
+        ensures* writes_back { sem 𝓛 (LendsSide self.entry side result) }
+        ensures value { result.now ≡ side_of self.old side }
+    {
+        match side {
+            End::Sender => &mut self.sender,
+            End::Receiver => &mut self.receiver,
         }
     }
 
@@ -79,10 +93,7 @@ impl KeptStream {
         ensures log { IsSameLog log.old log.new }
         ensures room { OnOk result (HasRoom log.new) }
     {
-        match side {
-            End::Sender => self.sender.note(alloc, act, log),
-            End::Receiver => self.receiver.note(alloc, act, log),
-        }
+        self.side_mut(side).note(alloc, act, log)
     }
 
     /// Makes the act of an event, whose emission was noted.
@@ -92,9 +103,6 @@ impl KeptStream {
         ensures index { (side_of self.new side).index ≡ (side_of self.old side).index }
         ensures other { side_of self.new (other side) ≡ side_of self.old (other side) }
     {
-        match side {
-            End::Sender => self.sender.advance(act),
-            End::Receiver => self.receiver.advance(act),
-        }
+        self.side_mut(side).advance(act);
     }
 }
