@@ -190,7 +190,11 @@ impl Timers {
         ensures found { IfSome result (λ place. slice_get (streams_of self.now) place ≡ Some stream) }
         ensures absent { IfNone result (¬ (Contains (streams_of self.now) stream)) }
     {
-        let place = self.spacing.place(stream);
+        let first = self.timers.first()?.stream;
+        if first == stream {
+            return Some(0);
+        }
+        let place = self.spacing.places_between(first, stream);
         match self.timers.get(place) {
             Some(timer) if timer.stream == stream => Some(place),
             _ => self.search(stream),
