@@ -1,7 +1,6 @@
 //! What a host tells of its figures, where it is to.
-use amo_live::{Figures, Lineage, Service};
+use amo_live::{Durable, Figures, Lineage, Service};
 use amo_net::Link;
-use amo_text::Sink;
 
 const SECOND: u64 = 1_000_000;
 
@@ -33,7 +32,7 @@ impl Stats {
     }
 
     /// Tells them, if it is time.
-    pub(crate) fn tell<C: Eprint, L: Link, S: Sink, W: Lineage>(
+    pub(crate) fn tell<C: Eprint, L: Link, S: Durable, W: Lineage>(
         &mut self,
         rt: &C,
         service: &Service<L, S, W>,
@@ -49,7 +48,7 @@ impl Stats {
     }
 
     /// Tells them at the end.
-    pub(crate) fn tell_last<C: Eprint, L: Link, S: Sink, W: Lineage>(
+    pub(crate) fn tell_last<C: Eprint, L: Link, S: Durable, W: Lineage>(
         &self,
         rt: &C,
         service: &Service<L, S, W>,
@@ -62,7 +61,7 @@ impl Stats {
 }
 
 /// Tells a host's figures, so long after its start.
-fn tell_figures<C: Eprint, L: Link, S: Sink, W: Lineage>(
+fn tell_figures<C: Eprint, L: Link, S: Durable, W: Lineage>(
     rt: &C,
     service: &Service<L, S, W>,
     now: u64,
@@ -81,12 +80,13 @@ fn tell_figures<C: Eprint, L: Link, S: Sink, W: Lineage>(
         line,
         bytes,
     } = service.figures();
+    let pieces = service.host.pieces_begun();
     let times = service.times();
     let half = times.within(500).unwrap_or(0);
     let most = times.within(990).unwrap_or(0);
     let seconds = now / SECOND;
     let _ = eprintln!(rt;
-        "amo: stats: seconds={seconds} put={put} got={got} yes={yes} no={no} waiting={waiting} held={held} open={open} handshakes={ended} p50_us={half} p99_us={most} sent={} again={} received={} unread={} foreign={} idle={} faults={} line={line} bytes={bytes}",
+        "amo: stats: seconds={seconds} put={put} got={got} yes={yes} no={no} waiting={waiting} held={held} open={open} handshakes={ended} p50_us={half} p99_us={most} sent={} again={} received={} unread={} foreign={} idle={} faults={} line={line} bytes={bytes} pieces={pieces}",
         traffic.sent,
         traffic.again,
         traffic.received,

@@ -34,6 +34,9 @@ pub trait Durable: Sink {
         ensures on_disk { OnOk result (on_disk self.new ≡ Self.written self.new) }
         ensures calm { OnOk result (Self.failures self.new ≡ Self.failures self.old) }
         ensures failed { OnErr result (Self.failures self.new ≡ Self.failures self.old + 1) };
+
+    /// How many pieces of a journal it has begun, if it has pieces. It is a figure, of which no contract speaks.
+    fn pieces_begun(&self) -> u64;
 }
 
 impl<W: Syncs, L: Ledger> Durable for Disk<'_, W, L> {
@@ -51,5 +54,9 @@ impl<W: Syncs, L: Ledger> Durable for Disk<'_, W, L> {
             Ok(()) => Ok(()),
             Err(error) => Err(self.failed(Cause::from(error))),
         }
+    }
+
+    fn pieces_begun(&self) -> u64 {
+        self.writer.pieces_begun()
     }
 }

@@ -95,4 +95,8 @@ impl<S: Durable> Durable for Gathered<S> {
         self.hand_on()?;
         self.sink.sync()
     }
+
+    fn pieces_begun(&self) -> u64 {
+        self.sink.pieces_begun()
+    }
 }

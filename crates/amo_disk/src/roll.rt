@@ -24,6 +24,8 @@ pub struct Roll<F: Folder> {
     limit: u64,
     sync: bool,
     newest: Newest,
+    /// How many pieces it has begun.
+    begun: u64,
     // A piece that was begun in part is no place for lines, and neither is one whose bytes nobody can count.
     is_broken: bool,
 }
@@ -57,8 +59,14 @@ impl<F: Folder> Roll<F> {
             limit,
             sync,
             newest,
+            begun: 0,
             is_broken: false,
         }
+    }
+
+    /// How many pieces it has begun.
+    pub fn begun(&self) -> u64 {
+        self.begun
     }
 
     /// The folder. Each piece in it but the newest was closed between two lines, with `limit` bytes at least; and what was begun here has less in front
@@ -94,6 +102,7 @@ impl<F: Folder> Write for Roll<F> {
             return Err(io::Error::from(ErrorKind::BrokenPipe));
         }
         self.is_broken = true;
+        let is_full = self.newest.is_full(self.limit);
         let newest = make_room(
             &mut self.folder,
             self.version,
@@ -101,6 +110,7 @@ impl<F: Folder> Write for Roll<F> {
             self.sync,
             self.newest,
         )?;
+        self.begun = self.begun.saturating_add(u64::from(is_full));
         match append_part(&mut self.folder, self.limit, newest, bytes) {
             Ok((count, next)) => {
                 if let Some(next) = next {

@@ -17,6 +17,9 @@ pub trait Syncs: Write {
     fn put_on_disk(&mut self) -> io::Result<()>
         ensures kept { Keeps (Self.contents self.old) (Self.contents self.new) }
         ensures on_disk { OnOk result (on_disk self.new ≡ Self.contents self.new) };
+
+    /// How many pieces it has begun, if it has pieces. It is a figure, of which no contract speaks.
+    fn pieces_begun(&self) -> u64;
 }
 
 /// What a loss of power leaves of a folder's pieces.
@@ -31,6 +34,10 @@ impl<F: Folder> Syncs for Roll<F> {
         self.sync()?;
         Ok(())
     }
+
+    fn pieces_begun(&self) -> u64 {
+        self.begun()
+    }
 }
 
 /// The system's word for it: nobody tells what is in a file.
@@ -42,5 +49,9 @@ impl Syncs for File {
     fn put_on_disk(&mut self) -> io::Result<()> {
         self.sync_data()?;
         Ok(())
+    }
+
+    fn pieces_begun(&self) -> u64 {
+        0
     }
 }

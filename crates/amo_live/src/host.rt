@@ -258,6 +258,11 @@ impl<L: Link, S: Sink> Host<L, S> {
 }
 
 impl<L: Link, S: Durable> Host<L, S> {
+    /// How many pieces of its journal it has begun.
+    pub fn pieces_begun(&self) -> u64 {
+        self.journal.pieces_begun()
+    }
+
     /// Hands the journal's lines to the system, and with `sync` puts them on the disk. It fails where the journal's sink does, and only there.
     pub fn write_down(&mut self, sync: bool) -> Result<(), LiveFault>
         requires { IsNoted S.written self.old }

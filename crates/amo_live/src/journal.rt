@@ -166,6 +166,11 @@ impl<S: Sink> Journal<S> {
 }
 
 impl<S: Durable> Journal<S> {
+    /// How many pieces it has begun since it was opened.
+    pub fn pieces_begun(&self) -> u64 {
+        self.sink.pieces_begun()
+    }
+
     /// Hands all lines to the system. It fails where the sink does, and only there.
     #[tactic(auto, using(crate::proofs::Onwards::holds_kept))]
     pub fn flush(&mut self) -> Result<(), LiveFault>
