@@ -3,6 +3,7 @@ ghost use Rattle.std.specs.Prelude.{◌≤◌, IfOk, length};
 
 use crate::fault::OfflineFault;
 use crate::identity::{Identity, identity_of, open_file, put_on_disk};
+use crate::line_place::place_before;
 use crate::names::{numbers_of, piece_name};
 use amo_journal::Version;
 use amo_text::{cut, read_decimal};
@@ -27,6 +28,8 @@ pub(crate) struct Followed {
     /// The greatest number of those that were taken up, or 0.
     last: u64,
     piece: Option<Piece>,
+    /// The version of those lines of the piece that were passed unread.
+    version: Version,
 }
 
 /// A piece that is open.
@@ -51,10 +54,12 @@ impl Followed {
             passed: 0,
             last: 0,
             piece: None,
+            version: Version::One,
         })
     }
 
-    /// The journal of this name, of which nothing was read, from the piece on that has the line of this number. The pieces before it are passed.
+    /// The journal of this name, of which nothing was read, from a line on that is close in front of the one of this number, or is it. The pieces before that
+    /// are passed, and the lines of its own piece.
     pub(crate) fn from_line<R: AllocGlobal + Files<File = File>>(
         rt: &R,
         name: &str,
@@ -67,7 +72,29 @@ impl Followed {
             followed.last = *last;
         }
         followed.passed = passed;
+        if line > 0 && followed.open_next(rt)? {
+            followed.pass_lines(line)?;
+        }
         Ok(followed)
+    }
+
+    /// Passes lines of the piece that stand in front of the one of this number.
+    fn pass_lines(&mut self, line: u64) -> Result<(), OfflineFault> {
+        let Some(piece) = self.piece.as_mut() else {
+            return Ok(());
+        };
+        match piece.pass_lines(line) {
+            Ok(version) => {
+                self.version = version;
+                Ok(())
+            }
+            Err(error) => Err(OfflineFault::of_file(self.alloc, piece.name.as_str(), error)),
+        }
+    }
+
+    /// The version of those lines of the first piece that were passed unread.
+    pub(crate) fn version(&self) -> Version {
+        self.version
     }
 
     /// The name of the file that is read, or that is waited for.
@@ -252,6 +279,23 @@ impl Piece {
             return Err(io::Error::from(ErrorKind::InvalidData));
         }
         self.file.read_at(room, self.offset)
+    }
+
+    /// Passes lines that stand in front of the one of this number, and the heading with them. Answers the version of the piece.
+    fn pass_lines(&mut self, line: u64) -> io::Result<Version> {
+        let mut front = [0u8; FRONT];
+        let count = self.file.read_at(&mut front, 0)?;
+        let bytes = &front[..count.min(front.len())];
+        let (version, begin) = match bytes.strip_prefix(Version::Two.heading()) {
+            Some(lines) => (Version::Two, bytes.len().saturating_sub(lines.len())),
+            None => (Version::One, 0),
+        };
+        let begin = begin as u64;
+        let place = place_before(&self.file, begin, self.file.metadata()?.len(), line)?;
+        if place > begin {
+            self.offset = place;
+        }
+        Ok(version)
     }
 }
 

@@ -18,6 +18,7 @@ mod following;
 mod got;
 mod identity;
 mod judging;
+mod line_place;
 mod names;
 mod pieces;
 mod progress;

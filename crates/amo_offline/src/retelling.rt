@@ -268,14 +268,16 @@ impl<'a> Retelling<'a> {
         first: u64,
         recalled: Option<Untold>,
     ) -> Result<Retelling<'a>, OfflineFault> {
+        let journal = Followed::from_line(rt, name, first)?;
+        let version = journal.version();
         Ok(Retelling {
-            journal: Followed::from_line(rt, name, first)?,
+            journal,
             room: vec![in rt.alloc(); 0u8; ROOM]?,
             last: Vec::new(rt.alloc()),
             found: Found {
                 alloc: rt.alloc(),
                 name,
-                version: Version::One,
+                version,
                 sought: Sought::Line(first),
                 before_gaps: Vec::new(rt.alloc()),
                 begun: 0,
