@@ -6,5 +6,6 @@ pub mod Blame
 pub mod Appends
 pub mod Alike
 pub mod Onward
+pub mod Incoming
 pub mod Written
 pub mod Settled

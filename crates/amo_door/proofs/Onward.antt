@@ -145,6 +145,7 @@ comes_behind a b c (Some (Call call message)) first next = record {
   bounded = next.bounded;
   stage = next.stage;
   has_begun = next.has_begun;
+  asks = next.asks;
   has_ended = next.has_ended ∙ first.has_ended;
   thrown = next.thrown ∙ first.thrown;
   answered = omega (arith, first.answered, next.answered);
@@ -167,7 +168,7 @@ failing (Ok done) old new on = tt
 failing (Err fault) old new on = on
 
 -- a request has begun
-pub begins_on : (old new : ConnectionState) → new ≡ record old { wants_head = new.wants_head; has_begun = true } → GoesOn old new
+pub begins_on : (old new : ConnectionState) → new ≡ record old { wants_head = new.wants_head; has_begun = true; asks = new.asks; body = [] } → GoesOn old new
 begins_on old new is = subst (GoesOn old) (sym is) (record {
   input = rest_same old.input;
   output = extends_same old.output;

@@ -1,13 +1,14 @@
 -- What connections come to where they write.
-use Rattle.std.proofs.Common.{◌≡◌, Bool, true, false, List, ℕ, ◌++◌, length, ◌∙◌, ap, subst, sym, inl, inr, refl}
+use Rattle.std.proofs.Common.{◌≡◌, ◌⊎◌, Bool, true, false, List, ℕ, ◌++◌, length, ◌∙◌, ap, subst, sym, inl, inr, refl}
 use Rattle.std.specs.Prelude.{Option, None, Some, Result, Ok, Err, OnOk, ◌==◌, if◌then◌else◌}
 use Rattle.std.proofs.lemmas.Bool.{false≢true}
 use Rattle.http1.specs.declared.error.WriteError.{WriteError}
 use Rattle.http1.specs.declared.error.WriteError.TheVariants as fault
 use Rattle.http1.specs.declared.server.Server.{Server}
 use Rattle.amo_door.specs.declared.connection.Stage.TheVariants as stage
-use Rattle.amo_door.specs.Connection.{ConnectionState, Ends, Settles, Spells, closed}
-use Rattle.amo_door.specs.Spelling.{Writes}
+use Rattle.amo_door.specs.declared.answer.Answer.{Answer}
+use Rattle.amo_door.specs.Connection.{ConnectionState, Ends, PassesOver, Settles, Spells, SpellsAnswer, closed, counted, over}
+use Rattle.amo_door.specs.Spelling.{Writes, after_answer, answer_fault, answer_text}
 
 -- a fault ends the connection, unless it is that memory was refused, which the call tells
 pub settled_badly : {T : Type 0} (E : Type 0) (e : WriteError) (mid new : ConnectionState) (done : T) → Settles {T = T} {E = E} mid (Err e) (Ok done) new → Ends new.stage
@@ -49,3 +50,20 @@ ends_either false = inl refl
 pub spells_closed : (why : Option WriteError) (text : List ℕ) (server : Server) (old : List ℕ) (mid new : ConnectionState) → Spells why text server old mid → new ≡ closed mid → Spells why text server old new
 spells_closed None text server old mid new (output, goes) is = (ap (λ (c : ConnectionState). c.output) is ∙ output, ap (λ (c : ConnectionState). c.server) is ∙ goes)
 spells_closed (Some fault) text server old mid new ends is = subst Ends (sym (ap (λ (c : ConnectionState). c.stage) is)) (ends_either (length mid.output == 0))
+
+-- an answer was written to a request that is refused: the next one is read, or none
+pub passes_over : {T E : Type 0} (r : Result T E) (old new : ConnectionState) (answer : Answer) → OnOk r (SpellsAnswer answer false old new) → OnOk r ((new ≡ counted old new.output new.server) ⊎ (new ≡ over (counted old new.output new.server)))
+    → OnOk r (Ends new.stage ⊎ PassesOver old new)
+passes_over (Err e) old new answer spelt counts = tt
+passes_over (Ok done) old new answer spelt (inr is) = inl (inr (ap (λ (c : ConnectionState). c.stage) is))
+passes_over (Ok done) old new answer spelt (inl is) = go (answer_fault old.server answer old.wants_head false) spelt
+  where
+    go : (fault : Option WriteError) → Spells fault (answer_text old.server answer old.wants_head false) (after_answer old.server answer false) old.output new → Ends new.stage ⊎ PassesOver old new
+    go (Some fault) ends = inl ends
+    go None (output, server) = inr (record {
+      stage = ap (λ (c : ConnectionState). c.stage) is;
+      input = ap (λ (c : ConnectionState). c.input) is;
+      asks = ap (λ (c : ConnectionState). c.asks) is;
+      answer = answer;
+      server = server;
+    })

@@ -3,14 +3,16 @@ use Rattle.std.specs.Prelude.{◌≡◌, ◌⊎◌, ℕ, ◌+◌, ◌-◌, ◌^�
 use Rattle.http1.specs.Conn.{after_data, data_refusal, data_text}
 use Rattle.http1.specs.Fields.{Header}
 use Rattle.http1.specs.ReadError.{is_line_end}
-use Rattle.http1.specs.Server.{IsClosed, after_response, new_server, planned_response, response_refusal, with_writing, writing}
+use Rattle.http1.specs.Server.{IsClosed, after_response, new_server, planned_response, reading, response_refusal, with_writing, writing}
 use Rattle.http1.specs.declared.conn.BodySize.{BodySize}
+use Rattle.http1.specs.declared.conn.Limits.{Limits}
 use Rattle.http1.specs.declared.conn.BodySize.TheVariants.{Empty, Known, Unknown}
 use Rattle.http1.specs.declared.error.WriteError.{WriteError}
 use Rattle.http1.specs.declared.error.WriteError.TheVariants as WriteFault
 use Rattle.http1.specs.declared.server.Server.{Server}
 use Rattle.amo_door.specs.declared.answer.Answer.{Answer}
 use Rattle.amo_door.specs.declared.answer.Kind.TheVariants.{Json}
+use Rattle.amo_door.specs.declared.call.Call.{Call as CallAsked}
 use Rattle.amo_door.specs.declared.connection.Phase.{Phase}
 use Rattle.amo_door.specs.declared.connection.Phase.TheVariants as phase
 use Rattle.amo_door.specs.declared.connection.Stage.{Stage}
@@ -34,6 +36,10 @@ pub record ConnectionState : Type 0 where
   pub stage : Stage
   -- the head of a request was read, and its body has not come whole
   pub has_begun : Bool
+  -- the call that this head asks for, or why it is refused
+  pub asks : Option (Result CallAsked Refusal)
+  -- what came of this body
+  pub body : List ℕ
   -- the client sends no more
   pub has_ended : Bool
   -- how many bytes were thrown away behind a refusal
@@ -41,13 +47,21 @@ pub record ConnectionState : Type 0 where
   -- how many requests were answered
   pub answered : ℕ
 
--- HTTP/1 before a request, with the most bytes of a head, of a chunk's extensions and of what stands behind a body
+-- the most bytes of a head, of a chunk's extensions and of what stands behind a body
+abbrev pub door_limits : Limits
+door_limits = record { max_head_len = 16384; max_extensions_len = 1024; max_trailers_len = 1024 }
+
+-- HTTP/1 before a request, within these limits
 abbrev pub unused_server : Server
-unused_server = new_server (record { max_head_len = 16384; max_extensions_len = 1024; max_trailers_len = 1024 })
+unused_server = new_server door_limits
+
+-- the limits within which HTTP/1 reads
+abbrev pub limits_of : Server → Limits
+limits_of server = server.limits
 
 -- a connection on which nothing came
 abbrev pub unused : ConnectionState
-unused = record { input = []; output = []; server = unused_server; wants_head = false; stage = stage.Reading; has_begun = false; has_ended = false; thrown = 0; answered = 0 }
+unused = record { input = []; output = []; server = unused_server; wants_head = false; stage = stage.Reading; has_begun = false; asks = None; body = []; has_ended = false; thrown = 0; answered = 0 }
 
 -- what one is at where requests are read
 abbrev pub reading_phase : Bool → ℕ → Phase
@@ -97,7 +111,7 @@ over c = record c { stage = stage.Over }
 
 -- what was not read is dropped, and no more is read; what is pending is sent
 abbrev pub closed : ConnectionState → ConnectionState
-closed c = record c { input = []; has_begun = false; stage = if length c.output == 0 then stage.Over else stage.Closing }
+closed c = record c { input = []; has_begun = false; asks = None; stage = if length c.output == 0 then stage.Over else stage.Closing }
 
 -- the empty lines that may stand in front of a request, and what is behind them
 abbrev pub blank_length : List ℕ → ℕ
@@ -181,6 +195,7 @@ pub record IsAsked (old new : ConnectionState) : Type 0 where
   pub bounded : length new.output ≤ 65536
   pub stage : new.stage ≡ stage.Asked
   pub has_begun : new.has_begun ≡ false
+  pub asks : new.asks ≡ None
   pub has_ended : new.has_ended ≡ old.has_ended
   pub thrown : new.thrown ≡ old.thrown
   pub answered : old.answered ≤ new.answered
@@ -305,3 +320,25 @@ abbrev pub SpellsText : List ℕ → ConnectionState → ConnectionState → Typ
 SpellsText text old new =
     Spells (data_refusal (writing old.server) (length text)) (data_text (writing old.server) text)
     (with_writing old.server (after_data (writing old.server) (length text))) old.output new
+
+-- it reads on as before, though something more is to be sent
+pub record ReadsTheSame (old new : ConnectionState) : Type 0 where
+  pub kept : new ≡ record old { output = new.output; server = new.server }
+  pub reads : reading new.server ≡ reading old.server
+  pub writes : writing new.server ≡ writing old.server
+  pub limits : limits_of new.server ≡ limits_of old.server
+
+-- a request that was refused and came whole was answered: the next one is read
+pub record PassesOver (old new : ConnectionState) : Type 0 where
+  pub stage : new.stage ≡ old.stage
+  pub input : new.input ≡ old.input
+  pub asks : new.asks ≡ old.asks
+  pub answer : Answer
+  pub server : new.server ≡ after_answer old.server answer false
+
+-- what a request that came whole comes to: its message is its body; or it was refused, and the next one is read, or none
+abbrev pub Finishes : ConnectionState → ConnectionState → Option Step → Type 0
+Finishes old new (Some (Call call message)) = (old.asks ≡ Some (Ok call)) × (message ≡ old.body) × (new ≡ record old { stage = stage.Asked; has_begun = false; asks = None })
+Finishes old new (Some _) = Ends new.stage
+Finishes old new None =
+    ((old.asks ≡ None) × (new ≡ old)) ⊎ ((why : Refusal) × (old.asks ≡ Some (Err why)) × (Ends new.stage ⊎ PassesOver (record old { has_begun = false; asks = None }) new))

@@ -49,10 +49,13 @@ admits_with (Some token) field = brings (string_bytes token) field
 abbrev pub admits_token : Guard → Option (List ℕ) → Bool
 admits_token guard field = admits_with guard.token field
 
--- whether a request may ask, and why not
+-- whether a request may ask that says this of its host, its origin, how far away its page is, and who it is, and why not
+abbrev pub verdict_of : Guard → Option (List ℕ) → Option (List ℕ) → Option (List ℕ) → Option (List ℕ) → Result (Unit {0}) Refusal
+verdict_of guard host origin site authorization =
+    if not (admits_host guard host) then Err refusal.Host
+    else (if not (admits_origin guard origin) then Err refusal.Origin
+    else (if not (admits_site site) then Err refusal.Origin
+    else (if not (admits_token guard authorization) then Err refusal.Token else Ok tt)))
+
 abbrev pub verdict : Guard → Credentials → Result (Unit {0}) Refusal
-verdict guard said =
-    if not (admits_host guard (option_copied said.host)) then Err refusal.Host
-    else (if not (admits_origin guard (option_copied said.origin)) then Err refusal.Origin
-    else (if not (admits_site (option_copied said.site)) then Err refusal.Origin
-    else (if not (admits_token guard (option_copied said.authorization)) then Err refusal.Token else Ok tt)))
+verdict guard said = verdict_of guard (option_copied said.host) (option_copied said.origin) (option_copied said.site) (option_copied said.authorization)

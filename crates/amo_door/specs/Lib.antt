@@ -10,6 +10,7 @@ pub mod Json
 pub mod Answer
 pub mod Guard
 pub mod Connection
+pub mod Requests
 pub mod Event
 pub mod Head
 pub mod Spelling

@@ -1,9 +1,14 @@
 //! A connection of a client.
-ghost use Rattle.std.specs.Prelude.{◌≡◌, ◌≤◌, ◌<◌, ◌↔◌, ◌⊎◌, false, true, length, not, position, if◌then◌else◌, IfOk, IfSome, IsTrue, MatchResult, OnErr, OnOk};
-ghost use Rattle.amo_door.specs.Connection.{Answers, Begins, Comes, Goes, GoesOn, Extends, MayCome, Refuses, Settles, SpellsAnswer, SpellsFront, SpellsRefusal, SpellsText, Tells, begins_with_head, behind_blank, blank_length, closed, counted, is_body, knowing_method, over, phase_of, room_of, taken_at, taken_count, throws, unused, wants_input, without_sent};
+ghost use Rattle.std.specs.Prelude.{◌≡◌, ◌≤◌, ◌<◌, ◌↔◌, ◌⊎◌, ◌++◌, ℕ, List, [], drop, false, true, length, min, not, position, take, if◌then◌else◌, IfOk, IfSome, IsSome, IsTrue, MatchResult, OnErr, OnOk};
+ghost use Rattle.amo_door.specs.Connection.{Answers, Begins, Comes, Ends, Finishes, Goes, GoesOn, PassesOver, ReadsTheSame, Extends, MayCome, Refuses, Settles, SpellsAnswer, SpellsFront, SpellsRefusal, SpellsText, Tells, begins_with_head, behind_blank, blank_length, closed, counted, is_body, knowing_method, over, phase_of, room_of, taken_at, taken_count, throws, unused, wants_input, without_sent};
 ghost use Rattle.amo_door.specs.declared.connection.Stage.TheVariants as stage;
+ghost use Rattle.amo_door.specs.Requests.{HasRead, MayStep, ReadsCoded, ReadsOn, Steps};
+ghost use Rattle.amo_door.specs.declared.head.Reader.{Reader as AnyReader};
+ghost use Rattle.http1.specs.Message.{Request};
 ghost use Rattle.http1.specs.ReadError.{is_line_end};
-ghost use Rattle.httparse.specs.Spans.{IsRequestWithin};
+ghost use Rattle.http1.specs.Server.{has_codings};
+ghost use Rattle.http1.specs.ServerTrace.{headers_at};
+ghost use Rattle.httparse.specs.Spans.{IsRequestWithin, span_bytes};
 
 use crate::head::{read_head, refusal_of};
 use crate::spelling::write_answer;
@@ -107,11 +112,12 @@ pub struct Connection {
 
 impl Model for Connection {
     ghost use Rattle.std.specs.Prelude.{◌≤◌, is_some, length};
+    ghost use Rattle.std.specs.Option.{option_map};
     ghost use Rattle.amo_door.specs.Connection.{ConnectionState};
 
     ghost Value = { ConnectionState };
 
-    ghost view = { λ c. record { input = c.input.items; output = c.output.items; server = c.server; wants_head = c.is_head; stage = c.stage; has_begun = is_some c.begun; has_ended = c.has_ended; thrown = c.thrown; answered = c.answered } };
+    ghost view = { λ c. record { input = c.input.items; output = c.output.items; server = c.server; wants_head = c.is_head; stage = c.stage; has_begun = is_some c.begun; has_ended = c.has_ended; thrown = c.thrown; answered = c.answered; asks = option_map (λ begun. begun.call) c.begun; body = c.body.items } };
 
     ghost invariant = { λ c. length c.input.items ≤ 17408 };
 }
@@ -119,7 +125,8 @@ impl Model for Connection {
 impl Connection {
     /// A connection on which nothing came.
     pub fn new(alloc: Global) -> Connection
-        ensures { result ≡ unused }
+        ensures value { result ≡ unused }
+        ensures read { (reader : AnyReader) → HasRead reader [] [] result }
     {
         let limits = Limits {
             max_head_len: LONGEST_HEAD,
@@ -220,6 +227,8 @@ impl Connection {
         ensures count { IfOk result (λ count. count ≡ taken_count self.old.stage (length self.old.input) (length bytes.now)) }
         ensures taken { IfOk result (λ count. self.new ≡ taken_at self.old.stage self.old bytes.now count) }
         ensures err { OnErr result (self.new ≡ self.old) }
+        // What came stands behind what came before.
+        ensures read { (reader : AnyReader) (came : List ℕ) (past : List Request) → HasRead reader came past self.old → IfOk result (λ count. HasRead reader (came ++ take count bytes.now) past self.new) }
     {
         if self.stage == Stage::Closing {
             self.throw(bytes.len());
@@ -274,7 +283,9 @@ impl Connection {
 
     /// Goes on with what came. Requests that are refused it answers itself. Where memory is refused the connection is over.
     pub fn next(&mut self, reader: &Reader<'_>) -> Result<Step, AllocError>
-        ensures { Goes self.old.stage self.old result self.new }
+        ensures goes { Goes self.old.stage self.old result self.new }
+        // Of the bytes that came the next requests are read, as HTTP/1's grammar has them: those that are refused, and then the one that is given.
+        ensures read { (came : List ℕ) (past : List Request) → HasRead reader.now came past self.old → MatchResult result (Steps reader.now came past self.new) (λ _. ReadsOn reader.now came past self.new) }
     {
         match self.stage {
             Stage::Reading => self.read_on(reader),
@@ -298,7 +309,9 @@ impl Connection {
 
     /// Reads requests, until one came whole or no more can be read.
     fn read_on(&mut self, reader: &Reader<'_>) -> Result<Step, AllocError>
-        ensures { MatchResult result (Comes self.old self.new) (λ _. GoesOn self.old self.new × (self.new.stage ≡ stage.Over)) }
+        requires { self.old.stage ≡ stage.Reading }
+        ensures goes { MatchResult result (Comes self.old self.new) (λ _. GoesOn self.old self.new × (self.new.stage ≡ stage.Over)) }
+        ensures read { (came : List ℕ) (past : List Request) → HasRead reader.now came past self.old → MatchResult result (Steps reader.now came past self.new) (λ _. ReadsOn reader.now came past self.new) }
     {
         let mut spans = [EMPTY_HEADER_SPAN; MOST_FIELDS];
         for _event in 0..MOST_EVENTS {
@@ -326,8 +339,10 @@ impl Connection {
         reader: &Reader<'_>,
         spans: &mut [HeaderSpan],
     ) -> Result<Option<Step>, AllocError>
+        requires { self.old.stage ≡ stage.Reading }
         ensures ok { IfOk result (MayCome self.old self.new) }
         ensures err { OnErr result (GoesOn self.old self.new) }
+        ensures read { (came : List ℕ) (past : List Request) → HasRead reader.now came past self.old → IfOk result (MayStep reader.now came past self.new) }
     {
         if self.has_much_to_send() {
             return Ok(Some(Step::Wait));
@@ -370,7 +385,7 @@ impl Connection {
     /// Drops what was read, where it is still there: a refusal drops all.
     fn drop_front(&mut self, count: usize)
         ensures goes_on { GoesOn self.old self.new }
-        ensures output { self.new.output ≡ self.old.output }
+        ensures dropped { self.new ≡ record self.old { input = drop (min count (length self.old.input)) self.old.input } }
     {
         let count = count.min(self.input.len());
         self.input.advance(count);
@@ -379,7 +394,8 @@ impl Connection {
     /// Takes the request whose head is in front of the input.
     fn begin(&mut self, reader: &Reader<'_>, head: &RequestSpans, spans: &[HeaderSpan])
         requires { IsRequestWithin self.old.input spans.now head.now }
-        ensures { self.new ≡ record self.old { wants_head = self.new.wants_head; has_begun = true } }
+        ensures begun { self.new ≡ record self.old { wants_head = self.new.wants_head; has_begun = true; asks = self.new.asks; body = [] } }
+        ensures asks { IfSome self.new.asks (ReadsCoded (has_codings self.old.server) reader.now (span_bytes self.old.input head.now.method) (span_bytes self.old.input head.now.path) (headers_at self.old.input spans.now head.now.headers)) × IsSome self.new.asks }
     {
         let input = self.input.as_slice();
         let call = if self.server.has_codings() {
@@ -398,7 +414,8 @@ impl Connection {
 
     /// Goes on behind a head: a body that is not to be read refuses the request, and one that the client holds back is asked for.
     fn go_on(&mut self) -> Result<(), AllocError>
-        ensures { GoesOn self.old self.new }
+        ensures goes_on { GoesOn self.old self.new }
+        ensures reads { OnOk result (Ends self.new.stage ⊎ ReadsTheSame self.old self.new) }
     {
         let Some(begun) = &self.begun else {
             return Ok(());
@@ -420,6 +437,7 @@ impl Connection {
     fn ask_on(&mut self) -> Result<(), AllocError>
         ensures output { Extends self.old.output self.new.output }
         ensures kept { self.new ≡ record self.old { output = self.new.output; server = self.new.server } }
+        ensures reads { OnOk result (ReadsTheSame self.old self.new) }
     {
         if !self.server.expects_continue() {
             return Ok(());
@@ -436,7 +454,8 @@ impl Connection {
     /// Keeps a piece of the body, which lies so in the input.
     fn keep(&mut self, piece: Span) -> Result<(), AllocError>
         requires { (piece.start ≤ piece.end) × (piece.end ≤ length self.old.input) }
-        ensures { GoesOn self.old self.new }
+        ensures goes_on { GoesOn self.old self.new }
+        ensures kept { OnOk result (Ends self.new.stage ⊎ (self.new ≡ record self.old { body = self.old.body ++ span_bytes self.old.input piece })) }
     {
         let bytes = piece.of(self.input.as_slice());
         let room = match &self.begun {
@@ -453,6 +472,7 @@ impl Connection {
     fn finish(&mut self) -> Result<Option<Step>, AllocError>
         ensures ok { length self.old.output ≤ MOST_OUTPUT → IfOk result (MayCome self.old self.new) }
         ensures err { OnErr result (GoesOn self.old self.new) }
+        ensures finished { IfOk result (Finishes self.old self.new) }
     {
         let Some(begun) = self.begun.take() else {
             return Ok(None);
@@ -479,7 +499,8 @@ impl Connection {
 
     /// Refuses a request that has come whole. The next one is read.
     fn pass_over(&mut self, refusal: Refusal) -> Result<(), AllocError>
-        ensures { GoesOn self.old self.new }
+        ensures goes_on { GoesOn self.old self.new }
+        ensures passed { OnOk result (Ends self.new.stage ⊎ PassesOver self.old self.new) }
     {
         let answer = Answer::refusal(self.alloc, refusal)?;
         self.write(&answer, false)
@@ -534,6 +555,7 @@ impl Connection {
     pub fn answer(&mut self, answer: &Answer) -> Result<(), AllocError>
         ensures answered { Answers self.old.stage self.old result self.new }
         ensures spelt { OnOk result (self.old.stage ≡ stage.Asked → SpellsAnswer answer.now false self.old self.new) }
+        ensures read { (reader : AnyReader) (came : List ℕ) (past : List Request) → HasRead reader came past self.old → HasRead reader came past self.new }
     {
         if self.stage != Stage::Asked {
             self.stage = Stage::Over;

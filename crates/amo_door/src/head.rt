@@ -1,7 +1,10 @@
 //! What the head of a request says.
-ghost use Rattle.std.specs.Prelude.{◌≡◌, ◌≤◌, All, length, option_copied};
-ghost use Rattle.httparse.specs.Spans.{IsHeaderWithin, IsRequestWithin};
-ghost use Rattle.amo_door.specs.Head.{IsBehind, opens_page, says};
+ghost use Rattle.std.specs.Prelude.{◌≡◌, ◌≤◌, All, length, map, option_copied};
+ghost use Rattle.std.specs.Str.{str_eq_ignore_ascii_case};
+ghost use Rattle.httparse.specs.Spans.{IsHeaderWithin, IsRequestWithin, header_bytes, span_bytes};
+ghost use Rattle.http1.specs.ServerTrace.{headers_at};
+ghost use Rattle.amo_door.specs.Head.{IsBehind, field_of, opens_page, says, site_of};
+ghost use Rattle.amo_door.specs.Requests.{ReadsAs};
 
 use crate::{Call, Credentials, Guard, Method, Refusal, Routes, Served};
 use amo_text::read_decimal;
@@ -27,6 +30,7 @@ pub(crate) fn read_head(
     spans: &[HeaderSpan],
 ) -> Result<Call, Refusal>
     requires { IsRequestWithin input.now spans.now head.now }
+    ensures { ReadsAs reader.now (span_bytes input.now head.now.method) (span_bytes input.now head.now.path) (headers_at input.now spans.now head.now.headers) result }
 {
     let fields = &spans[..head.headers];
     let (method, path) = (head.method.of(input), head.path.of(input));
@@ -51,6 +55,7 @@ pub(crate) fn read_head(
 /// How far away the page is that has a browser ask, where that counts.
 fn site<'a>(input: &'a [u8], fields: &[HeaderSpan], method: &[u8], path: &[u8]) -> Option<&'a [u8]>
     requires { All (IsHeaderWithin (length input.now)) fields.now }
+    ensures { option_copied result ≡ site_of method.now path.now (map (header_bytes input.now) fields.now) }
 {
     let site = field(input, fields, b"sec-fetch-site")?;
     let mode = field(input, fields, b"sec-fetch-mode");
@@ -98,13 +103,21 @@ fn line_behind(field: Option<&[u8]>, after: Option<u64>) -> Option<u64>
 /// What the first field of this name has.
 fn field<'a>(input: &'a [u8], fields: &[HeaderSpan], name: &[u8]) -> Option<&'a [u8]>
     requires { All (IsHeaderWithin (length input.now)) fields.now }
+    ensures { option_copied result ≡ field_of name.now (map (header_bytes input.now) fields.now) }
 {
     for field in fields {
-        if field.name.of(input).eq_ignore_ascii_case(name) {
+        if is_same_name(field.name.of(input), name) {
             return Some(field.value.of(input));
         }
     }
     None
+}
+
+/// Whether two names are one: they are the same in capitals.
+fn is_same_name(one: &[u8], other: &[u8]) -> bool
+    ensures { result ≡ str_eq_ignore_ascii_case one.now other.now }
+{
+    one.eq_ignore_ascii_case(other)
 }
 
 /// Why a request that does not read is refused.
