@@ -19,3 +19,6 @@ pub mod Marking
 pub mod Runs
 pub mod SenderKeeping
 pub mod SenderFollowing
+pub mod StandsFor
+pub mod OpenPuts
+pub mod Resuming

@@ -18,11 +18,12 @@ use Rattle.amo_core.specs.declared.sender.SenderMode.{SenderMode}
 use Rattle.amo_core.specs.declared.sender.SenderMode.TheVariants as sending
 use Rattle.amo_world.specs.declared.event.Event.{Event}
 use Rattle.amo_world.specs.Stream.{Stream, IsStream, after, reply_of}
-use Rattle.amo_world.specs.History.{stream_after, stream_before, after_if, IsRight}
+use Rattle.amo_world.specs.History.{stream_after, stream_before, after_if}
 use Rattle.amo_world.proofs.Lists.{some_injective, set_cases, push_cases}
 use Rattle.amo_outcomes.specs.declared.sender_outcome.SenderOutcome.{SenderOutcome}
 use Rattle.amo_outcomes.specs.declared.sender_follower.SenderFollower.{SenderFollower}
 use Rattle.amo_outcomes.specs.declared.sender_places.SenderPlaces.{SenderPlaces}
+use Rattle.amo_outcomes.specs.RightPuts.{HasRightPut}
 use Rattle.amo_outcomes.specs.Puts.{Handshake, Puts, sent_under, called, acted, acted_if, puts_after}
 use Rattle.amo_outcomes.specs.Heard.{Heard, all_sent, heard_act, hears, settles, heard_by, heard_if, heard_after}
 use Rattle.amo_outcomes.specs.SenderOutcome.{HasSenderOutcome, AreSenderOutcomes, SendersTold}
@@ -39,11 +40,36 @@ use Rattle.amo_outcomes.proofs.SenderKeeping.{keeps_mode}
 rests : (k : SenderPlaces) (mode now : SenderMode) (p : Puts) (h : Heard) → AreAsked now (puts_in k.asked) p.carried → Keeps k mode p h → Keeps k now p h
 rests k mode now p h asks keeps = keeps_mode k.waiting k.asked k.sent (get nat_cmp k.travelling) k.marks.items mode now p h asks keeps
 
+-- the places do not depend on what is held and what was got
+keeps_same : (k : SenderPlaces) (mode : SenderMode) (p q : Puts) (h : Heard) → AreSame p q → Keeps k mode p h → Keeps k mode q h
+keeps_same k mode p q h same keeps = record {
+  marked = subst (λ (n : ℕ). AreMarked k.marks.items n (all_sent q.sent) h) same.count
+      (subst (λ (sent : List Handshake). AreMarked k.marks.items p.count (all_sent sent) h) same.sent keeps.marked);
+  within = subst (λ (n : ℕ). k.waiting ≤ n) same.count keeps.within;
+  waits = sym same.waiting ∙ keeps.waits ∙ ap (λ (n : ℕ). range_with_len k.waiting (n - k.waiting)) same.count;
+  asks = subst (λ (ns : List ℕ). AreAsked mode (puts_in k.asked) ns) same.carried keeps.asks;
+  is_newest = subst (λ (sent : List Handshake). AreNewest sent (puts_in k.sent) h) same.sent keeps.is_newest;
+  travels = subst (λ (sent : List Handshake). (id : ℕ) → Travels (get nat_cmp k.travelling id) (sent_under sent id) h) same.sent keeps.travels;
+}
+
+-- where an act is a put, it has this reply
+abbrev AnswersPut : Act → Option Reply → Reply → Type 0
+AnswersPut a answer r = (m : List ℕ) → a ≡ act.Put m → answer ≡ Some r
+
+-- a reply to anything else changes nothing of what a sender's own events change
+unchanged : (a : Act) (answer : Option Reply) (r : Reply) (p : Puts) → AnswersPut a answer r → called a answer p ≡ p → AreSame (called a (Some r) p) p
+unchanged (act.Put m) answer r p right same =
+    subst (λ (q : Puts). AreSame q p) (sym (ap (λ (x : Option Reply). called (act.Put m) x p) (sym (right m refl)) ∙ same))
+    (record { count = refl; waiting = refl; carried = refl; sent = refl })
+unchanged act.Get answer (reply.Got m) p right same = record { count = refl; waiting = refl; carried = refl; sent = refl }
+unchanged act.Get answer r p right same = record { count = refl; waiting = refl; carried = refl; sent = refl }
+unchanged a answer r p right same = record { count = refl; waiting = refl; carried = refl; sent = refl }
+
 module _ (k l : SenderPlaces) (r : Reply) where
-  -- an act of this reply
+  -- an act, which has this reply if it is a put
   abbrev KeepsPlaces : OfRows
   KeepsPlaces mode waiting p a answer now left q =
-      answer ≡ Some r → InOrder mode waiting p → Acts (sender.kind mode) (sender.kind now) a r k l
+      AnswersPut a answer r → InOrder mode waiting p → Acts (sender.kind mode) (sender.kind now) a r k l
       → (h : Heard) → Keeps k mode p h → Keeps l now q (settles mode now p.sent (hears mode a p.sent h))
 
   -- what was sent was put
@@ -55,13 +81,13 @@ module _ (k l : SenderPlaces) (r : Reply) where
   stays : (mode : SenderMode) (waiting : List (List ℕ)) (p : Puts) (a : Act) (answer : Option Reply) → sender.is_down mode ≡ false
       → called a answer p ≡ p → KeepsPlaces mode waiting p a answer mode waiting p
   stays (sending.Quiet got) waiting p a answer up same right o acts h keeps =
-      subst (λ (q : Puts). Keeps l (sending.Quiet got) q (heard_act a p.sent h)) (ap (λ (x : Option Reply). called a x p) (sym right) ∙ same)
+      keeps_same l (sending.Quiet got) (called a (Some r) p) p (heard_act a p.sent h) (unchanged a answer r p right same)
       (acts (sending.Quiet got) p h (below (sending.Quiet got) waiting p o) keeps)
   stays (sending.NeedId jd load) waiting p a answer up same right o acts h keeps =
-      subst (λ (q : Puts). Keeps l (sending.NeedId jd load) q (heard_act a p.sent h)) (ap (λ (x : Option Reply). called a x p) (sym right) ∙ same)
+      keeps_same l (sending.NeedId jd load) (called a (Some r) p) p (heard_act a p.sent h) (unchanged a answer r p right same)
       (acts (sending.NeedId jd load) p h (below (sending.NeedId jd load) waiting p o) keeps)
   stays (sending.Send id load) waiting p a answer up same right o acts h keeps =
-      subst (λ (q : Puts). Keeps l (sending.Send id load) q (heard_act a p.sent h)) (ap (λ (x : Option Reply). called a x p) (sym right) ∙ same)
+      keeps_same l (sending.Send id load) (called a (Some r) p) p (heard_act a p.sent h) (unchanged a answer r p right same)
       (acts (sending.Send id load) p h (below (sending.Send id load) waiting p o) keeps)
   stays sending.Down waiting p a answer up same right o acts h keeps = absurd (differ up)
     where
@@ -71,13 +97,13 @@ module _ (k l : SenderPlaces) (r : Reply) where
   puts : (mode : SenderMode) (waiting : List (List ℕ)) (p : Puts) (m : List ℕ) → sender.is_down mode ≡ false
       → KeepsPlaces mode waiting p (act.Put m) (Some reply.Ok) mode (waiting ++ m ∷ []) (with_put p)
   puts (sending.Quiet got) waiting p m up right o acts h keeps =
-      subst (λ (x : Reply). Keeps l (sending.Quiet got) (called (act.Put m) (Some x) p) h) (sym (some_injective reply.Ok r right))
+      subst (λ (x : Reply). Keeps l (sending.Quiet got) (called (act.Put m) (Some x) p) h) (sym (some_injective reply.Ok r (right m refl)))
       (acts (sending.Quiet got) p h (below (sending.Quiet got) waiting p o) keeps)
   puts (sending.NeedId jd load) waiting p m up right o acts h keeps =
-      subst (λ (x : Reply). Keeps l (sending.NeedId jd load) (called (act.Put m) (Some x) p) h) (sym (some_injective reply.Ok r right))
+      subst (λ (x : Reply). Keeps l (sending.NeedId jd load) (called (act.Put m) (Some x) p) h) (sym (some_injective reply.Ok r (right m refl)))
       (acts (sending.NeedId jd load) p h (below (sending.NeedId jd load) waiting p o) keeps)
   puts (sending.Send id load) waiting p m up right o acts h keeps =
-      subst (λ (x : Reply). Keeps l (sending.Send id load) (called (act.Put m) (Some x) p) h) (sym (some_injective reply.Ok r right))
+      subst (λ (x : Reply). Keeps l (sending.Send id load) (called (act.Put m) (Some x) p) h) (sym (some_injective reply.Ok r (right m refl)))
       (acts (sending.Send id load) p h (below (sending.Send id load) waiting p o) keeps)
   puts sending.Down waiting p m up right o acts h keeps = absurd (differ up)
     where
@@ -110,20 +136,8 @@ module _ (k l : SenderPlaces) (r : Reply) where
         subst (λ (x : SenderPlaces). Keeps x (sending.Quiet false) p h) (sym acts) (rests k sending.Down (sending.Quiet false) p h tt keeps);
   }
 
--- the places do not depend on what is held and what was got
-keeps_same : (k : SenderPlaces) (mode : SenderMode) (p q : Puts) (h : Heard) → AreSame p q → Keeps k mode p h → Keeps k mode q h
-keeps_same k mode p q h same keeps = record {
-  marked = subst (λ (n : ℕ). AreMarked k.marks.items n (all_sent q.sent) h) same.count
-      (subst (λ (sent : List Handshake). AreMarked k.marks.items p.count (all_sent sent) h) same.sent keeps.marked);
-  within = subst (λ (n : ℕ). k.waiting ≤ n) same.count keeps.within;
-  waits = sym same.waiting ∙ keeps.waits ∙ ap (λ (n : ℕ). range_with_len k.waiting (n - k.waiting)) same.count;
-  asks = subst (λ (ns : List ℕ). AreAsked mode (puts_in k.asked) ns) same.carried keeps.asks;
-  is_newest = subst (λ (sent : List Handshake). AreNewest sent (puts_in k.sent) h) same.sent keeps.is_newest;
-  travels = subst (λ (sent : List Handshake). (id : ℕ) → Travels (get nat_cmp k.travelling id) (sent_under sent id) h) same.sent keeps.travels;
-}
-
 -- one event more of the stream
-module _ (f g : SenderFollower) (past : List Event) (e : Event) (right : IsRight (e ∷ past)) (follows : IsSenderFollowed f e.stream past) where
+module _ (f g : SenderFollower) (past : List Event) (e : Event) (right : HasRightPut past e) (follows : IsSenderFollowed f e.stream past) where
   abbrev s : Stream
   s = stream_before past e
 
@@ -148,7 +162,7 @@ module _ (f g : SenderFollower) (past : List Event) (e : Event) (right : IsRight
         sender = now;
         places = by_rows (KeepsPlaces f.places g.places e.reply) (keeps_places f.places g.places e.reply) s.sender.state.stream
             s.sender.state.mode s.sender.state.waiting p e.act
-            (subst (λ (side : End). reply_of s side e.act ≡ Some e.reply) is right.0)
+            (λ m put. subst (λ (side : End). reply_of s side e.act ≡ Some e.reply) is (right m put))
             (in_order e.stream past)
             (subst (λ (x : sender.SenderState). Acts (sender.kind s.sender.state.mode) (sender.kind x.mode) e.act e.reply f.places g.places) now
             (subst (λ (x : sender.SenderState). Acts (sender.kind x.mode) (sender.kind g.sender.mode) e.act e.reply f.places g.places)

@@ -8,5 +8,7 @@ pub mod Heard
 pub mod SenderOutcome
 pub mod Marks
 pub mod SenderPlaces
+pub mod RightPuts
+pub mod StandsFor
 pub mod SenderFollower
 pub mod SenderFollowers

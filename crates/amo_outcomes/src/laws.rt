@@ -1,5 +1,5 @@
 //! Laws of outcomes. Each is the contract of a function that does nothing.
-ghost use Rattle.std.specs.Prelude.{◌≡◌, ◌<◌, true, ℕ, List, [], ◌∷◌, length};
+ghost use Rattle.std.specs.Prelude.{◌≡◌, ◌↔◌, ◌<◌, ◌+◌, ◌-◌, ◌++◌, true, ℕ, List, [], ◌∷◌, length};
 ghost use Rattle.std.specs.List.{Contains};
 ghost use Rattle.amo_object.specs.declared.step.End.{End};
 ghost use Rattle.amo_object.specs.declared.step.End.TheVariants.{Sender};
@@ -16,9 +16,11 @@ ghost use Rattle.amo_outcomes.specs.declared.outcome.Outcome.{Outcome};
 ghost use Rattle.amo_outcomes.specs.declared.outcome.Outcome.TheVariants.{Got, Gone, Open};
 ghost use Rattle.amo_outcomes.specs.Puts.{puts_after, sent_under};
 ghost use Rattle.amo_outcomes.specs.Outcome.{HasOutcome, AreOf};
+ghost use Rattle.amo_outcomes.specs.RightPuts.{ArePutsRightOn};
 ghost use Rattle.amo_outcomes.specs.declared.sender_outcome.SenderOutcome.{SenderOutcome};
 ghost use Rattle.amo_outcomes.specs.declared.sender_outcome.SenderOutcome.TheVariants as told;
 ghost use Rattle.amo_outcomes.specs.SenderOutcome.{HasSenderOutcome, GoesOnAtSender};
+ghost use Rattle.amo_outcomes.specs.StandsFor.{BringsTo, GoesOnFrom, StandsFor, more_puts};
 
 /// Each put of a right, honest and fresh history has exactly one outcome, and nothing else has one.
 pub fn each_put_has_one_outcome()
@@ -106,4 +108,27 @@ pub fn outcomes_are_the_same_in_each_interleaving()
     ensures { (number : ℕ) (one other : List Event) (put : ℕ) (outcome : Outcome) → IsHonest one → IsFresh one → IsHonest other → IsFresh other
         → ((side : End) → events_at number side one ≡ events_at number side other) → HasOutcome number one put outcome
         → HasOutcome number other put outcome }
+{}
+
+/// What a sender's own events tell of a put does not depend on the puts before it that nothing more can come of: where a history stands for another one, which
+/// has so many puts before its own, it does behind more events, and what it tells of a put the other one tells of the put so many behind. So does a history of
+/// the puts without an answer alone, that brings the sender to where the other one does, but for what it knows of the last message: one of nothing, where the
+/// sender is at rest.
+pub fn later_puts_are_told_without_earlier_ones()
+    ensures on { (number many : ℕ) (newer part whole : List Event) → StandsFor number many part whole → StandsFor number many (newer ++ part) (newer ++ whole) }
+    ensures told { (number many : ℕ) (part whole : List Event) (put : ℕ) (outcome : SenderOutcome) → StandsFor number many part whole
+        → HasSenderOutcome number part put outcome ↔ HasSenderOutcome number whole (many + put) outcome }
+    ensures open { (number : ℕ) (part whole : List Event) → BringsTo number part whole → StandsFor number (more_puts number part whole) part whole }
+    ensures unanswered { (number : ℕ) (part whole : List Event) (put : ℕ) → BringsTo number part whole
+        → (¬ (HasSenderOutcome number part put told.Got)) × (¬ (HasSenderOutcome number part put (told.Unknown true))) }
+{}
+
+/// A sender's events that go on from a list of earlier ones tell of their puts, and of those of the list, what they tell behind all earlier ones: of each put by
+/// its number from the newest one on. And their puts have the replies of their rows behind the list, where all replies are right behind all earlier ones.
+pub fn a_list_of_open_puts_tells_what_all_events_do()
+    ensures told { (number : ℕ) (newer listed all : List Event) (put : ℕ) (outcome : SenderOutcome) → GoesOnFrom number newer listed all
+        → HasSenderOutcome number (newer ++ listed) put outcome
+        → HasSenderOutcome number (newer ++ all) (more_puts number (newer ++ listed) (newer ++ all) + put) outcome }
+    ensures right { (number : ℕ) (newer listed all : List Event) → GoesOnFrom number newer listed all → IsRight (newer ++ all)
+        → ArePutsRightOn number listed → ArePutsRightOn number (newer ++ listed) }
 {}

@@ -2,7 +2,7 @@
 ghost use Rattle.std.specs.Prelude.{◌≡◌, ◌∷◌, ◌<◌, ◌≤◌, ℕ, length, List, [], IfOk, IfSome, IsNone};
 ghost use Rattle.amo_core.specs.Sender.{row, kind};
 ghost use Rattle.amo_world.specs.declared.event.Event.{Event};
-ghost use Rattle.amo_world.specs.History.{IsRight};
+ghost use Rattle.amo_outcomes.specs.RightPuts.{HasRightPut};
 ghost use Rattle.amo_outcomes.specs.Puts.{puts_after};
 ghost use Rattle.amo_outcomes.specs.SenderOutcome.{HasSenderOutcome, AreSenderOutcomes};
 ghost use Rattle.amo_outcomes.specs.SenderPlaces.{Acts};
@@ -34,9 +34,9 @@ impl SenderFollower {
         }
     }
 
-    /// One event more, which is one of the stream. One of the receiver's tells nothing.
+    /// One event more, which is one of the stream. One of the receiver's tells nothing, nor does a reply, but for that to a put.
     pub(crate) fn follow(&mut self, event: &Event) -> Result<(), AllocError>
-        ensures { IfOk result (λ _. (past : List Event) → IsRight (event.now ∷ past) → IsSenderFollowed self.old event.now.stream past
+        ensures { IfOk result (λ _. (past : List Event) → HasRightPut past event.now → IsSenderFollowed self.old event.now.stream past
             → IsSenderFollowed self.new event.now.stream (event.now ∷ past)) }
     {
         match event.side {

@@ -2,7 +2,7 @@
 ghost use Rattle.std.specs.Prelude.{◌≡◌, ◌≤◌, ◌∷◌, List, [], IfOk, IfSome, IsNone, OnOk, length};
 ghost use Rattle.amo_world.specs.declared.event.Event.{Event};
 ghost use Rattle.amo_world.specs.Stream.{IsStream};
-ghost use Rattle.amo_world.specs.History.{IsRight};
+ghost use Rattle.amo_outcomes.specs.RightPuts.{HasRightPut};
 ghost use Rattle.amo_outcomes.specs.Puts.{puts_after};
 ghost use Rattle.amo_outcomes.specs.SenderOutcome.{HasSenderOutcome};
 
@@ -32,10 +32,10 @@ impl SenderFollowers {
         })
     }
 
-    /// One event more.
+    /// One event more. Of replies those to puts alone count.
     pub fn follow(&mut self, event: &Event) -> Result<(), AllocError>
         requires stream { IsStream event.now.stream }
-        ensures { OnOk result ((past : List Event) → IsRight (event.now ∷ past) → HaveFollowedSenders self.old past → HaveFollowedSenders self.new (event.now ∷ past)) }
+        ensures { OnOk result ((past : List Event) → HasRightPut past event.now → HaveFollowedSenders self.old past → HaveFollowedSenders self.new (event.now ∷ past)) }
     {
         follow(&mut self.of_streams, event)
     }

@@ -4,6 +4,7 @@ ghost use Rattle.std.specs.List.{All};
 ghost use Rattle.amo_world.specs.declared.event.Event.{Event};
 ghost use Rattle.amo_world.specs.Stream.{IsStream};
 ghost use Rattle.amo_world.specs.History.{IsRight};
+ghost use Rattle.amo_outcomes.specs.RightPuts.{HasRightPut};
 ghost use Rattle.amo_outcomes.specs.SenderOutcome.{SendersTold};
 ghost use Rattle.amo_outcomes.specs.SenderFollower.{SendersFollowed};
 
@@ -57,7 +58,7 @@ pub(crate) fn follow(followers: &mut Vec<SenderFollower>, event: &Event) -> Resu
     requires stream { IsStream event.now.stream }
     requires followers { length followers.old.items ≡ 256 }
     ensures all { length followers.new.items ≡ 256 }
-    ensures followed { IfOk result (λ _. (past : List Event) → IsRight (event.now ∷ past) → SendersFollowed followers.old.items past
+    ensures followed { IfOk result (λ _. (past : List Event) → HasRightPut past event.now → SendersFollowed followers.old.items past
         → SendersFollowed followers.new.items (event.now ∷ past)) }
 {
     let follower = &mut followers[event.stream as usize - 1];

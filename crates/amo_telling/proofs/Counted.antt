@@ -21,7 +21,8 @@ use Rattle.amo_core.specs.declared.receiver.ReceiverMode.{ReceiverMode}
 use Rattle.amo_core.specs.declared.receiver.ReceiverMode.TheVariants as receiving
 use Rattle.amo_object.specs.declared.step.End.TheVariants.{Sender, Receiver}
 use Rattle.amo_world.specs.Stream.{Stream, reply_of}
-use Rattle.amo_world.specs.History.{HasRightReply, IsRight, stream_after}
+use Rattle.amo_world.specs.History.{IsRight, stream_after}
+use Rattle.amo_outcomes.specs.RightPuts.{ArePutsRight, HasRightPut}
 use Rattle.amo_outcomes.specs.Puts.{Puts, acted, acted_if, called, puts_after, receiver_moved, sender_moved}
 use Rattle.amo_outcomes.proofs.Histories.{told}
 use Rattle.amo_audit.specs.Audit.{IsSound}
@@ -146,16 +147,24 @@ receiver_moves (receiving.Accept jd accepted) (receiving.Rcvd id b) p = refl
 receiver_moves before receiving.Down p = refl
 receiver_moves before now p = refl
 
--- so an act with its right reply takes as many as it tells
-act_counts : (s : Stream) (side : End) (a : Act) (r : Reply) (p : Puts) → reply_of s side a ≡ Some r → (acted s side a p).count ≡ p.count + one_if (is_put a r)
-act_counts s Sender a r p is =
-    sender_moves s.sender.state.mode (sender.row s.sender.state a).state.mode (called a (reply_of s Sender a) p)
-    ∙ ap (λ (o : Option Reply). (called a o p).count) is ∙ called_counts a r p
-act_counts s Receiver a r p is =
-    receiver_moves s.receiver.state.mode (receiver.row s.receiver.state a).state.mode (called a (reply_of s Receiver a) p)
-    ∙ ap (λ (o : Option Reply). (called a o p).count) is ∙ called_counts a r p
+-- whatever the reply to anything else is
+replied_counts : (a : Act) (o : Option Reply) (r : Reply) (p : Puts) → ((m : List ℕ) → a ≡ act.Put m → o ≡ Some r) → (called a o p).count ≡ p.count + one_if (is_put a r)
+replied_counts (act.Put m) o r p right = ap (λ (x : Option Reply). (called (act.Put m) x p).count) (right m refl) ∙ called_counts (act.Put m) r p
+replied_counts act.Get (Some (reply.Got m)) r p right = omega arith
+replied_counts act.Get o r p right = omega arith
+replied_counts a o r p right = omega arith
 
-one_counts : (number : ℕ) (past : List Event) (e : Event) → HasRightReply past e → (puts_after number past).count ≡ puts_in number past
+-- so an act, with its right reply if it is a put, takes as many as it tells
+act_counts : (s : Stream) (side : End) (a : Act) (r : Reply) (p : Puts) → ((m : List ℕ) → a ≡ act.Put m → reply_of s side a ≡ Some r)
+    → (acted s side a p).count ≡ p.count + one_if (is_put a r)
+act_counts s Sender a r p right =
+    sender_moves s.sender.state.mode (sender.row s.sender.state a).state.mode (called a (reply_of s Sender a) p)
+    ∙ replied_counts a (reply_of s Sender a) r p right
+act_counts s Receiver a r p right =
+    receiver_moves s.receiver.state.mode (receiver.row s.receiver.state a).state.mode (called a (reply_of s Receiver a) p)
+    ∙ replied_counts a (reply_of s Receiver a) r p right
+
+one_counts : (number : ℕ) (past : List Event) (e : Event) → HasRightPut past e → (puts_after number past).count ≡ puts_in number past
     → (puts_after number (e ∷ past)).count ≡ puts_in number (e ∷ past)
 one_counts number past e right before = by (eqb number e.stream) refl
   where
@@ -163,15 +172,21 @@ one_counts number past e right before = by (eqb number e.stream) refl
         → (acted_if (eqb number e.stream) (stream_after number past) e (puts_after number past)).count ≡ puts_in number past + one_if (eqb number e.stream && is_put e.act e.reply)
     by true is =
         let same : e.stream ≡ number = sym (eqb-true number e.stream is) in
-        let reply = subst (λ (n : ℕ). reply_of (stream_after n past) e.side e.act ≡ Some e.reply) same right in
+        let reply : (m : List ℕ) → e.act ≡ act.Put m → reply_of (stream_after number past) e.side e.act ≡ Some e.reply =
+        λ m put. subst (λ (n : ℕ). reply_of (stream_after n past) e.side e.act ≡ Some e.reply) same (right m put) in
         let more = act_counts (stream_after number past) e.side e.act e.reply (puts_after number past) reply in
         rw is (omega (arith, more, before))
     by false is = rw is (omega (arith, before))
 
-pub right_counts : (number : ℕ) (past : List Event) → IsRight past → (puts_after number past).count ≡ puts_in number past
+-- a right history has right puts
+pub puts_right : (past : List Event) → IsRight past → ArePutsRight past
+puts_right [] right = tt
+puts_right (e ∷ past) right = (λ m put. right.0, puts_right past right.1)
+
+pub right_counts : (number : ℕ) (past : List Event) → ArePutsRight past → (puts_after number past).count ≡ puts_in number past
 right_counts number [] right = refl
 right_counts number (e ∷ past) right = one_counts number past e right.0 (right_counts number past right.1)
 
 -- a journal with right replies took as many puts as it tells of
 pub puts_alone : (number : ℕ) (events : List Event) → IsRight (reverse events) → (puts_after number (reverse events)).count ≡ puts_in number events
-puts_alone number events right = right_counts number (reverse events) right ∙ puts_reverse number events
+puts_alone number events right = right_counts number (reverse events) (puts_right (reverse events) right) ∙ puts_reverse number events

@@ -8,3 +8,4 @@ pub mod Pairs
 pub mod Untolds
 pub mod Tallies
 pub mod Settling
+mod Resumed

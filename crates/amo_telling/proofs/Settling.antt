@@ -1,8 +1,8 @@
 -- What a start tells of streams in doubt, and of puts that were not answered.
-use Rattle.std.proofs.Common.{◌≡◌, ◌∙◌, ℕ, Bool, List, [], ◌∷◌, ◌++◌, sym, ap, subst, append_assoc, append-nil, refl, Bor}
+use Rattle.std.proofs.Common.{◌≡◌, ◌∙◌, ℕ, Bool, List, Option, [], ◌∷◌, ◌++◌, sym, ap, subst, append_assoc, append-nil, refl, Bor}
 use Rattle.std.specs.List.{flat_map}
 use Rattle.std.proofs.lemmas.Grind.{flat_map-append}
-use Rattle.amo_world.specs.declared.event.Event.{Event}
+use Rattle.amo_outcomes.specs.declared.sender_outcome.SenderOutcome.{SenderOutcome}
 use Rattle.amo_lives.specs.declared.doubt.Span.{Span}
 use Rattle.amo_telling.specs.declared.put.Put.{Put}
 use Rattle.amo_telling.specs.Unanswered.{settled_line}
@@ -20,6 +20,12 @@ abbrev pub read_pair : Bor ℕ × Bor Put → ℕ × Put
 read_pair (number, put) = (number.now, put.now)
 
 -- one put more is told behind those before it
-pub one_more_told : (past : List Event) (doubts : List Span) (json : Bool) (puts : List (ℕ × Put)) (put : ℕ × Put) (old text new : List ℕ) → TellsPuts past doubts json puts old text → TellsPut past doubts json put text new → TellsPuts past doubts json (puts ++ put ∷ []) old new
-one_more_told past doubts json [] put old text new same more = (new, subst (λ (l : List ℕ). TellsPut past doubts json put l new) same more, refl)
-one_more_told past doubts json (first ∷ puts) put old text new (middle, tells, rest) more = (middle, tells, one_more_told past doubts json puts put middle text new rest more)
+pub one_more_told : (IsKnown : Put → Option SenderOutcome → Type 0) (doubts : List Span) (json : Bool) (puts : List (ℕ × Put)) (put : ℕ × Put) (old text new : List ℕ) → TellsPuts IsKnown doubts json puts old text → TellsPut IsKnown doubts json put text new → TellsPuts IsKnown doubts json (puts ++ put ∷ []) old new
+one_more_told IsKnown doubts json [] put old text new same more = (new, subst (λ (l : List ℕ). TellsPut IsKnown doubts json put l new) same more, refl)
+one_more_told IsKnown doubts json (first ∷ puts) put old text new (middle, tells, rest) more = (middle, tells, one_more_told IsKnown doubts json puts put middle text new rest more)
+
+-- the same, where of puts of which this is known something else is
+pub told_so : (IsKnown Others : Put → Option SenderOutcome → Type 0) → ((put : Put) (outcome : Option SenderOutcome) → IsKnown put outcome → Others put outcome) → (doubts : List Span) (json : Bool) (puts : List (ℕ × Put)) (old new : List ℕ)
+    → TellsPuts IsKnown doubts json puts old new → TellsPuts Others doubts json puts old new
+told_so IsKnown Others weaker doubts json [] old new same = same
+told_so IsKnown Others weaker doubts json (put ∷ puts) old new (middle, (outcome, known, is), rest) = (middle, (outcome, weaker put.1 outcome known, is), told_so IsKnown Others weaker doubts json puts middle new rest)

@@ -17,7 +17,8 @@ use Rattle.amo_object.specs.declared.step.End.TheVariants.{Sender, Receiver}
 use Rattle.amo_core.specs.declared.act.Act.{Act}
 use Rattle.amo_world.specs.declared.event.Event.{Event}
 use Rattle.amo_world.specs.Stream.{Stream, IsStream}
-use Rattle.amo_world.specs.History.{IsRight, stream_after}
+use Rattle.amo_world.specs.History.{stream_after}
+use Rattle.amo_outcomes.specs.RightPuts.{ArePutsRight}
 use Rattle.amo_outcomes.specs.declared.sender_followers.SenderFollowers.{SenderFollowers}
 use Rattle.amo_outcomes.specs.declared.sender_outcome.SenderOutcome.{SenderOutcome}
 use Rattle.amo_outcomes.specs.declared.sender_outcome.SenderOutcome.TheVariants.{Got, Gone, Open, Unknown}
@@ -287,7 +288,7 @@ among untold number put is = subst (λ (o : Option Put). IfSome o (λ p. Contain
 
 -- whether a put of a stream was sent, by what is known of those that are kept, and by the mark of those that were answered
 module _ (untold : Untold) (doubts : List Span) (tallies : List Tally) (stream : ℕ) (is_stream : IsStream stream) (are : AreTallies untold doubts tallies)
-    (next : ℕ) (past : List Numbered) (have : HasRead untold next past) (right : IsRight (events_of past)) where
+    (next : ℕ) (past : List Numbered) (have : HasRead untold next past) (right : ArePutsRight (events_of past)) where
   abbrev pub tally : Tally
   tally = get_or tallies (stream - 1) no_puts
 
@@ -327,7 +328,7 @@ module _ (untold : Untold) (doubts : List Span) (tallies : List Tally) (stream :
         (Some outcome, subst (λ n. HasSenderOutcome n (events_of past) put.place outcome) (sym own) (subst (λ k. HasSenderOutcome stream (events_of past) k outcome) (sym here) has), one),
       )
 
-      by : (number : ℕ) (m : List ℕ) → IsKept (get nat_cmp untold.puts) number stream place m ⊎ (IsMarked untold.answered stream × (IsRight (events_of past) → IsAnswered stream (events_of past) place))
+      by : (number : ℕ) (m : List ℕ) → IsKept (get nat_cmp untold.puts) number stream place m ⊎ (IsMarked untold.answered stream × (ArePutsRight (events_of past) → IsAnswered stream (events_of past) place))
           → (outcome : SenderOutcome) × HasSenderOutcome stream (events_of past) place outcome → (tally.is_sent ≡ true) ⊎ (get_or untold.answered (stream - 1) false ≡ true)
       by number m (inl (put, is, own, here, message)) (outcome, has) = inl (tells number put is own here outcome has (is_sent (Some outcome)) refl)
       by number m (inr (mark, answered)) (outcome, has) = inr mark.1

@@ -20,7 +20,7 @@ use Rattle.amo_core.specs.declared.act.Act.TheVariants as act
 use Rattle.amo_core.specs.declared.reply.Reply.{Reply}
 use Rattle.amo_core.specs.declared.reply.Reply.TheVariants as reply
 use Rattle.amo_world.specs.declared.event.Event.{Event}
-use Rattle.amo_world.specs.History.{IsRight}
+use Rattle.amo_outcomes.specs.RightPuts.{ArePutsRight, HasRightPut}
 use Rattle.amo_world.specs.Stream.{IsStream}
 use Rattle.amo_outcomes.specs.SenderFollowers.{HaveFollowedSenders}
 use Rattle.amo_telling.specs.declared.put.Put.{Put}
@@ -358,7 +358,7 @@ dropped_more old mid new sent one same before drop = (
 -- What is kept behind one line more. Some puts are dropped first, which an ack answered by it.
 module _ (old : Untold) (now : SenderFollowers) (past : List Numbered) (line : Numbered) (sent : List ℕ) (have : HasTaken old past)
     (asked : (number : ℕ) → Contains sent number → IsSentHere old line.event.act number)
-    (follows : (past : List Event) → IsRight (line.event ∷ past) → HaveFollowedSenders old.followers past → HaveFollowedSenders now (line.event ∷ past))
+    (follows : (past : List Event) → HasRightPut past line.event → HaveFollowedSenders old.followers past → HaveFollowedSenders now (line.event ∷ past))
     (mid : ℕ → Option Put)
     (drops : (number : ℕ) → (mid number ≡ get nat_cmp old.puts number) ⊎ ((mid number ≡ None) × Contains sent number × IsAnsweredBehind old now number))
     (marks : List Bool) (marks_dropped : (number : ℕ) (put : Put) → get nat_cmp old.puts number ≡ Some put → mid number ≡ None → IsMarked marks put.stream)
@@ -380,7 +380,7 @@ module _ (old : Untold) (now : SenderFollowers) (past : List Numbered) (line : N
   kept_behind number put is = later_on past line number put.stream put.place put.message.items (have.kept number put (dropped_none number put is))
 
   -- one that was dropped was answered
-  answered_now : (number : ℕ) (put : Put) → get nat_cmp old.puts number ≡ Some put → Contains sent number → IsAnsweredBehind old now number → IsRight (events_of (line ∷ past))
+  answered_now : (number : ℕ) (put : Put) → get nat_cmp old.puts number ≡ Some put → Contains sent number → IsAnsweredBehind old now number → ArePutsRight (events_of (line ∷ past))
       → IsAnsweredBy put.stream (events_of past) line.event put.place
   answered_now number put is here answered right =
       let (is_one, (sender, was, told)) = asked number here in
@@ -389,27 +389,27 @@ module _ (old : Untold) (now : SenderFollowers) (past : List Numbered) (line : N
       let behind : other ≡ put = same_Some other put (sym same ∙ is) in (
         is_one,
         subst (λ (p : Put). HasSenderOutcome p.stream (events_of past) p.place (Unknown false)) before (told (events_of past) (have.followed right.1)),
-        (outcome, subst (λ (p : Put). HasSenderOutcome p.stream (events_of (line ∷ past)) p.place outcome) behind (told' (events_of (line ∷ past)) (follows (events_of past) right (have.followed right.1))), answer),
+        (outcome, subst (λ (p : Put). HasSenderOutcome p.stream (events_of (line ∷ past)) p.place outcome) behind (told' (events_of (line ∷ past)) (follows (events_of past) right.0 (have.followed right.1))), answer),
       )
 
   pub all_behind : (number stream place : ℕ) (m : List ℕ) → IsPutAt past number stream place m
-      → IsKept mid number stream place m ⊎ (IsMarked marks stream × (IsRight (events_of (line ∷ past)) → IsAnswered stream (events_of (line ∷ past)) place))
+      → IsKept mid number stream place m ⊎ (IsMarked marks stream × (ArePutsRight (events_of (line ∷ past)) → IsAnswered stream (events_of (line ∷ past)) place))
   all_behind number stream place m at = by_kept (have.all number stream place m at)
     where
       by_drop : (put : Put) → get nat_cmp old.puts number ≡ Some put → put.stream ≡ stream → put.place ≡ place → put.message.items ≡ m
           → (mid number ≡ get nat_cmp old.puts number) ⊎ ((mid number ≡ None) × Contains sent number × IsAnsweredBehind old now number)
-          → IsKept mid number stream place m ⊎ (IsMarked marks stream × (IsRight (events_of (line ∷ past)) → IsAnswered stream (events_of (line ∷ past)) place))
+          → IsKept mid number stream place m ⊎ (IsMarked marks stream × (ArePutsRight (events_of (line ∷ past)) → IsAnswered stream (events_of (line ∷ past)) place))
       by_drop put is own here message (inl same) = inl (put, same ∙ is, own, here, message)
       by_drop put is own here message (inr (none, named, answered)) =
           inr (subst (IsMarked marks) own (marks_dropped number put is none), λ right. inl (subst (λ n. IsAnsweredBy n (events_of past) line.event place) own (subst (λ n. IsAnsweredBy put.stream (events_of past) line.event n) here (answered_now number put is named answered right))))
 
-      by_kept : IsKept (get nat_cmp old.puts) number stream place m ⊎ (IsMarked old.answered stream × (IsRight (events_of past) → IsAnswered stream (events_of past) place))
-          → IsKept mid number stream place m ⊎ (IsMarked marks stream × (IsRight (events_of (line ∷ past)) → IsAnswered stream (events_of (line ∷ past)) place))
+      by_kept : IsKept (get nat_cmp old.puts) number stream place m ⊎ (IsMarked old.answered stream × (ArePutsRight (events_of past) → IsAnswered stream (events_of past) place))
+          → IsKept mid number stream place m ⊎ (IsMarked marks stream × (ArePutsRight (events_of (line ∷ past)) → IsAnswered stream (events_of (line ∷ past)) place))
       by_kept (inl (put, is, own, here, message)) = by_drop put is own here message (drops number)
       by_kept (inr was) = inr (keeps_marks stream was.0, λ right. inr (was.1 right.1))
 
   -- of a stream that is marked one was answered
-  pub marked_behind : (stream : ℕ) → IsMarked marks stream → IsRight (events_of (line ∷ past)) → (place : ℕ) × IsAnswered stream (events_of (line ∷ past)) place
+  pub marked_behind : (stream : ℕ) → IsMarked marks stream → ArePutsRight (events_of (line ∷ past)) → (place : ℕ) × IsAnswered stream (events_of (line ∷ past)) place
   marked_behind stream mark right = by (marks_no_other stream mark)
     where
       by : IsMarked old.answered stream ⊎ ((number : ℕ) × Contains sent number × ((answered : IsAnsweredBehind old now number) × (answered.0.stream ≡ stream)))
@@ -425,11 +425,11 @@ module _ (old : Untold) (now : SenderFollowers) (past : List Numbered) (line : N
     marked_so : (stream : ℕ) → IsMarked marks stream → IsMarked new.answered stream
     marked_so stream mark = subst (λ (l : List Bool). IsMarked l stream) (sym marks_is) mark
 
-    marked_new : (stream : ℕ) → IsMarked new.answered stream → IsRight (events_of (line ∷ past)) → (place : ℕ) × IsAnswered stream (events_of (line ∷ past)) place
+    marked_new : (stream : ℕ) → IsMarked new.answered stream → ArePutsRight (events_of (line ∷ past)) → (place : ℕ) × IsAnswered stream (events_of (line ∷ past)) place
     marked_new stream mark right = marked_behind stream (subst (λ (l : List Bool). IsMarked l stream) marks_is mark) right
 
-    followed_behind : IsRight (events_of (line ∷ past)) → HaveFollowedSenders new.followers (events_of (line ∷ past))
-    followed_behind right = subst (λ (f : SenderFollowers). HaveFollowedSenders f (events_of (line ∷ past))) (sym followers_is) (follows (events_of past) right (have.followed right.1))
+    followed_behind : ArePutsRight (events_of (line ∷ past)) → HaveFollowedSenders new.followers (events_of (line ∷ past))
+    followed_behind right = subst (λ (f : SenderFollowers). HaveFollowedSenders f (events_of (line ∷ past))) (sym followers_is) (follows (events_of past) right.0 (have.followed right.1))
 
     -- no put
     pub read_other : is_put line.event.act line.event.reply ≡ false → new.counts ≡ old.counts → ((number : ℕ) → get nat_cmp new.puts number ≡ mid number) → HasTaken new (line ∷ past)
@@ -451,12 +451,12 @@ module _ (old : Untold) (now : SenderFollowers) (past : List Numbered) (line : N
         kept_so number stream place m (put, is, own, here, message) = (put, puts number ∙ is, own, here, message)
 
         by : (number stream place : ℕ) (m : List ℕ) → IsNewest past line number stream place m ⊎ IsPutAt past number stream place m
-            → IsKept (get nat_cmp new.puts) number stream place m ⊎ (IsMarked new.answered stream × (IsRight (events_of (line ∷ past)) → IsAnswered stream (events_of (line ∷ past)) place))
+            → IsKept (get nat_cmp new.puts) number stream place m ⊎ (IsMarked new.answered stream × (ArePutsRight (events_of (line ∷ past)) → IsAnswered stream (events_of (line ∷ past)) place))
         by number stream place m (inl newest) = absurd (untrue m newest.act_is newest.reply_is)
         by number stream place m (inr before) = map_left (all_behind number stream place m before)
           where
-            map_left : IsKept mid number stream place m ⊎ (IsMarked marks stream × (IsRight (events_of (line ∷ past)) → IsAnswered stream (events_of (line ∷ past)) place))
-                → IsKept (get nat_cmp new.puts) number stream place m ⊎ (IsMarked new.answered stream × (IsRight (events_of (line ∷ past)) → IsAnswered stream (events_of (line ∷ past)) place))
+            map_left : IsKept mid number stream place m ⊎ (IsMarked marks stream × (ArePutsRight (events_of (line ∷ past)) → IsAnswered stream (events_of (line ∷ past)) place))
+                → IsKept (get nat_cmp new.puts) number stream place m ⊎ (IsMarked new.answered stream × (ArePutsRight (events_of (line ∷ past)) → IsAnswered stream (events_of (line ∷ past)) place))
             map_left (inl kept) = inl (kept_so number stream place m kept)
             map_left (inr was) = inr (marked_so stream was.0, was.1)
 
@@ -523,12 +523,12 @@ module _ (old : Untold) (now : SenderFollowers) (past : List Numbered) (line : N
               no e = cc
 
           by : (number stream place : ℕ) (m : List ℕ) → IsNewest past line number stream place m ⊎ IsPutAt past number stream place m
-              → IsKept (get nat_cmp new.puts) number stream place m ⊎ (IsMarked new.answered stream × (IsRight (events_of (line ∷ past)) → IsAnswered stream (events_of (line ∷ past)) place))
+              → IsKept (get nat_cmp new.puts) number stream place m ⊎ (IsMarked new.answered stream × (ArePutsRight (events_of (line ∷ past)) → IsAnswered stream (events_of (line ∷ past)) place))
           by number stream place m (inl newest) = inl (by_newest number stream place m newest)
           by number stream place m (inr before) = map_left (all_behind number stream place m before)
             where
-              map_left : IsKept mid number stream place m ⊎ (IsMarked marks stream × (IsRight (events_of (line ∷ past)) → IsAnswered stream (events_of (line ∷ past)) place))
-                  → IsKept (get nat_cmp new.puts) number stream place m ⊎ (IsMarked new.answered stream × (IsRight (events_of (line ∷ past)) → IsAnswered stream (events_of (line ∷ past)) place))
+              map_left : IsKept mid number stream place m ⊎ (IsMarked marks stream × (ArePutsRight (events_of (line ∷ past)) → IsAnswered stream (events_of (line ∷ past)) place))
+                  → IsKept (get nat_cmp new.puts) number stream place m ⊎ (IsMarked new.answered stream × (ArePutsRight (events_of (line ∷ past)) → IsAnswered stream (events_of (line ∷ past)) place))
               map_left (inl (put, is, own, here, message)) = inl (put, others number (held number put is) ∙ is, own, here, message)
               map_left (inr was) = inr (marked_so stream was.0, was.1)
 
@@ -591,8 +591,8 @@ same_taken now new past followers counts marks puts have = record {
   marked = λ stream mark. have.marked stream (subst (λ (l : List Bool). IsMarked l stream) marks mark);
 }
   where
-    by : (number stream place : ℕ) (m : List ℕ) → IsKept (get nat_cmp now.puts) number stream place m ⊎ (IsMarked now.answered stream × (IsRight (events_of past) → IsAnswered stream (events_of past) place))
-        → IsKept (get nat_cmp new.puts) number stream place m ⊎ (IsMarked new.answered stream × (IsRight (events_of past) → IsAnswered stream (events_of past) place))
+    by : (number stream place : ℕ) (m : List ℕ) → IsKept (get nat_cmp now.puts) number stream place m ⊎ (IsMarked now.answered stream × (ArePutsRight (events_of past) → IsAnswered stream (events_of past) place))
+        → IsKept (get nat_cmp new.puts) number stream place m ⊎ (IsMarked new.answered stream × (ArePutsRight (events_of past) → IsAnswered stream (events_of past) place))
     by number stream place m (inl (put, is, own, here, message)) = inl (put, ap (λ t. get nat_cmp t number) puts ∙ is, own, here, message)
     by number stream place m (inr was) = inr (subst (λ (l : List Bool). IsMarked l stream) (sym marks) was.0, was.1)
 

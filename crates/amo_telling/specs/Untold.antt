@@ -12,6 +12,8 @@ use Rattle.amo_core.specs.declared.act.Act.TheVariants as act
 use Rattle.amo_core.specs.declared.reply.Reply.TheVariants as reply
 use Rattle.amo_world.specs.declared.event.Event.{Event}
 use Rattle.amo_world.specs.History.{IsRight}
+use Rattle.amo_outcomes.specs.RightPuts.{ArePutsRight}
+use Rattle.amo_outcomes.specs.StandsFor.{GoesOnFrom, more_puts}
 use Rattle.amo_world.specs.Stream.{IsStream}
 use Rattle.amo_outcomes.specs.declared.sender_followers.SenderFollowers.{SenderFollowers}
 use Rattle.amo_outcomes.specs.Heard.{all_sent}
@@ -67,12 +69,12 @@ IsMarked marks stream = IsStream stream × (get_or marks (stream - 1) false ≡ 
 
 -- these lines were taken, the newest of which is the first: each put is kept, unless an ack answered it, and nothing else is
 pub record HasTaken (untold : Untold) (past : List Numbered) : Type 0 where
-  pub followed : IsRight (events_of past) → HaveFollowedSenders untold.followers (events_of past)
+  pub followed : ArePutsRight (events_of past) → HaveFollowedSenders untold.followers (events_of past)
   pub counted : Counts untold.counts (events_of past)
   pub kept : (number : ℕ) (put : Put) → get nat_cmp untold.puts number ≡ Some put → IsPutAt past number put.stream put.place put.message.items
   pub all : (number stream place : ℕ) (message : List ℕ) → IsPutAt past number stream place message
-      → IsKept (get nat_cmp untold.puts) number stream place message ⊎ (IsMarked untold.answered stream × (IsRight (events_of past) → IsAnswered stream (events_of past) place))
-  pub marked : (stream : ℕ) → IsMarked untold.answered stream → IsRight (events_of past) → (place : ℕ) × IsAnswered stream (events_of past) place
+      → IsKept (get nat_cmp untold.puts) number stream place message ⊎ (IsMarked untold.answered stream × (ArePutsRight (events_of past) → IsAnswered stream (events_of past) place))
+  pub marked : (stream : ℕ) → IsMarked untold.answered stream → ArePutsRight (events_of past) → (place : ℕ) × IsAnswered stream (events_of past) place
 
 -- and reading goes on at the line of this number, in front of which they are: no stream took more puts than there are numbers
 pub record HasRead (untold : Untold) (next : ℕ) (past : List Numbered) : Type 0 where
@@ -163,13 +165,14 @@ abbrev pub told_text : Bool → ℕ → Put → Option Told → List ℕ
 told_text json number put None = []
 told_text json number put (Some what) = told_line json number put.stream what put.message.items
 
-abbrev pub TellsPut : List Event → List Span → Bool → ℕ × Put → List ℕ → List ℕ → Type 0
-TellsPut past doubts json (number, put) old new = (outcome : Option SenderOutcome) × IsKnownAs past put outcome × (new ≡ old ++ told_text json number put (told_if doubts number outcome))
+-- where this is known of puts
+abbrev pub TellsPut : (Put → Option SenderOutcome → Type 0) → List Span → Bool → ℕ × Put → List ℕ → List ℕ → Type 0
+TellsPut IsKnown doubts json (number, put) old new = (outcome : Option SenderOutcome) × IsKnown put outcome × (new ≡ old ++ told_text json number put (told_if doubts number outcome))
 
 -- and those of these puts, in their order
-abbrev pub TellsPuts : List Event → List Span → Bool → List (ℕ × Put) → List ℕ → List ℕ → Type 0
-TellsPuts past doubts json [] old new = new ≡ old
-TellsPuts past doubts json (put ∷ puts) old new = (middle : List ℕ) × TellsPut past doubts json put old middle × TellsPuts past doubts json puts middle new
+abbrev pub TellsPuts : (Put → Option SenderOutcome → Type 0) → List Span → Bool → List (ℕ × Put) → List ℕ → List ℕ → Type 0
+TellsPuts IsKnown doubts json [] old new = new ≡ old
+TellsPuts IsKnown doubts json (put ∷ puts) old new = (middle : List ℕ) × TellsPut IsKnown doubts json put old middle × TellsPuts IsKnown doubts json puts middle new
 
 -- a put is kept of this stream, and what is known of it passes this test
 abbrev pub HasPut : List (ℕ × Put) → List Event → (ℕ → Option SenderOutcome → Bool) → ℕ → Type 0
@@ -230,9 +233,28 @@ Picks Holds (number ∷ numbers) those = (Holds number × ((more : List ℕ) × 
 pub record AreThose (Holds : ℕ → Type 0) (numbers those : List ℕ) : Type 0 where
   pub picked : Picks Holds numbers those
 
--- What a start tells of lines that were read: of the streams in doubt on which a put was sent that they are settled, of each put that is kept what its
--- events tell, in the order of their lines, and then of the streams of which one is told as unknown, and nothing is in doubt, that they are settled by now.
-abbrev pub TellsAll : Untold → List Event → List Span → List ℕ → Bool → List ℕ → Type 0
-TellsAll untold past doubts in_doubt json text = (streams : List ℕ) × AreThose (WasSentOn past) in_doubt streams
-    × ((told : List ℕ) × TellsPuts past doubts json untold.puts.entries (flat_map (settled_line json) streams) told
+-- What a start tells of lines that were read: of the streams in doubt on which a put was sent that they are settled, of each put that is kept what is known
+-- of it, in the order of their lines, and then of the streams of which one is told as unknown, and nothing is in doubt, that they are settled by now.
+abbrev pub TellsBy : (Put → Option SenderOutcome → Type 0) → Untold → List Event → List Span → List ℕ → Bool → List ℕ → Type 0
+TellsBy IsKnown untold past doubts in_doubt json text = (streams : List ℕ) × AreThose (WasSentOn past) in_doubt streams
+    × ((told : List ℕ) × TellsPuts IsKnown doubts json untold.puts.entries (flat_map (settled_line json) streams) told
     × ((by_now : List ℕ) × AreThose (IsSettledByNow untold past doubts) (range_with_len 1 256) by_now × (text ≡ told ++ flat_map (settled_line json) by_now)))
+
+-- of each put what the events of these lines tell
+abbrev pub TellsAll : Untold → List Event → List Span → List ℕ → Bool → List ℕ → Type 0
+TellsAll untold past doubts in_doubt json text = TellsBy (IsKnownAs past) untold past doubts in_doubt json text
+
+-- The events of a journal's newer lines go on from a list of its earlier ones, as they do from all of these. Its events are right, and so are the list's puts.
+pub record Resumes (newer listed earlier : List Event) : Type 0 where
+  pub each : (stream : ℕ) → GoesOnFrom stream newer listed earlier
+  pub right : IsRight (newer ++ earlier)
+  pub puts : ArePutsRight listed
+
+-- what all events of a journal tell of a put that was read as one of a part of them: by its number from the newest one on
+abbrev pub IsKnownByAll : List Event → List Event → Put → Option SenderOutcome → Type 0
+IsKnownByAll part all put outcome = IsKnownAs all (record put { place = more_puts put.stream part all + put.place }) outcome
+
+-- each put of the part is kept, unless an ack answered it, as all of the journal tells
+abbrev pub KeepsAllOf : Untold → List Numbered → List Event → List Event → Type 0
+KeepsAllOf untold past part all = (number stream place : ℕ) (message : List ℕ) → IsPutAt past number stream place message
+    → IsKept (get nat_cmp untold.puts) number stream place message ⊎ IsAnswered stream all (more_puts stream part all + place)

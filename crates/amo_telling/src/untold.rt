@@ -45,13 +45,13 @@ impl Untold {
     ghost use Rattle.amo_outcomes.specs.SenderOutcome.{HasSenderOutcome};
     ghost use Rattle.amo_journal.specs.declared.numbered.Numbered.{Numbered};
     ghost use Rattle.amo_world.specs.declared.event.Event.{Event};
-    ghost use Rattle.amo_world.specs.History.{IsRight};
+    ghost use Rattle.amo_outcomes.specs.RightPuts.{ArePutsRight};
     ghost use Rattle.amo_world.specs.Stream.{IsStream};
     ghost use Rattle.amo_telling.specs.declared.put.Put.{Put};
     ghost use Rattle.amo_core.specs.declared.act.Act.TheVariants as act;
     ghost use Rattle.amo_core.specs.declared.reply.Reply.TheVariants as reply;
     ghost use Rattle.amo_telling.specs.Outcomes.{is_put};
-    ghost use Rattle.amo_telling.specs.Untold.{AreTallies, AreThose, Drops, GoesOn, HasRead, IsAnsweredBehind, IsInDoubt, IsSent, IsSentHere, IsSettledByNow, KeepsPut, Recalls, Takes, TellsAll, TellsPut, TellsPuts, WasSentOn, events_of};
+    ghost use Rattle.amo_telling.specs.Untold.{AreTallies, AreThose, Drops, GoesOn, HasRead, IsAnsweredBehind, IsInDoubt, IsKnownAs, IsKnownByAll, IsSent, IsSentHere, IsSettledByNow, KeepsAllOf, KeepsPut, Recalls, Resumes, Takes, TellsAll, TellsBy, TellsPut, TellsPuts, WasSentOn, events_of};
     ghost use Rattle.amo_telling.specs.Unanswered.{settled_line};
     ghost use Rattle.std.specs.List.{flat_map, range_with_len};
 
@@ -293,8 +293,14 @@ impl Untold {
     /// sent, so that the crash at hand or an earlier one forgot it for good, and `STREAM unknown MESSAGE` where it was, or where a loss of power may
     /// have taken the line that tells so; these lines are doubtful. In JSON it has the number of the put's line. Last, `STREAM settled` for each stream
     /// of which one is told as unknown, and nothing is in doubt.
+    ///
+    /// Where the lines that were read go on from a list of those in front of them, of each put is told what all lines tell.
     pub fn tell(&self, doubts: &[Span], in_doubt: &[u32], json: bool) -> Result<Vec<u8>, AllocError>
-        ensures { IfOk result (λ text. (next : ℕ) (past : List Numbered) → HasRead self.now next past → IsRight (events_of past) → TellsAll self.now (events_of past) doubts.now in_doubt.now json text.items) }
+        ensures told { IfOk result (λ text. (next : ℕ) (past : List Numbered) → HasRead self.now next past → ArePutsRight (events_of past) → TellsAll self.now (events_of past) doubts.now in_doubt.now json text.items) }
+        ensures all { IfOk result (λ text. (next : ℕ) (past : List Numbered) (newer listed earlier : List Event) → HasRead self.now next past → events_of past ≡ newer ++ listed → Resumes newer listed earlier
+            → TellsBy (IsKnownByAll (newer ++ listed) (newer ++ earlier)) self.now (newer ++ listed) doubts.now in_doubt.now json text.items) }
+        ensures kept { OnOk result ((next : ℕ) (past : List Numbered) (newer listed earlier : List Event) → HasRead self.now next past → events_of past ≡ newer ++ listed → Resumes newer listed earlier
+            → KeepsAllOf self.now past (newer ++ listed) (newer ++ earlier)) }
     {
         let mut text = Vec::new(self.alloc);
         self.tell_settled(doubts, in_doubt, json, &mut text)?;
@@ -306,7 +312,7 @@ impl Untold {
     /// The streams on which it is in doubt what became of a message: one is told as unknown, and that is not settled; or one was so before, on a stream
     /// of these, and none was sent there since. In their order.
     pub fn in_doubt(&self, doubts: &[Span], before: &[u32]) -> Result<Vec<u32>, AllocError>
-        ensures { IfOk result (λ streams. (next : ℕ) (past : List Numbered) → HasRead self.now next past → IsRight (events_of past)
+        ensures { IfOk result (λ streams. (next : ℕ) (past : List Numbered) → HasRead self.now next past → ArePutsRight (events_of past)
             → AreThose (IsInDoubt self.now (events_of past) doubts.now before.now) (range_with_len 1 256) streams.items) }
     {
         let tallies = self.tallies(doubts)?;
@@ -323,7 +329,7 @@ impl Untold {
     fn is_in_doubt(&self, stream: u32, before: &[u32], tallies: &[Tally]) -> bool
         requires stream { IsStream stream }
         requires all { length tallies.now ≡ 256 }
-        ensures { (doubts : List Span) → AreTallies self.now doubts tallies.now → (next : ℕ) (past : List Numbered) → HasRead self.now next past → IsRight (events_of past)
+        ensures { (doubts : List Span) → AreTallies self.now doubts tallies.now → (next : ℕ) (past : List Numbered) → HasRead self.now next past → ArePutsRight (events_of past)
             → Decides result (IsInDoubt self.now (events_of past) doubts before.now stream) }
     {
         if tallies[stream as usize - 1].is_unsettled {
@@ -340,7 +346,7 @@ impl Untold {
         json: bool,
         text: &mut Vec<u8>,
     ) -> Result<(), AllocError>
-        ensures { OnOk result ((streams : List ℕ) × ((next : ℕ) (past : List Numbered) → HasRead self.now next past → IsRight (events_of past) → AreThose (WasSentOn (events_of past)) in_doubt.now streams)
+        ensures { OnOk result ((streams : List ℕ) × ((next : ℕ) (past : List Numbered) → HasRead self.now next past → ArePutsRight (events_of past) → AreThose (WasSentOn (events_of past)) in_doubt.now streams)
             × (text.new.items ≡ text.old.items ++ flat_map (settled_line json) streams)) }
     {
         let tallies = self.tallies(doubts)?;
@@ -387,7 +393,7 @@ impl Untold {
     /// Whether a message was sent on a stream, where this is known of the puts of each: one that was answered, or another.
     fn has_sent(&self, stream: u32, tallies: &[Tally]) -> bool
         requires { length tallies.now ≡ 256 }
-        ensures { (doubts : List Span) → AreTallies self.now doubts tallies.now → (next : ℕ) (past : List Numbered) → HasRead self.now next past → IsRight (events_of past)
+        ensures { (doubts : List Span) → AreTallies self.now doubts tallies.now → (next : ℕ) (past : List Numbered) → HasRead self.now next past → ArePutsRight (events_of past)
             → Decides result (WasSentOn (events_of past) stream) }
     {
         if stream == 0 || stream > STREAMS {
@@ -413,7 +419,7 @@ impl Untold {
 
     /// A line for each put that no ack answered.
     fn tell_puts(&self, doubts: &[Span], json: bool, text: &mut Vec<u8>) -> Result<(), AllocError>
-        ensures { OnOk result ((past : List Event) → HaveFollowedSenders self.now.followers past → TellsPuts past doubts.now json self.now.puts.entries text.old.items text.new.items) }
+        ensures { OnOk result ((past : List Event) → HaveFollowedSenders self.now.followers past → TellsPuts (IsKnownAs past) doubts.now json self.now.puts.entries text.old.items text.new.items) }
     {
         for (number, put) in self.puts.iter() {
             self.tell_put(*number, put, doubts, json, text)?;
@@ -430,7 +436,7 @@ impl Untold {
         json: bool,
         text: &mut Vec<u8>,
     ) -> Result<(), AllocError>
-        ensures { OnOk result ((past : List Event) → HaveFollowedSenders self.now.followers past → TellsPut past doubts.now json (number, put.now) text.old.items text.new.items) }
+        ensures { OnOk result ((past : List Event) → HaveFollowedSenders self.now.followers past → TellsPut (IsKnownAs past) doubts.now json (number, put.now) text.old.items text.new.items) }
     {
         let outcome = self.followers.outcome(put.stream, put.place);
         match told_of(outcome, number, doubts) {

@@ -15,5 +15,5 @@ loop-event-preserved c =
     (take place events) = past_next events place event within c.event-item.is in
     subst (λ (past : List Event). SendersFollowed c.follow.new.followers.items past) (sym history)
     (c.in_ok-follow.ensures.followed (reverse (take place events))
-    (subst (λ (past : List Event). IsRight past) history (beginning HasRightReply events (place + 1) c.requires.right))
+    (λ m is. (subst (λ (past : List Event). IsRight past) history (beginning HasRightReply events (place + 1) c.requires.right)).0)
     c.loop-event.invariant)

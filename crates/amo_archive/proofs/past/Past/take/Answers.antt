@@ -23,7 +23,7 @@ returns c = λ past has.
     let reign : c.see.new.self ≡ reign_after s.lives.items (line ∷ past) = c.see.ensures.seen ∙ (ap (λ (l : List Life). seen l line s.reign) slice ∙ ap (λ (r : Reign). seen s.lives.items line r) has.reign) in
     record {
       from_first = (subst (λ (last : Option ℕ). IsFirstOrBehind last line.number) has.last c.requires.first, has.from_first);
-      followed = λ right. c.in_ok-follow.ensures (events_of past) right (subst (λ (f : SenderFollowers). HaveFollowedSenders f (events_of past)) (sym followers) (has.followed right.1));
+      followed = λ right. c.in_ok-follow.ensures (events_of past) (λ m put. right.0) (subst (λ (f : SenderFollowers). HaveFollowedSenders f (events_of past)) (sym followers) (has.followed right.1));
       last = refl;
       reign = subst (λ (l : List Life). c.count_put.new.self.reign ≡ reign_after l (line ∷ past)) (sym lives) (kept ∙ reign);
       lanes = λ place lane at.

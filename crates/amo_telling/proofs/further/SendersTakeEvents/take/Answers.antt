@@ -9,4 +9,4 @@ pub returns : goal.returns
 returns c = on_ok_weaker c.follow.result (λ follows past counted has right.
     let turned : reverse (past ++ c.args.event ∷ []) ≡ c.args.event ∷ reverse past = turned_more past c.args.event in
     let now = subst IsRight turned right in
-    subst (HaveFollowedSenders c.follow.new.self) (sym turned) (follows (reverse past) now (has now.1))) c.follow.ensures
+    subst (HaveFollowedSenders c.follow.new.self) (sym turned) (follows (reverse past) (λ m put. now.0) (has now.1))) c.follow.ensures
