@@ -1,5 +1,5 @@
 //! Finds a line of a piece of a journal by its number, without reading all that stands in front of it.
-ghost use Rattle.std.specs.Prelude.{◌≡◌, ◌+◌, ◌×◌, ◌≤◌, ◌++◌, ◌∷◌, ℕ, List, IfOk, IfSome, length};
+ghost use Rattle.std.specs.Prelude.{◌≡◌, ◌+◌, ◌≤◌, ◌++◌, ◌∷◌, ℕ, List, IfOk, IfSome, length};
 ghost use Rattle.std.specs.Fmt.{decimal};
 
 use amo_text::{next_decimal, next_line};
