@@ -22,3 +22,4 @@ pub mod SenderFollowing
 pub mod StandsFor
 pub mod OpenPuts
 pub mod Resuming
+pub mod OpenEvents

@@ -41,7 +41,7 @@ before_both : (first : ℕ) (xs ys : List ℕ) → Before first xs → Before fi
 before_both first xs ys one other put c = elim (Contains-append_cases xs ys put c) [ inl x ↦ one put x | inr y ↦ other put y ]
 
 -- how many messages the open handshake has
-abbrev held : SenderMode → ℕ
+abbrev pub held : SenderMode → ℕ
 held mode = length (sender.held_by mode)
 
 -- the puts of the open handshake, in a row, and all that were sent before it
@@ -380,7 +380,7 @@ asks_moved many (sending.Quiet got) puts = refl
 asks_moved many (sending.Send id load) puts = refl
 asks_moved many sending.Down puts = refl
 
-held_unanswered : (mode : SenderMode) → held mode ≡ held (unanswered mode)
+pub held_unanswered : (mode : SenderMode) → held mode ≡ held (unanswered mode)
 held_unanswered (sending.NeedId jd load) = refl
 held_unanswered (sending.Quiet got) = refl
 held_unanswered (sending.Send id load) = refl

@@ -140,17 +140,18 @@ down_unanswered (sending.NeedId jd load) = refl
 down_unanswered (sending.Send id load) = refl
 down_unanswered sending.Down = refl
 
+pub same_put_answer : (s' s : sender.SenderState) (m : List ℕ) → unanswered s'.mode ≡ unanswered s.mode → s'.waiting ≡ s.waiting → (sender.row s' (act.Put m)).reply ≡ (sender.row s (act.Put m)).reply
+same_put_answer s' s m mode messages =
+    put_answer s' s'.mode m
+    ∙ ap (λ (b : Bool). if b then Some reply.Down else (if eqb (length s'.waiting) 16 then Some reply.Full else Some reply.Ok))
+    (down_unanswered s'.mode ∙ ap sender.is_down mode ∙ sym (down_unanswered s.mode))
+    ∙ ap (λ (w : List (List ℕ)). if sender.is_down s.mode then Some reply.Down else (if eqb (length w) 16 then Some reply.Full else Some reply.Ok)) messages
+    ∙ sym (put_answer s s.mode m)
+
 module _ (number many : ℕ) (part whole : List Event) (stands : StandsFor number many part whole) where
   same_answer : (side : End) (m : List ℕ) → reply_of (stream_after number part) side (act.Put m) ≡ reply_of (stream_after number whole) side (act.Put m)
   same_answer Receiver m = refl
-  same_answer Sender m =
-      let s' = (stream_after number part).sender.state in
-      let s = (stream_after number whole).sender.state in
-      put_answer s' s'.mode m
-      ∙ ap (λ (b : Bool). if b then Some reply.Down else (if eqb (length s'.waiting) 16 then Some reply.Full else Some reply.Ok))
-      (down_unanswered s'.mode ∙ ap sender.is_down stands.mode ∙ sym (down_unanswered s.mode))
-      ∙ ap (λ (w : List (List ℕ)). if sender.is_down s.mode then Some reply.Down else (if eqb (length w) 16 then Some reply.Full else Some reply.Ok)) stands.messages
-      ∙ sym (put_answer s s.mode m)
+  same_answer Sender m = same_put_answer (stream_after number part).sender.state (stream_after number whole).sender.state m stands.mode stands.messages
 
   right_put : (e : Event) → e.stream ≡ number → HasRightPut whole e → HasRightPut part e
   right_put e own right m is =

@@ -269,11 +269,11 @@ alike_modes sending.Down (sending.Send id load) same = inl cc
 alike_modes sending.Down sending.Down same = inl refl
 
 -- rows of an act at two such senders
-record RowsAlike (a : Act) (r' r : Row sender.SenderState) : Type 0 where
-  stream : r'.state.stream ≡ r.state.stream
-  mode : unanswered r'.state.mode ≡ unanswered r.state.mode
-  messages : r'.state.waiting ≡ r.state.waiting
-  replies : (p : Puts) → called a r'.reply p ≡ called a r.reply p
+pub record RowsAlike (a : Act) (r' r : Row sender.SenderState) : Type 0 where
+  pub stream : r'.state.stream ≡ r.state.stream
+  pub mode : unanswered r'.state.mode ≡ unanswered r.state.mode
+  pub messages : r'.state.waiting ≡ r.state.waiting
+  pub replies : (p : Puts) → called a r'.reply p ≡ called a r.reply p
 
 same_rows : (a : Act) (r : Row sender.SenderState) → RowsAlike a r r
 same_rows a r = record { stream = refl; mode = refl; messages = refl; replies = λ p. refl }
@@ -337,7 +337,7 @@ module _ (n : ℕ) (was got : Bool) where
   quiet_rows waiting act.Crash = record { stream = refl; mode = refl; messages = refl; replies = λ p. refl }
   quiet_rows waiting act.Recover = record { stream = refl; mode = refl; messages = refl; replies = λ p. refl }
 
-rows_alike : (s' s : sender.SenderState) (a : Act) → s'.stream ≡ s.stream → unanswered s'.mode ≡ unanswered s.mode → s'.waiting ≡ s.waiting → RowsAlike a (sender.row s' a) (sender.row s a)
+pub rows_alike : (s' s : sender.SenderState) (a : Act) → s'.stream ≡ s.stream → unanswered s'.mode ≡ unanswered s.mode → s'.waiting ≡ s.waiting → RowsAlike a (sender.row s' a) (sender.row s a)
 rows_alike s' s a stream mode messages = elim (alike_modes s'.mode s.mode mode) [
   | inl same ↦ subst (λ (t : sender.SenderState). RowsAlike a (sender.row t a) (sender.row s a)) (sym (whole same)) (same_rows a (sender.row s a))
   | inr quiet ↦

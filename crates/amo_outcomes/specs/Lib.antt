@@ -12,3 +12,4 @@ pub mod RightPuts
 pub mod StandsFor
 pub mod SenderFollower
 pub mod SenderFollowers
+pub mod OpenEvents

@@ -1,5 +1,5 @@
 //! Laws of outcomes. Each is the contract of a function that does nothing.
-ghost use Rattle.std.specs.Prelude.{◌≡◌, ◌↔◌, ◌<◌, ◌+◌, ◌-◌, ◌++◌, true, ℕ, List, [], ◌∷◌, length};
+ghost use Rattle.std.specs.Prelude.{◌≡◌, ◌↔◌, ◌<◌, ◌+◌, ◌-◌, ◌++◌, true, false, ℕ, List, [], ◌∷◌, length};
 ghost use Rattle.std.specs.List.{Contains};
 ghost use Rattle.amo_object.specs.declared.step.End.{End};
 ghost use Rattle.amo_object.specs.declared.step.End.TheVariants.{Sender};
@@ -15,8 +15,10 @@ ghost use Rattle.amo_world.specs.Served.{calls};
 ghost use Rattle.amo_outcomes.specs.declared.outcome.Outcome.{Outcome};
 ghost use Rattle.amo_outcomes.specs.declared.outcome.Outcome.TheVariants.{Got, Gone, Open};
 ghost use Rattle.amo_outcomes.specs.Puts.{puts_after, sent_under};
+ghost use Rattle.amo_core.specs.Sender.{is_down};
+ghost use Rattle.amo_outcomes.specs.OpenEvents.{open_events};
 ghost use Rattle.amo_outcomes.specs.Outcome.{HasOutcome, AreOf};
-ghost use Rattle.amo_outcomes.specs.RightPuts.{ArePutsRightOn};
+ghost use Rattle.amo_outcomes.specs.RightPuts.{ArePutsRight, ArePutsRightOn};
 ghost use Rattle.amo_outcomes.specs.declared.sender_outcome.SenderOutcome.{SenderOutcome};
 ghost use Rattle.amo_outcomes.specs.declared.sender_outcome.SenderOutcome.TheVariants as told;
 ghost use Rattle.amo_outcomes.specs.SenderOutcome.{HasSenderOutcome, GoesOnAtSender};
@@ -131,4 +133,13 @@ pub fn a_list_of_open_puts_tells_what_all_events_do()
         → HasSenderOutcome number (newer ++ all) (more_puts number (newer ++ listed) (newer ++ all) + put) outcome }
     ensures right { (number : ℕ) (newer listed all : List Event) → GoesOnFrom number newer listed all → IsRight (newer ++ all)
         → ArePutsRightOn number listed → ArePutsRightOn number (newer ++ listed) }
+{}
+
+/// The events that tell of a sender's messages without an answer are such a list: of each stream the puts of these messages, how the open handshake began and how
+/// its accept came, in their order.
+pub fn open_events_bring_a_sender_back()
+    ensures brings { (number : ℕ) (events : List Event) → ArePutsRight events → is_down (stream_after number events).sender.state.mode ≡ false
+        → BringsTo number (open_events number events) events }
+    ensures right { (number : ℕ) (events : List Event) → ArePutsRight events → is_down (stream_after number events).sender.state.mode ≡ false
+        → ArePutsRight (open_events number events) }
 {}
