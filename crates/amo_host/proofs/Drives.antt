@@ -43,12 +43,6 @@ silently_driven v w c d act done buffer h =
       found = driven.found;
     }
 
--- an event that emits nothing answers no length
-pub no_length : (v w : PassState) (c d : ChargeState) (a : Act) (old new : List ℕ) (done : Done) → ((s : Stream) (side : End) → emission_of s side a ≡ None) → Driven v w c d a old new done → done.length ≡ None
-no_length v w c d a old new done silent driven =
-    let here = silent (stream_after c.stream driven.grown.earlier) c.side in
-    (subst (λ (e : Option OwnedPacket). Writes e old new done.length) here driven.emitted).1
-
 -- no handshake is open at a receiver
 receiver_shut : (m : ReceiverMode) → is_open (receiver.kind m) ≡ false
 receiver_shut receiving.Idle = refl

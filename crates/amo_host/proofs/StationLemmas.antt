@@ -1,5 +1,5 @@
 -- A pump and its charges.
-use Rattle.std.proofs.Common.{◌≡◌, ℕ, zero, suc, ◌<◌, Bool, false, List, [], ◌∷◌, Option, None, length, get_or, set, slice_get, Some, refl, sym, ap, subst, ◌∙◌, arith}
+use Rattle.std.proofs.Common.{◌≡◌, ℕ, zero, suc, ◌<◌, Bool, List, [], ◌∷◌, Option, length, get_or, set, slice_get, Some, refl, sym, ap, subst, ◌∙◌, arith}
 use Rattle.std.proofs.lemmas.List.{map-set, length-map}
 use Rattle.std.proofs.lemmas.Option.{same_Some, slice_get-map, slice_get_within}
 use Rattle.std.specs.Option.{option_map}
@@ -15,25 +15,21 @@ use Rattle.amo_host.specs.Charges.{IsOfSide, stream_mode_of}
 use Rattle.amo_host.specs.Host.{Host, IsHost, IsAt, IsFor, Noted, streams_of}
 use Rattle.amo_host.specs.Station.{Station, IsStation}
 use Rattle.amo_host.proofs.ChargeLemmas.{each_at, each_set}
-use Rattle.amo_host.proofs.Drives.{no_length}
-use Rattle.amo_object.specs.declared.step.End.{End}
-use Rattle.amo_world.specs.Stream.{Stream, emission_of}
 use Rattle.amo_core.specs.declared.act.Act.{Act}
 use Rattle.amo_core.specs.declared.act.Act.TheVariants as act
 use Rattle.amo_book.specs.Drive.{Suits}
 use Rattle.amo_book.specs.Pass.{PassState}
-use Rattle.amo_book.proofs.Replies.{crash_is_silent, recover_is_silent}
 use Rattle.amo_host.specs.declared.fault.PumpFault.TheVariants.{NoMemory}
 use Rattle.amo_host.specs.declared.turned.Kind.{Kind}
 use Rattle.amo_host.specs.declared.turned.Turned.{Turned}
 use Rattle.amo_host.specs.declared.turned.Turned.TheVariants.{Idle, Unread, Stranger, Did}
-use Rattle.amo_host.specs.Kind.{IsKindOf, IsHostAct, IsDownOrUp, is_resend}
+use Rattle.amo_host.specs.Kind.{IsKindOf, IsHostAct, IsDownOrUp}
 use Rattle.amo_host.specs.Modes.{MayOpen}
 use Rattle.amo_host.specs.declared.turned.Kind.TheVariants as kind
 use Rattle.amo_host.specs.declared.fault.PumpFault.{PumpFault}
 use Rattle.amo_packet.specs.Grammar.{Spells}
 use Rattle.amo_host.specs.AtStream.{Delivers, FailsToDeliver}
-use Rattle.amo_host.specs.Turn.{Happened, Performed, GoesDownOrUp, DeliveryFails, TurnsWith, FailsWith}
+use Rattle.amo_host.specs.Turn.{DeliveryFails, TurnsWith, FailsWith}
 
 -- what was read in a place stands there
 pub read_at : {X : Type 0} (xs : List X) (i : ℕ) (x : X) → i < length xs → x ≡ get_or xs i x → slice_get xs i ≡ Some x
@@ -73,19 +69,7 @@ module _ {W : Type 0} (s : Station W) (is : IsStation s) (place : ℕ) where
   pub for_place : (p : OwnedPacket) → IsFor s.host place p → place < length s.charges
   for_place p fits = is_place (omega (arith, length-map s.host.modes (λ (m : StreamMode). m.stream), slice_get_within (streams_of s.host.modes) place p.stream fits.stream))
 
--- a crash or a recovery is asked of any charge
-pub suits_any : (c : ChargeState) (a : Act) → IsDownOrUp a → Suits c a
-suits_any c (act.Put m) never = absurd never
-suits_any c act.Get never = absurd never
-suits_any c act.Ack never = absurd never
-suits_any c (act.Start word) never = absurd never
-suits_any c (act.Batch word) never = absurd never
-suits_any c act.Resend never = absurd never
-suits_any c (act.Deliver p word) never = absurd never
-suits_any c act.Crash down = tt
-suits_any c act.Recover down = tt
-
--- it opens no handshake
+-- a crash or a recovery opens no handshake
 pub opens_none : (a : Act) (was : Mode) → IsDownOrUp a → ¬ (MayOpen a was)
 opens_none (act.Put m) was never opens = never
 opens_none act.Get was never opens = never
@@ -96,29 +80,6 @@ opens_none act.Resend was never opens = never
 opens_none (act.Deliver p word) was never opens = never
 opens_none act.Crash was down opens = opens
 opens_none act.Recover was down opens = opens
-
--- it emits nothing, and is no resend
-pub is_silent : (a : Act) → IsDownOrUp a → (x : Stream) (side : End) → emission_of x side a ≡ None
-is_silent (act.Put m) never = absurd never
-is_silent act.Get never = absurd never
-is_silent act.Ack never = absurd never
-is_silent (act.Start word) never = absurd never
-is_silent (act.Batch word) never = absurd never
-is_silent act.Resend never = absurd never
-is_silent (act.Deliver p word) never = absurd never
-is_silent act.Crash down = crash_is_silent
-is_silent act.Recover down = recover_is_silent
-
-pub is_once : (a : Act) → IsDownOrUp a → is_resend a ≡ false
-is_once (act.Put m) never = refl
-is_once act.Get never = refl
-is_once act.Ack never = refl
-is_once (act.Start word) never = refl
-is_once (act.Batch word) never = refl
-is_once act.Resend never = absurd never
-is_once (act.Deliver p word) never = refl
-is_once act.Crash down = refl
-is_once act.Recover down = refl
 
 -- what a charge is asked is an act of a host's
 pub suits_host : (c : ChargeState) (a : Act) → Suits c a → IsHostAct a
@@ -143,25 +104,6 @@ kind_is act.Resend k l is same = is ∙ sym same
 kind_is (act.Deliver p word) k l is same = is ∙ sym same
 kind_is act.Crash k l is same = is ∙ sym same
 kind_is act.Recover k l is same = is ∙ sym same
-
--- an act that emits nothing, of the charge of this stream
-pub goes : {W : Type 0} (s t : Station W) (v w : PassState) (old new : List ℕ) (place now stream : ℕ) (a : Act) (kind : Kind) (turned : Turned)
-    → IsStation s → ((x : Stream) (side : End) → emission_of x side a ≡ None) → is_resend a ≡ false → IsKindOf a kind
-    → slice_get (streams_of s.host.modes) place ≡ Some stream → t.words ≡ s.words
-    → Performed s t v w old new place now a turned → GoesDownOrUp a kind stream now s t v w turned
-goes s t v w old new place now stream a kind (Did side named k d) is silent once of at words done =
-    let h = done.1 in (
-      place,
-      at,
-      h.of_stream ∙ same_Some h.charge.stream stream (sym (stream_at_place s is place h.charge h.at) ∙ at),
-      kind_is a k kind done.0 of,
-      no_length v w h.charge _ a old new d silent h.driven,
-      words,
-      (old, new, subst (λ (b : Bool). Happened s t v w old new place now a b side named d) once h),
-    )
-goes s t v w old new place now stream a kind Idle is silent once of at words done = absurd done
-goes s t v w old new place now stream a kind (Unread fault) is silent once of at words done = absurd done
-goes s t v w old new place now stream a kind Stranger is silent once of at words done = absurd done
 
 -- only a message with a byte takes memory, and a packet with one needs no word
 pub short_of_memory : {W : Type 0} (to_come : W → ℕ → Option ℕ) (body : OwnedBody) (s : Station W) → ¬ (CarriesNoBytes body) → DeliveryFails to_come body s s NoMemory

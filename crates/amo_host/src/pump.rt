@@ -3,8 +3,8 @@ ghost use Rattle.std.specs.Prelude.{◌≡◌, ◌≢◌, ◌<◌, ℕ, IfOk, If
 ghost use Rattle.amo_core.specs.declared.mode.Mode.{Mode};
 ghost use Rattle.amo_core.specs.declared.act.Act.TheVariants as act;
 ghost use Rattle.amo_book.specs.Book.{Each};
-ghost use Rattle.amo_book.specs.Charge.{ChargeState};
-ghost use Rattle.amo_book.specs.Drive.{Suits};
+ghost use Rattle.amo_book.specs.Charge.{ChargeState, IsChargeOf};
+ghost use Rattle.amo_book.specs.Drive.{DrivenSilently, Suits};
 ghost use Rattle.amo_host.specs.declared.turned.Kind.TheVariants as kind;
 ghost use Rattle.amo_host.specs.Charges.{CanBeDriven, IsAtRest, IsOfSide, stream_mode_of};
 ghost use Rattle.amo_host.specs.Handshakes.{open_count};
@@ -18,7 +18,7 @@ use crate::agenda::Agenda;
 use crate::charges::{can_be_driven, modes_of};
 use crate::turned::is_resend;
 use crate::{Kind, NewPumpFault, PumpFault, Turned};
-use amo_book::{Book, Charge, Pass};
+use amo_book::{Book, Charge, Done, DriveFault, Pass};
 use amo_core::Act;
 use amo_packet::MAX_PACKET;
 use amo_window::{Pace, WindowFault};
@@ -172,10 +172,15 @@ impl<W: Words + Drop> Pump<W> {
         ensures busy { IfErr result (λ fault. (self.new ≡ self.old) × (pass.new ≡ pass.old) × (fault ≡ PumpFault.Busy)) }
         ensures station { IsStation self.new × BelongTogether book.now pass.new self.new }
     {
-        match self.place_of(stream) {
-            None => Ok(Turned::Stranger),
-            Some(place) => self.perform(book, pass, now, place, act, &mut [0; MAX_PACKET]),
-        }
+        let Some(place) = self.place_of(stream) else {
+            return Ok(Turned::Stranger);
+        };
+        let charge = &mut self.charges[place];
+        let side = charge.side();
+        let kind = Kind::of(&act);
+        let done = go_down_or_up(book, pass, charge, act)?;
+        self.agenda.note(place, false, done.mode, now);
+        Ok(Turned::Did(side, stream, kind, done))
     }
 
     // It reaches one field and tells that the pump is still one, so that its callers speak of whole pumps alone.
@@ -216,6 +221,25 @@ impl<W: Words + Drop> Pump<W> {
         let done = book.perform(pass, charge, act, out)?;
         self.agenda.note(place, resent, done.mode, now);
         Ok(Turned::Did(side, stream, kind, done))
+    }
+}
+
+/// Does this act, a crash or a recovery, at a charge. It emits nothing, so no buffer is made.
+fn go_down_or_up(
+    book: &Book,
+    pass: &mut Pass,
+    charge: &mut Charge,
+    act: Act,
+) -> Result<Done, DriveFault>
+    requires book { (pass.old.book ≡ book.now.id) × IsChargeOf book.now.id book.now.sides charge.old }
+    requires act { IsDownOrUp act }
+    ensures driven { IfOk result (DrivenSilently pass.old pass.new charge.old charge.new act) }
+    ensures busy { IfErr result (λ fault. (fault ≡ DriveFault.Busy) × (pass.new ≡ pass.old) × (charge.new ≡ charge.old)) }
+{
+    match act {
+        Act::Crash => book.crash(pass, charge),
+        Act::Recover => book.recover(pass, charge),
+        _ => unreachable!(),
     }
 }
 
