@@ -31,10 +31,10 @@ pub own_side : {L S : Type 0} (h : HostState L S) → IsHost h → (place : ℕ)
 own_side h is place c at = each_at (IsOfSide h.pump.host.side) h.pump.charges place c is.station.sides at ∙ is.side
 
 -- a stream has one mode
-stream_at : (modes : List StreamMode) (place : ℕ) (m : StreamMode) → slice_get modes place ≡ Some m → slice_get (streams_of modes) place ≡ Some m.stream
+pub stream_at : (modes : List StreamMode) (place : ℕ) (m : StreamMode) → slice_get modes place ≡ Some m → slice_get (streams_of modes) place ≡ Some m.stream
 stream_at modes place m at = slice_get-map (λ (x : StreamMode). x.stream) modes place ∙ ap (option_map (λ (x : StreamMode). x.stream)) at
 
-same_mode : (h : Host) → host.IsHost h → (stream : ℕ) (one other : Mode) → HasMode h stream one → HasMode h stream other → one ≡ other
+pub same_mode : (h : Host) → host.IsHost h → (stream : ℕ) (one other : Mode) → HasMode h stream one → HasMode h stream other → one ≡ other
 same_mode h is stream one other (i, at) (j, there) =
     let same = one_place h is stream i j (stream_at h.modes i _ at) (stream_at h.modes j _ there) in
     ap (λ (m : StreamMode). m.mode) (same_Some _ _ (sym at ∙ (ap (λ (k : ℕ). slice_get h.modes k) same ∙ there)))

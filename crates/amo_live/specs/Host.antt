@@ -1,5 +1,5 @@
 -- A live host: one side of its streams, a link, and a journal that is ahead of all that leaves.
-use Rattle.std.specs.Prelude.{◌≡◌, ◌≢◌, ℕ, zero, suc, min, ◌≤◌, ◌⊎◌, Bool, true, false, Option, Some, None, Result, Ok, Err, List, [], ◌∷◌, ◌++◌, length, slice_get}
+use Rattle.std.specs.Prelude.{◌≡◌, ◌≢◌, ℕ, zero, suc, ◌-◌, min, ◌≤◌, ◌⊎◌, Bool, true, false, Option, Some, None, Result, Ok, Err, List, [], ◌∷◌, ◌++◌, length, slice_get}
 use Rattle.std.specs.List.{Contains}
 use Rattle.amo_object.specs.declared.step.End.{End}
 use Rattle.amo_object.specs.declared.step.End.TheVariants.{Sender}
@@ -31,12 +31,14 @@ use Rattle.amo_host.specs.declared.turned.Turned.TheVariants as turned
 use Rattle.amo_book.specs.Pass.{PassState, Answer, GrownBy, automaton_after, event, mine}
 use Rattle.amo_journal.specs.declared.version.Version.{Version}
 use Rattle.amo_journal.specs.Version.{newest}
-use Rattle.amo_journal.specs.Journal.{HasAct}
+use Rattle.amo_journal.specs.Journal.{HasAct, line_text}
 use Rattle.amo_live.specs.declared.fault.LiveFault.{LiveFault}
 use Rattle.amo_live.specs.declared.fault.LiveFault.TheVariants as live_fault
 use Rattle.amo_live.specs.declared.given_word.GivenWord.{GivenWord}
 use Rattle.amo_live.specs.Noted.{JournalState, IsSameJournal, Holds, Begins}
 use Rattle.amo_live.specs.Emitted.{OutboxState, AreEmitted, OnlySees, IsRepetition, packet_in}
+use Rattle.amo_live.specs.OpenLines.{KeepsOpen, open_text, senders_of}
+use Rattle.amo_live.specs.Unanswered.{KeptLines}
 
 -- the words to come where one was given, or none
 abbrev pub given : Option ℕ → ℕ → Option ℕ
@@ -44,7 +46,7 @@ given word zero = word
 given word (suc k) = None
 
 -- its side, of how many streams, its book with the pass that calls and another one, and the pump that drives its streams; its link, the packets that are to
--- leave, now or again, and its journal
+-- leave, now or again, its journal, and of each stream's sender the lines that it keeps of that
 pub record HostState (L S : Type 0) : Type 0 where
   pub side : End
   pub streams : ℕ
@@ -55,6 +57,7 @@ pub record HostState (L S : Type 0) : Type 0 where
   pub link : L
   pub outbox : OutboxState
   pub journal : JournalState S
+  pub unanswered : KeptLines
 
 -- this side of so many streams, from stream k on
 abbrev pub sides_from : End → ℕ → ℕ → List (End × ℕ)
@@ -132,6 +135,10 @@ Looks h g stream a false = Looked h g
 abbrev pub Did : {L S : Type 0} → HostState L S → HostState L S → ℕ → Act → Option Mode → Type 0
 Did h g stream a None = IsIdle h g
 Did h g stream a (Some mode) = Happens h g h.side stream a mode
+
+-- the line of this event, which is the next one, was noted last
+abbrev pub NotedLast : {L S : Type 0} → HostState L S → HostState L S → Event → Type 0
+NotedLast h g e = g.journal.last ≡ line_text (record { number = h.journal.next - h.journal.left; event = e })
 
 -- what came of an act that may have been a repetition: that event, or none
 abbrev pub Tried : {L S : Type 0} → HostState L S → HostState L S → ℕ → Act → Option Mode → Type 0
@@ -243,11 +250,19 @@ abbrev pub Puts : PassState → PassState → ℕ → List ℕ → Option (List 
 Puts v w stream message None = puts_in (mine w) ≡ (stream, message) ∷ puts_in (mine v)
 Puts v w stream message (Some m) = (m ≡ message) × (puts_in (mine w) ≡ puts_in (mine v))
 
+-- the text of the open lines of a host's streams: as they stand in its journal, in which each event of its own has its line
+abbrev pub open_text_of : {L S : Type 0} → HostState L S → List ℕ
+open_text_of h = open_text h.journal.first h.journal.standing (mine h.pass) (senders_of h.side h.streams)
+
 -- given what sinks were written
 module _ {L S : Type 0} (written : S → Option (List ℕ)) where
   -- the journal was handed its heading, if it is new, and the line of each event that the host has made, whole and in their order
+  abbrev pub HasLines : HostState L S → Type 0
+  HasLines h = Holds written h.journal (mine h.pass)
+
+  -- and of these the host keeps those that tell of messages without an answer
   abbrev pub IsNoted : HostState L S → Type 0
-  IsNoted h = Holds written h.journal (mine h.pass)
+  IsNoted h = HasLines h × KeepsOpen h.side h.streams h.journal.first h.journal.standing (mine h.pass) h.unanswered
 
   -- the journal was handed a beginning of that: of what lacks nothing has left, and no call goes on from here
   abbrev pub IsBegun : HostState L S → Type 0

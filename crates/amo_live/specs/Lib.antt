@@ -8,6 +8,7 @@ pub mod Host
 pub mod HostLives
 pub mod Noted
 pub mod Notices
+pub mod OpenLines
 pub mod Plans
 pub mod Service
 pub mod Shown

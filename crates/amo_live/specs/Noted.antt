@@ -7,13 +7,14 @@ use Rattle.amo_journal.specs.declared.version.Version.{Version}
 use Rattle.amo_journal.specs.Version.{heading}
 use Rattle.amo_journal.specs.Journal.{line_text}
 
--- The version, the sink, the number of the next line, and of how many of the next events the lines stand. And how the journal was opened: the sink then,
--- the number of the first line to come, what was to stand in front of that, and of how many of the first events the lines stood.
+-- The version, the sink, the number of the next line, of how many of the next events the lines stand, and the line of the last event. And how the journal was
+-- opened: the sink then, the number of the first line to come, what was to stand in front of that, and of how many of the first events the lines stood.
 pub record JournalState (S : Type 0) : Type 0 where
   pub version : Version
   pub sink : S
   pub next : ℕ
   pub left : ℕ
+  pub last : List ℕ
   pub opened : S
   pub first : ℕ
   pub front : List ℕ
@@ -25,11 +26,11 @@ front_of is_new version = if is_new then heading version else []
 
 -- a journal that goes on in its version behind so many lines, with the last of which so many of its first events stand; nothing was written yet
 abbrev pub going_on : {S : Type 0} → Version → S → ℕ → ℕ → JournalState S
-going_on version sink lines standing = record { version = version; sink = sink; next = lines; left = standing; opened = sink; first = lines; front = []; standing = standing }
+going_on version sink lines standing = record { version = version; sink = sink; next = lines; left = standing; last = []; opened = sink; first = lines; front = []; standing = standing }
 
 -- a new journal of this version, of which nothing was written yet
 abbrev pub beginning : {S : Type 0} → Version → S → JournalState S
-beginning version sink = record { version = version; sink = sink; next = 0; left = 0; opened = sink; first = 0; front = heading version; standing = 0 }
+beginning version sink = record { version = version; sink = sink; next = 0; left = 0; last = []; opened = sink; first = 0; front = heading version; standing = 0 }
 
 -- the journal in a sink that was read: it goes on in the version that its lines tell, behind so many, of which the last are the lines of so many of its
 -- first events; where none tells it, it is new, and of this one
@@ -80,11 +81,12 @@ module _ {S : Type 0} (written : S → Option (List ℕ)) where
   pub record Begins (j : JournalState S) (history : List Event) : Type 0 where
     pub text : AppendsFront (written j.opened) (written j.sink) (text_since j history)
 
-  -- the line of this event was written, with the next number, unless it stands
+  -- the line of this event was written, with the next number, unless it stands: then it is the first of those that do
   pub record Adds (j k : JournalState S) (e : Event) : Type 0 where
     pub line : Appends (written j.sink) (written k.sink) (line_behind j.left j.next e)
     pub next : k.next ≡ next_behind j.left j.next
     pub left : k.left ≡ j.left - 1
+    pub last : k.last ≡ line_text (record { number = j.next - j.left; event = e })
     pub same : IsSameJournal j k
 
   -- a beginning of that line was written

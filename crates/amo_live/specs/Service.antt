@@ -123,7 +123,7 @@ doubtful service = doubtful_to (is_in_doubt service) service.setup.streams
 
 -- the lines that it keeps of a sender's journal
 abbrev pub unanswered_by : {L S W : Type 0} → Service L S W → KeptLines
-unanswered_by service = service.unanswered
+unanswered_by service = service.host.unanswered
 
 -- a delivery brings a sender that asked for an identifier to send messages
 abbrev pub begins_to_send : Option Mode → Mode → Bool

@@ -3,16 +3,21 @@ ghost use Rattle.std.specs.Prelude.{◌≡◌, ◌∷◌, Contains, IfNone, IfOk
 ghost use Rattle.amo_packet.specs.Packet.{body_of};
 ghost use Rattle.amo_core.specs.declared.act.Act.TheVariants as act;
 ghost use Rattle.amo_core.specs.declared.act.Act.TheVariants.{Resend};
+ghost use Rattle.amo_core.specs.declared.mode.Mode.TheVariants.{Send};
+ghost use Rattle.amo_core.specs.declared.reply.Reply.TheVariants as reply;
+ghost use Rattle.amo_core.specs.Summary.{summary_of};
 ghost use Rattle.amo_journal.specs.declared.version.Version.TheVariants.{Two};
 ghost use Rattle.amo_journal.specs.Version.{HasBatches};
-ghost use Rattle.amo_book.specs.Pass.{mine};
-ghost use Rattle.amo_host.specs.AtStream.{hastened};
+ghost use Rattle.amo_book.specs.Pass.{automaton_after, event, mine};
+ghost use Rattle.amo_host.specs.AtStream.{HasMode, hastened};
 ghost use Rattle.amo_host.specs.Host.{streams_of};
 ghost use Rattle.amo_host.specs.Station.{BelongTogether, IsStation};
 ghost use Rattle.amo_live.specs.Due.{Resent, repeated_if};
-ghost use Rattle.amo_live.specs.Host.{Delivered, Did, Drives, IsBegun, IsNoted, Looks, MayNotBegin, MayNotStart, Stays, Suits, Tried, comes_back, done, done_of, is_start, word_for};
+ghost use Rattle.amo_live.specs.Unanswered.{step_of, stepped};
+ghost use Rattle.amo_live.specs.Host.{Delivered, Did, Drives, HasLines, IsBegun, IsNoted, IsWhole, Looks, MayNotBegin, MayNotStart, NotedLast, Stays, Suits, Tried, comes_back, done, done_of, is_start, word_for};
 
 use crate::noting::note_answer;
+use crate::unanswered::{Step, step_of};
 use crate::{GivenWord, Host, LiveFault};
 use amo_book::{Book, Done, Foreseen, Pass};
 use amo_core::{Act, Mode, Reply};
@@ -21,6 +26,7 @@ use amo_net::Link;
 use amo_object::End;
 use amo_packet::{Body, MAX_PACKET, Packet};
 use amo_text::Sink;
+use std::alloc::AllocError;
 
 /// The time of an event that sets no timer.
 const NO_TIME: u64 = 0;
@@ -237,7 +243,8 @@ impl<L: Link, S: Sink> Host<L, S> {
         }
     }
 
-    /// Does this act at a stream, notes it, and keeps what it emitted for [`Host::send`].
+    /// Does this act at a stream, notes it, keeps what it emitted for [`Host::send`], and of a sender the lines that still matter.
+    #[tactic(auto, using(crate::proofs::NotedLines::begins_noted))]
     fn perform(&mut self, stream: u32, act: Act, now: u64) -> Result<Option<Mode>, LiveFault>
         requires noted { IsNoted S.written self.old }
         requires suits { Suits self.old.journal.version self.old.side stream act }
@@ -245,6 +252,62 @@ impl<L: Link, S: Sink> Host<L, S> {
         ensures resent { act ≡ Resend → IfOk result (λ mode. IfSome mode (Resent now self.old.pump self.new.pump stream)) }
         ensures waits { is_start act ≡ true → IfOk result (λ mode. IfNone mode (MayNotStart self.old stream)) }
         ensures noted { OnOk result (IsNoted S.written self.new) }
+        ensures begun { OnErr result (IsBegun S.written self.new) }
+        ensures stays { Stays self.old self.new }
+    {
+        let before = self.mode_of(stream);
+        let travelling = match self.travelling(stream, before) {
+            Ok(messages) => messages,
+            Err(fault) => return Err(fault),
+        };
+        let mode = match self.note_act(stream, act, now) {
+            Ok(Some(mode)) => mode,
+            Ok(None) => return Ok(None),
+            Err(fault) => return Err(fault),
+        };
+        self.meet();
+        match self.keep_step(step_of(before, mode), stream, travelling) {
+            Ok(()) => Ok(Some(mode)),
+            Err(_) => Err(LiveFault::NoMemory),
+        }
+    }
+
+    /// How many messages travel in a stream's handshake, if its side is in the mode of a sender that sends.
+    fn travelling(&mut self, stream: u32, mode: Option<Mode>) -> Result<u64, LiveFault>
+        ensures sends { mode ≡ Some Send → IfOk result (λ messages. messages ≡ (summary_of (automaton_after self.old.side stream self.old.pass.seen)).held) }
+        ensures whole { mode ≡ Some Send → OnOk result (IsWhole self.new.pass) }
+        ensures same { self.new ≡ record self.old { other = self.new.other } }
+    {
+        let Some(Mode::Send) = mode else {
+            return Ok(0);
+        };
+        match self.look(stream) {
+            Ok(summary) => Ok(summary.held as u64),
+            Err(fault) => Err(fault),
+        }
+    }
+
+    /// Does this step with the lines that it keeps of a stream, of which the last one is the line of its last event. So many messages travelled in the
+    /// handshake, if that ended one.
+    fn keep_step(&mut self, step: Step, stream: u32, travelling: u64) -> Result<(), AllocError>
+        ensures kept { OnOk result (self.new.unanswered ≡ stepped step stream travelling self.old.journal.last self.old.unanswered) }
+        ensures same { self.new ≡ record self.old { unanswered = self.new.unanswered } }
+    {
+        let line = self.journal.last_line();
+        self.unanswered.step(step, stream, travelling, line)
+    }
+
+    /// Does this act at a stream, notes it, and keeps what it emitted for [`Host::send`].
+    fn note_act(&mut self, stream: u32, act: Act, now: u64) -> Result<Option<Mode>, LiveFault>
+        requires noted { HasLines S.written self.old }
+        requires suits { Suits self.old.journal.version self.old.side stream act }
+        ensures did { IfOk result (Did self.old self.new stream act) }
+        ensures resent { act ≡ Resend → IfOk result (λ mode. IfSome mode (Resent now self.old.pump self.new.pump stream)) }
+        ensures waits { is_start act ≡ true → IfOk result (λ mode. IfNone mode (MayNotStart self.old stream)) }
+        ensures noted { OnOk result (HasLines S.written self.new) }
+        ensures found { IfOk result (λ mode. IfSome mode (λ _. (known : Mode) × HasMode self.old.pump.host stream known)) }
+        ensures last { IfOk result (λ mode. IfSome mode (λ _. NotedLast self.old self.new (event self.old.pass.number self.old.side stream act reply.Done))) }
+        ensures kept { self.new.unanswered ≡ self.old.unanswered }
         ensures begun { OnErr result (IsBegun S.written self.new) }
         ensures stays { Stays self.old self.new }
     {

@@ -7,10 +7,12 @@ ghost use Rattle.amo_core.specs.declared.act.Act.TheVariants as act;
 ghost use Rattle.amo_journal.specs.Journal.{HasReply};
 ghost use Rattle.amo_book.specs.Calls.{put_answer, get_answer, ack_answer};
 ghost use Rattle.amo_book.specs.Fault.{put_message};
-ghost use Rattle.amo_book.specs.Pass.{Answer, Answered, Grown};
-ghost use Rattle.amo_live.specs.Host.{IsBegun, IsNoted, Stays, got_in};
+ghost use Rattle.amo_book.specs.Pass.{Answer, Answered, Grown, event};
+ghost use Rattle.amo_live.specs.Host.{HasLines, IsBegun, IsNoted, NotedLast, Stays, got_in};
+ghost use Rattle.amo_live.specs.OpenLines.{with_put};
 
 use crate::noting::note_answer;
+use crate::stream_lines::Kind;
 use crate::{Host, LiveFault};
 use amo_book::{AckFault, GetFault, PutFault, reply_to_ack, reply_to_get, reply_to_put};
 use amo_core::{Act, Reply};
@@ -18,16 +20,59 @@ use amo_net::Link;
 use amo_object::End;
 use amo_packet::{Message, STREAMS};
 use amo_text::Sink;
+use std::alloc::AllocError;
 
 impl<L: Link, S: Sink> Host<L, S> {
     /// Puts a message on a stream. The answer is the book's, and stands in the journal.
-    #[tactic(auto, using(crate::proofs::Onwards::begins_whole))]
+    #[tactic(auto, using(crate::proofs::NotedLines::begins_noted))]
     pub fn put(&mut self, stream: u32, message: Message) -> Result<Result<u64, PutFault>, LiveFault>
         requires { IsNoted S.written self.old }
         ensures put { IfOk result (λ answer. Grown self.old.pass self.new.pass end.Sender stream (act.Put message) (put_answer answer)) }
         ensures answered { IfOk result (λ answer. Answered self.new.pass (put_answer answer)) }
         ensures handed_back { IfOk result (λ answer. IfErr answer (λ fault. put_message fault ≡ message)) }
         ensures noted { OnOk result (IsNoted S.written self.new) }
+        ensures begun { OnErr result (IsBegun S.written self.new) }
+        ensures stays { Stays self.old self.new × (self.new.outbox ≡ self.old.outbox) }
+    {
+        let answer = match self.note_put(stream, message) {
+            Ok(answer) => answer,
+            Err(fault) => return Err(fault),
+        };
+        self.meet();
+        match self.keep_put(stream, &answer) {
+            Ok(()) => Ok(answer),
+            Err(_) => Err(LiveFault::NoMemory),
+        }
+    }
+
+    /// Keeps the line of a put on a stream, which was noted last, if the book answered that it was taken.
+    fn keep_put(&mut self, stream: u32, answer: &Result<u64, PutFault>) -> Result<(), AllocError>
+        ensures kept { OnOk result (self.new.unanswered ≡ with_put (put_answer answer.now) stream self.old.journal.last self.old.unanswered) }
+        ensures same { self.new ≡ record self.old { unanswered = self.new.unanswered } }
+    {
+        match answer {
+            Ok(_) => {
+                let line = self.journal.last_line();
+                self.unanswered.keep(stream, Kind::Put, line)
+            }
+            Err(_) => Ok(()),
+        }
+    }
+
+    /// Puts a message on a stream, and notes it.
+    #[tactic(auto, using(crate::proofs::Onwards::begins_whole))]
+    fn note_put(
+        &mut self,
+        stream: u32,
+        message: Message,
+    ) -> Result<Result<u64, PutFault>, LiveFault>
+        requires { HasLines S.written self.old }
+        ensures put { IfOk result (λ answer. Grown self.old.pass self.new.pass end.Sender stream (act.Put message) (put_answer answer)) }
+        ensures answered { IfOk result (λ answer. Answered self.new.pass (put_answer answer)) }
+        ensures handed_back { IfOk result (λ answer. IfErr answer (λ fault. put_message fault ≡ message)) }
+        ensures noted { OnOk result (HasLines S.written self.new) }
+        ensures last { IfOk result (λ answer. IfSome (put_answer answer) (λ k. NotedLast self.old self.new (event self.old.pass.number end.Sender stream (act.Put message) k.0))) }
+        ensures kept { self.new.unanswered ≡ self.old.unanswered }
         ensures begun { OnErr result (IsBegun S.written self.new) }
         ensures stays { Stays self.old self.new × (self.new.outbox ≡ self.old.outbox) }
     {
@@ -50,7 +95,7 @@ impl<L: Link, S: Sink> Host<L, S> {
     }
 
     /// Takes the message that has come to a stream, if one has, and tells the position of that event. What the book answered stands in the journal.
-    #[tactic(auto, using(crate::proofs::Suiting::get_spelt, crate::proofs::Onwards::begins_whole))]
+    #[tactic(auto, using(crate::proofs::Suiting::get_spelt, crate::proofs::NotedLines::begins_noted))]
     pub fn get(&mut self, stream: u32) -> Result<Option<(Message, u64)>, LiveFault>
         requires { IsNoted S.written self.old }
         ensures got { IfOk result (λ got. (answer : Answer) × Grown self.old.pass self.new.pass end.Receiver stream act.Get answer × Answered self.new.pass answer × (got ≡ got_in answer)) }
@@ -72,7 +117,7 @@ impl<L: Link, S: Sink> Host<L, S> {
     }
 
     /// What is known of the last message put to a stream. The answer is the book's, and stands in the journal.
-    #[tactic(auto, using(crate::proofs::Onwards::begins_whole))]
+    #[tactic(auto, using(crate::proofs::NotedLines::begins_noted))]
     pub fn get_ack(&mut self, stream: u32) -> Result<Result<(bool, u64), AckFault>, LiveFault>
         requires { IsNoted S.written self.old }
         ensures known { IfOk result (λ answer. Grown self.old.pass self.new.pass end.Sender stream act.Ack (ack_answer answer)) }

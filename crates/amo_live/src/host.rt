@@ -1,9 +1,10 @@
 //! A live host: how it opens, hears and sends.
-ghost use Rattle.std.specs.Prelude.{◌≡◌, ◌+◌, ◌<◌, ◌≤◌, [], Contains, IfNone, IfOk, IfSome, IsTrue, ◌↔◌, OnOk, OnErr, length, min, true};
+ghost use Rattle.std.specs.Prelude.{◌≡◌, ◌+◌, ◌<◌, ◌≤◌, ℕ, [], Contains, IfNone, IfOk, IfSome, Some, IsTrue, ◌↔◌, OnOk, OnErr, length, min, true};
 ghost use Rattle.amo_packet.specs.Packet.{body_of, packet_of};
 ghost use Rattle.amo_packet.specs.Grammar.{CanBeWritten, Spells};
 ghost use Rattle.amo_packet.specs.Stream.{IsStream};
 ghost use Rattle.amo_journal.specs.Version.{newest};
+ghost use Rattle.amo_core.specs.declared.mode.Mode.{Mode};
 ghost use Rattle.amo_core.specs.Summary.{summary_of};
 ghost use Rattle.amo_book.specs.Book.{Each};
 ghost use Rattle.amo_book.specs.Pass.{automaton_after};
@@ -12,8 +13,11 @@ ghost use Rattle.amo_host.specs.Host.{streams_of};
 ghost use Rattle.amo_live.specs.Emitted.{WasEmitted};
 ghost use Rattle.amo_live.specs.Host.{IsHost, IsNoted, IsOpened, IsWhole, sides_from};
 ghost use Rattle.amo_live.specs.Noted.{Holds, IsSameJournal};
+ghost use Rattle.amo_live.specs.OpenLines.{senders_of};
+ghost use Rattle.amo_lines.specs.Backlog.{kept_on};
 
 use crate::outbox::Outbox;
+use crate::unanswered::Unanswered;
 use crate::{Durable, GivenWord, Journal, LiveFault, Traffic};
 use amo_book::{Book, OpenFault, Pass};
 use amo_core::{Mode, Summary};
@@ -31,7 +35,7 @@ use std::marker::Model;
 const PASSES: usize = 2;
 
 /// One side of some streams, in a process of its own. Contracts see its side, its book, the pass that calls, the other one, its pump, its link, the packets
-/// that are to leave, and its journal.
+/// that are to leave, its journal, and the lines that it keeps of that.
 #[derive(Drop)]
 pub struct Host<L, S> {
     pub(crate) alloc: Global,
@@ -47,6 +51,8 @@ pub struct Host<L, S> {
     pub(crate) room: [u8; MAX_PACKET],
     pub(crate) outbox: Outbox,
     pub(crate) journal: Journal<S>,
+    /// The lines of a sender's journal that tell of messages without an answer. A receiver has none.
+    pub(crate) unanswered: Unanswered,
     pub(crate) traffic: Traffic,
 }
 
@@ -55,9 +61,9 @@ impl<L, S> Model for Host<L, S> {
 
     ghost Value = { HostState L S };
 
-    ghost view = { λ h. record { side = h.side; streams = h.streams; book = h.book; pass = h.pass; other = h.other; pump = h.pump; link = h.link; outbox = h.outbox; journal = h.journal } };
+    ghost view = { λ h. record { side = h.side; streams = h.streams; book = h.book; pass = h.pass; other = h.other; pump = h.pump; link = h.link; outbox = h.outbox; journal = h.journal; unanswered = h.unanswered } };
 
-    ghost invariant = { λ h. IsHost (record { side = h.side; streams = h.streams; book = h.book; pass = h.pass; other = h.other; pump = h.pump; link = h.link; outbox = h.outbox; journal = h.journal }) };
+    ghost invariant = { λ h. IsHost (record { side = h.side; streams = h.streams; book = h.book; pass = h.pass; other = h.other; pump = h.pump; link = h.link; outbox = h.outbox; journal = h.journal; unanswered = h.unanswered }) };
 }
 
 impl<L: Link + Drop, S: Sink + Drop> Host<L, S> {
@@ -76,6 +82,7 @@ impl<L: Link + Drop, S: Sink + Drop> Host<L, S> {
         requires unwritten { Holds S.written journal [] }
         ensures opened { IfOk result (IsOpened side streams link journal) }
         ensures noted { IfOk result (IsNoted S.written) }
+        ensures unanswered { IfOk result (λ host. (stream : ℕ) → kept_on stream host.unanswered ≡ []) }
     {
         let sides = sides_of(alloc, side, streams)?;
         match Book::open(alloc, sides, PASSES) {
@@ -88,6 +95,7 @@ impl<L: Link + Drop, S: Sink + Drop> Host<L, S> {
                     unreachable!()
                 };
                 let outbox = Outbox::new(alloc, charges.len())?;
+                let unanswered = Unanswered::new(alloc, senders_of(side, streams))?;
                 let words = GivenWord { word: None };
                 let pump = match Pump::paced(alloc, charges, window_of(streams), words, pace) {
                     Ok(pump) => pump,
@@ -106,6 +114,7 @@ impl<L: Link + Drop, S: Sink + Drop> Host<L, S> {
                     room: [0; MAX_PACKET],
                     outbox,
                     journal,
+                    unanswered,
                     traffic: Traffic::default(),
                 })
             }
@@ -196,6 +205,7 @@ impl<L: Link, S: Sink> Host<L, S> {
     pub fn mode_of(&self, stream: u32) -> Option<Mode>
         ensures found { IfSome result (HasMode self.now.pump.host stream) }
         ensures absent { IfNone result (¬ (Contains (streams_of self.now.pump.host.modes) stream)) }
+        ensures only { (mode : Mode) → HasMode self.now.pump.host stream mode → result ≡ Some mode }
     {
         self.pump.mode_of(stream)
     }
@@ -309,6 +319,16 @@ fn window_of(streams: u32) -> usize
     ensures within { (1 ≤ result) × (result ≤ 64) }
 {
     (streams as usize).min(MAX_PERMITS)
+}
+
+/// Of how many of these streams a host of this side has the sender.
+fn senders_of(side: End, streams: u32) -> u32
+    ensures { result ≡ senders_of side streams }
+{
+    match side {
+        End::Sender => streams,
+        End::Receiver => 0,
+    }
 }
 
 /// This side of the streams from 1 on.

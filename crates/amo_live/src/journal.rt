@@ -1,25 +1,30 @@
 //! The journal of a live host.
-ghost use Rattle.std.specs.Prelude.{◌≡◌, ◌+◌, ◌^◌, ◌<◌, ◌↔◌, [], List, IfOk, IsErrOf, OnOk, OnErr};
+ghost use Rattle.std.specs.Prelude.{◌≡◌, ◌+◌, ◌-◌, ◌^◌, ◌<◌, ◌↔◌, [], List, IfErr, IfOk, IsErrOf, OnOk, OnErr};
 ghost use Rattle.amo_world.specs.declared.event.Event.{Event};
-ghost use Rattle.amo_journal.specs.Journal.{CanSpell};
+ghost use Rattle.amo_journal.specs.Journal.{CanSpell, line_text};
 ghost use Rattle.amo_live.specs.Noted.{Adds, AddsFront, Holds, IsSameJournal, beginning, going_on};
 
 use crate::{Durable, LiveFault};
 use amo_journal::{Version, write_line};
-use amo_text::{Sink, write_all};
+use amo_text::{Out, Sink, write_all};
 use amo_world::Event;
 use std::alloc::Global;
-use std::marker::Model;
+use std::marker::{Brand, Model};
+use std::mem::replace;
 use std::snapshot::Snapshot;
+use std::sync::ledger::{Blank, Ledger};
 
-/// A journal that goes on. Contracts see its version, its sink, the number of its next line, and of how many of the next events the lines stand; and of
-/// when it was opened its sink, the number of the first line to come, what was to stand in front of that, and of how many events the lines stood.
+/// A journal that goes on. Contracts see its version, its sink, the number of its next line, of how many of the next events the lines stand, and the line of
+/// the last event; and of when it was opened its sink, the number of the first line to come, what was to stand in front of that, and of how many events the lines stood.
 #[derive(Drop)]
 pub struct Journal<S> {
+    alloc: Global,
     version: Version,
     sink: S,
-    // A line is made whole here before it is written.
+    // A line is spelt here.
     room: Vec<u8>,
+    /// The line of the last event, whole before it is written.
+    line: Vec<u8>,
     next: u64,
     /// Of how many of the next events the lines stand.
     left: u64,
@@ -41,7 +46,7 @@ impl<S> Model for Journal<S> {
 
     ghost invariant = { λ j. j.before ≡ j.first.value };
 
-    ghost view = { λ j. record { version = j.version; sink = j.sink; next = j.next; left = j.left; opened = j.opened.value; first = j.first.value; front = front_of j.is_new.value j.version; standing = j.standing.value } };
+    ghost view = { λ j. record { version = j.version; sink = j.sink; next = j.next; left = j.left; last = j.line.items; opened = j.opened.value; first = j.first.value; front = front_of j.is_new.value j.version; standing = j.standing.value } };
 }
 
 impl<S: Sink + Drop> Journal<S> {
@@ -61,9 +66,11 @@ impl<S: Sink + Drop> Journal<S> {
             return Err(LiveFault::Journal);
         };
         Ok(Journal {
+            alloc,
             version,
             sink,
             room: Vec::new(alloc),
+            line: Vec::new(alloc),
             next: 0,
             left: 0,
             bytes: 0,
@@ -88,9 +95,11 @@ impl<S: Sink> Journal<S> {
         let is_new = Snapshot::of(&false);
         let standing = Snapshot::of(&standing);
         Journal {
+            alloc,
             version,
             sink,
             room: Vec::new(alloc),
+            line: Vec::new(alloc),
             next: lines,
             left,
             bytes: 0,
@@ -128,10 +137,11 @@ impl<S: Sink> Journal<S> {
         self.bytes
     }
 
-    /// The line that was written last since it was opened, whole, its number and its end too; empty where none was. That of an event that stands
-    /// already is not written.
-    pub fn last_line(&self) -> &[u8] {
-        self.room.as_slice()
+    /// The line of the last event since it was opened, whole, its number and its end too; empty where there was none.
+    pub fn last_line(&self) -> &[u8]
+        ensures { result.now ≡ self.now.last }
+    {
+        self.line.as_slice()
     }
 
     /// Writes the line of this event, whole, with the next number; unless it stands already.
@@ -148,20 +158,62 @@ impl<S: Sink> Journal<S> {
         if self.next == u64::MAX {
             return Err(LiveFault::Full);
         }
+        self.make_line(event)?;
         if self.left > 0 {
             self.left -= 1;
             return Ok(());
         }
-        write_line(
-            &mut self.room,
-            self.version,
-            self.next,
-            event,
-            &mut self.sink,
-        )?;
+        let Ok(()) = write_all(&mut self.sink, self.line.as_slice()) else {
+            return Err(LiveFault::Journal);
+        };
         self.next += 1;
-        self.bytes = self.bytes.saturating_add(self.room.len() as u64);
+        self.bytes = self.bytes.saturating_add(self.line.len() as u64);
         Ok(())
+    }
+
+    /// Makes the line of the next event: with the next number, or, where it stands already, with its own.
+    fn make_line(&mut self, event: &Event) -> Result<(), LiveFault>
+        requires { CanSpell self.old.version event.now }
+        ensures made { OnOk result (self.new.last ≡ line_text (record { number = self.old.next - self.old.left; event = event.now })) }
+        ensures same { self.new ≡ record self.old { last = self.new.last } }
+        ensures memory { IfErr result (λ fault. fault ≡ LiveFault.NoMemory) }
+    {
+        let number = self.next.saturating_sub(self.left);
+        let text = replace(&mut self.line, Vec::new(self.alloc));
+        self.line = made_line::<Brand>(
+            &mut self.room,
+            text,
+            self.version,
+            number,
+            event,
+            Blank::new(1),
+        )?;
+        Ok(())
+    }
+}
+
+/// The line of the event of this number, in this buffer; it is spelt in the room. The blank becomes the ledger in which contracts count failures.
+fn made_line<L: Ledger>(
+    room: &mut Vec<u8>,
+    buffer: Vec<u8>,
+    version: Version,
+    number: u64,
+    event: &Event,
+    blank: Blank,
+) -> Result<Vec<u8>, LiveFault>
+    requires spelt { CanSpell version event.now }
+    requires name { blank.name ≡ L.name }
+    requires parts { blank.parts ≡ L.parts }
+    requires some { 0 < L.parts }
+    ensures made { IfOk result (λ line. line.items ≡ line_text (record { number = number; event = event.now })) }
+    ensures memory { IfErr result (λ fault. fault ≡ LiveFault.NoMemory) }
+{
+    let mut buffer = buffer;
+    buffer.clear();
+    let mut line: Out<Vec<u8>, L> = Out::new(buffer, blank);
+    match write_line(room, version, number, event, &mut line) {
+        Ok(()) => Ok(line.into_inner()),
+        Err(_) => Err(LiveFault::NoMemory),
     }
 }
 

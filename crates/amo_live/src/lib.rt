@@ -22,8 +22,8 @@
 //! a key and a line for each life, which is written before the life's first word is drawn; so a host keeps no word that it used. Where the words of a
 //! life are at their end another one begins.
 //!
-//! **A sender keeps the lines that still matter**: of its journal those that tell of messages without an answer, [`Service::unanswered_lines`]. They bring
-//! the sender of each stream to where the whole journal does. Who keeps account of them looks at a host when all its lines are with
+//! **A sender keeps the lines that still matter**: of its journal those that tell of messages without an answer, [`Service::unanswered_lines`]. They are those
+//! of its open events ([`laws`]), and bring the sender of each stream to where the whole journal does. Who keeps account of them looks at a host when all its lines are with
 //! the system.
 //!
 //! The contracts say it so. Each call that makes an event asks that the journal has all lines so far, and gives that back with
@@ -36,7 +36,7 @@
 //!
 //! **What clients' lines say is a matter of [`amo_lines`]**, whose types it hands on. A host puts their messages, and shows what its events tell, in its lines.
 //!
-//! The definitions stand in `specs/`: a journal that goes on in `Noted.antt`, a host and what its calls do in `Host.antt`, packets that leave again in
+//! The definitions stand in `specs/`: a journal that goes on in `Noted.antt`, which of its lines a sender keeps in `OpenLines.antt`, a host and what its calls do in `Host.antt`, packets that leave again in
 //! `Emitted.antt`, words that events bear in `Words.antt`, and those of a host's lives in `HostLives.antt`; what becomes of clients' messages in
 //! `Client.antt`, and what clients are shown in `Shown.antt`.
 #![tactic(auto)]
@@ -51,6 +51,7 @@ mod given_word;
 mod host;
 mod host_lives;
 mod journal;
+pub mod laws;
 mod limits;
 mod lives_file;
 mod notices;

@@ -1,8 +1,8 @@
 //! Notes what calls of a book answered.
-ghost use Rattle.std.specs.Prelude.{◌≡◌, ◌<◌, IfOk, IfSome, OnOk, OnErr};
+ghost use Rattle.std.specs.Prelude.{◌≡◌, ◌-◌, ◌<◌, IfOk, IfSome, OnOk, OnErr};
 ghost use Rattle.amo_packet.specs.Stream.{IsStream};
-ghost use Rattle.amo_journal.specs.Journal.{HasAct, HasReply};
-ghost use Rattle.amo_book.specs.Pass.{PassState, Grown, mine};
+ghost use Rattle.amo_journal.specs.Journal.{HasAct, HasReply, line_text};
+ghost use Rattle.amo_book.specs.Pass.{PassState, Grown, event, mine};
 ghost use Rattle.amo_live.specs.Noted.{Begins, Holds, IsSameJournal};
 
 use crate::{Journal, LiveFault};
@@ -27,6 +27,7 @@ pub fn note_answer<S: Sink>(
     ensures back { IfOk result (λ back. back ≡ known) }
     ensures noted { OnOk result ((v w : PassState) → v.number ≡ pass → Grown v w side stream act known → Holds S.written journal.old (mine v) → Holds S.written journal.new (mine w)) }
     ensures begun { OnErr result ((v w : PassState) → v.number ≡ pass → Grown v w side stream act known → Holds S.written journal.old (mine v) → Begins S.written journal.new (mine w)) }
+    ensures last { OnOk result (IfSome known (λ k. journal.new.last ≡ line_text (record { number = journal.old.next - journal.old.left; event = event pass side stream act k.0 }))) }
     ensures same { IsSameJournal journal.old journal.new }
 {
     let Some((reply, position)) = known else {

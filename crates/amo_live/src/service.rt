@@ -4,11 +4,10 @@ ghost use Rattle.amo_core.specs.declared.mode.Mode.TheVariants.{Quiet, Send};
 ghost use Rattle.amo_packet.specs.Packet.{body_of, packet_of};
 ghost use Rattle.amo_packet.specs.Grammar.{Spells, messages_of};
 ghost use Rattle.amo_journal.specs.Version.{newest};
-ghost use Rattle.amo_lines.specs.Backlog.{kept_on};
 ghost use Rattle.amo_live.specs.Callers.{MovesNone, MovesWithin};
 ghost use Rattle.amo_live.specs.Client.{PutsNamed, has};
 ghost use Rattle.amo_live.specs.Host.{Delivered, Did, IsNoted};
-ghost use Rattle.amo_live.specs.Service.{IsAtRest, got_by, is_in_doubt, lane_of, new_version, nothing_known, settled_by, shown_by, spelling_of, start_of, starts_batches, streams_of, unanswered_by, words_of};
+ghost use Rattle.amo_live.specs.Service.{IsAtRest, got_by, is_in_doubt, lane_of, new_version, nothing_known, settled_by, shown_by, spelling_of, start_of, starts_batches, streams_of, words_of};
 ghost use Rattle.amo_live.specs.Shown.{BeginsWithPut, ShowsMore, behind, told_in};
 ghost use Rattle.amo_live.specs.Words.{BearsNew, IsNew, StaysDrawn};
 
@@ -20,7 +19,6 @@ mod keeping;
 mod notes;
 
 use crate::acts::is_for;
-use crate::unanswered::Unanswered;
 use crate::{Dropped, Figures, Host, Lineage, LiveFault, Times};
 use amo_core::{MAX_WAITING, Mode};
 use amo_journal::Version;
@@ -80,8 +78,6 @@ pub struct Service<L, S, W> {
     shown: Vec<u8>,
     /// What messages are called that have no answer yet, where answers tell it.
     ids: Ids,
-    /// The lines of a sender's journal that tell of messages without an answer. A receiver has none.
-    unanswered: Unanswered,
     /// The handshakes that ended since what is shown was cleared.
     settled: Vec<Settled>,
     /// Where a datagram is received, once one was: it is as long as the longest, and made once.
@@ -147,14 +143,6 @@ impl Setup {
             _ => Version::Two,
         }
     }
-
-    /// Of how many streams it has the sender.
-    fn senders(&self) -> u32 {
-        match self.side {
-            End::Sender => self.streams,
-            End::Receiver => 0,
-        }
-    }
 }
 
 impl<L: Link + Drop, S: Sink + Drop, W: Lineage + Drop> Service<L, S, W> {
@@ -171,11 +159,9 @@ impl<L: Link + Drop, S: Sink + Drop, W: Lineage + Drop> Service<L, S, W> {
         ensures words { IfOk result (λ service. words_of service ≡ words) }
         ensures shown { IfOk result (λ service. (shown_by service).text ≡ []) }
         ensures spelling { IfOk result (λ service. spelling_of service ≡ setup.spelling) }
-        ensures unanswered { IfOk result (λ service. (stream : ℕ) → kept_on stream (unanswered_by service) ≡ []) }
     {
         let lanes = lanes_of(alloc, setup.streams)?;
         let ids = Ids::new(alloc, setup.streams)?;
-        let unanswered = Unanswered::new(alloc, setup.senders())?;
         Ok(Service {
             host,
             setup,
@@ -183,7 +169,6 @@ impl<L: Link + Drop, S: Sink + Drop, W: Lineage + Drop> Service<L, S, W> {
             words,
             shown: Vec::new(alloc),
             ids,
-            unanswered,
             settled: Vec::new(alloc),
             datagram: None,
             come: None,
@@ -385,7 +370,6 @@ impl<L: Link, S: Sink, W: Lineage> Service<L, S, W> {
                 Ok(Some(NamedMessage { message, id }))
             }
             Ok(_) => {
-                self.keep_put(stream)?;
                 self.owe(stream, lane);
                 self.tell_put(stream, id, line)?;
                 self.begin(stream, now)?;
@@ -484,7 +468,6 @@ impl<L: Link, S: Sink, W: Lineage> Service<L, S, W> {
             return Ok(());
         }
         let started = self.start_anew(stream, now)?;
-        self.keep_start(stream, started)?;
         self.note_start(stream, lane, started, now);
         Ok(())
     }
@@ -565,7 +548,6 @@ impl<L: Link, S: Sink, W: Lineage> Service<L, S, W> {
         let is_other = is_other(before, mode);
         self.tell_settled(stream, before, mode)?;
         self.tell_ack(&packet, told_by_ack(before, mode, end))?;
-        self.keep_delivery(stream, before, mode, end.messages)?;
         self.arrive(stream, mode, is_other, brought_by(&packet), now);
         self.go_on(stream, mode, is_other, end, now, room)
     }

@@ -15,10 +15,8 @@ const MOST_SPARE: usize = 64;
 pub(crate) enum Kind {
     /// A message was put.
     Put,
-    /// A handshake began.
-    Start,
-    /// The accept came for which that asked.
-    Accept,
+    /// A handshake began, or the accept came for which it asked.
+    Handshake,
 }
 
 /// A line that is kept. Contracts see what it tells, and its text.
@@ -43,7 +41,7 @@ impl KeptLine {
     {
         match self.kind {
             Kind::Put => true,
-            Kind::Start | Kind::Accept => false,
+            Kind::Handshake => false,
         }
     }
 }
@@ -107,6 +105,15 @@ impl StreamLines {
         let of_handshakes = drop_puts(&mut self.written, spare, messages, self.of_handshakes);
         self.of_handshakes = of_handshakes;
         self.left_out = of_handshakes;
+    }
+
+    /// None is kept any more.
+    pub(crate) fn forget(&mut self)
+        ensures { self.new ≡ [] }
+    {
+        self.written.clear();
+        self.of_handshakes = 0;
+        self.left_out = 0;
     }
 
     /// Appends those that are kept.

@@ -1,9 +1,10 @@
 //! The lines of a sender's journal that matter for messages without an answer.
 ghost use Rattle.std.specs.Prelude.{◌≡◌, ◌+◌, ◌<◌, ◌≤◌, ◌++◌, ℕ, [], IfOk, IfSome, IfNone, OnOk, length};
 ghost use Rattle.amo_lines.specs.Backlog.{kept_on};
-ghost use Rattle.amo_live.specs.Unanswered.{ended, keeping, text_of};
+ghost use Rattle.amo_live.specs.Unanswered.{ended, forgotten, keeping, step_of, stepped, text_of};
 
 use crate::stream_lines::{Kind, StreamLines};
+use amo_core::Mode;
 use std::alloc::{AllocError, Global};
 use std::marker::Model;
 
@@ -26,10 +27,36 @@ impl Model for Unanswered {
     ghost view = { λ u. u.streams.items };
 }
 
+/// What becomes of a stream's lines at an event that is none of its client's.
+#[derive(Clone, Copy)]
+pub(crate) enum Step {
+    /// The event's line is kept.
+    Keep,
+    /// It ended a handshake.
+    End,
+    /// All are forgotten.
+    Forget,
+    /// Nothing.
+    Nothing,
+}
+
+/// That step, where the sender was in one mode and is in the other now.
+pub(crate) fn step_of(before: Option<Mode>, after: Mode) -> Step
+    ensures { result ≡ step_of before after }
+{
+    match (before, after) {
+        (Some(Mode::Quiet), Mode::NeedId) | (Some(Mode::NeedId), Mode::Send) => Step::Keep,
+        (Some(Mode::Send), Mode::Quiet) => Step::End,
+        (_, Mode::Down) => Step::Forget,
+        _ => Step::Nothing,
+    }
+}
+
 impl Unanswered {
     /// Nothing is kept, of so many streams.
     pub(crate) fn new(alloc: Global, streams: u32) -> Result<Unanswered, AllocError>
-        ensures { IfOk result (λ unanswered. (stream : ℕ) → kept_on stream unanswered ≡ []) }
+        ensures many { IfOk result (λ unanswered. length unanswered ≡ streams) }
+        ensures none { IfOk result (λ unanswered. (stream : ℕ) → kept_on stream unanswered ≡ []) }
     {
         let mut lines = Vec::new(alloc);
         'streams: for _stream in 0..streams {
@@ -58,6 +85,39 @@ impl Unanswered {
     {
         if let Some(place) = self.place_of(stream) {
             self.streams[place].end(&mut self.spare, messages);
+        }
+    }
+
+    /// A stream's sender crashed: none of its lines is kept any more.
+    pub(crate) fn forget(&mut self, stream: u32)
+        ensures { self.new ≡ forgotten stream self.old }
+    {
+        if let Some(place) = self.place_of(stream) {
+            self.streams[place].forget();
+        }
+    }
+
+    /// An event at a stream's sender left this step to be done, with its line. So many messages travelled in the handshake, if it ended one.
+    pub(crate) fn step(
+        &mut self,
+        step: Step,
+        stream: u32,
+        messages: u64,
+        line: &[u8],
+    ) -> Result<(), AllocError>
+        ensures { OnOk result (self.new ≡ stepped step stream messages line.now self.old) }
+    {
+        match step {
+            Step::Keep => self.keep(stream, Kind::Handshake, line),
+            Step::End => {
+                self.end(stream, messages);
+                Ok(())
+            }
+            Step::Forget => {
+                self.forget(stream);
+                Ok(())
+            }
+            Step::Nothing => Ok(()),
         }
     }
 

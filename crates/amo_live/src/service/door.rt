@@ -161,7 +161,6 @@ impl<L: Link, S: Sink, W: Lineage> Service<L, S, W> {
         let Ok(position) = self.host.put(stream, message)? else {
             return Err(LiveFault::Busy);
         };
-        self.keep_put(stream)?;
         self.owe(stream, lane);
         self.begin(stream, now)?;
         Ok(Some(EventAt { position, line }))

@@ -11,4 +11,4 @@ returns-in-Ok-false-clause-tried g c =
     tried_after c.args.self.now c.is_repetition.new.self c.perform.new.self c.args.stream c.args.act c.perform.result c.is_repetition.ensures.stays.side c.is_repetition.ensures.pump (rw c.in-Ok-false.field-0-test at c.in-Ok-false.ensures.looks) c.perform.ensures.did
 
 pub returns-in-Err-clause-begun : goal.returns-in-Err-clause-begun
-returns-in-Err-clause-begun g c = begins_whole g.S.Sink.written c.is_repetition.new.self.journal (mine c.is_repetition.new.self.pass) c.is_repetition.ensures.noted
+returns-in-Err-clause-begun g c = begins_whole g.S.Sink.written c.is_repetition.new.self.journal (mine c.is_repetition.new.self.pass) c.is_repetition.ensures.noted.0

@@ -9,7 +9,7 @@ use Rattle.amo_live.proofs.Suiting.{deliver_suits, word_small}
 use Rattle.amo_live.proofs.host.Host.deliver.Goals as goal
 
 pub returns-in_default-copied-clause-begun : goal.returns-in_default-copied-clause-begun
-returns-in_default-copied-clause-begun g c = begins_whole g.S.Sink.written c.args.self.now.journal (mine c.args.self.now.pass) c.requires
+returns-in_default-copied-clause-begun g c = begins_whole g.S.Sink.written c.args.self.now.journal (mine c.args.self.now.pass) c.requires.0
 
 pub attempt-requires-clause-suits : goal.attempt-requires-clause-suits
 attempt-requires-clause-suits g c =

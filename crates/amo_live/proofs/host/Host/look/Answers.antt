@@ -9,7 +9,7 @@ use Rattle.amo_live.proofs.host.Host.look.Goals as goal
 
 pub invariant_of-self : goal.invariant_of-self
 invariant_of-self g c =
-    let h : HostState g.row.L.Denot g.row.S.Denot = record { side = c.self.inside.side; streams = c.self.inside.streams; book = c.self.inside.book; pass = c.self.inside.pass; other = c.self.inside.other; pump = c.self.inside.pump; link = c.self.inside.link; outbox = c.self.inside.outbox; journal = c.self.inside.journal } in
+    let h : HostState g.row.L.Denot g.row.S.Denot = record { side = c.self.inside.side; streams = c.self.inside.streams; book = c.self.inside.book; pass = c.self.inside.pass; other = c.self.inside.other; pump = c.self.inside.pump; link = c.self.inside.link; outbox = c.self.inside.outbox; journal = c.self.inside.journal; unanswered = c.self.inside.unanswered } in
     let met = c.meet.ensures in
     let stands = (rw c.in-Ok-Some.field-0-is at c.in-Ok-Some.ensures.found).1 in
     let t = host_looked h c.meet.new.one c.look.new.pass c.meet.new.two c.self.invariant stands.same stands.extends met.same met.met met.later met.no_others.0 met.right.1 in
@@ -17,7 +17,7 @@ invariant_of-self g c =
 
 pub returns-in-Ok-Some-clause-stands : goal.returns-in-Ok-Some-clause-stands
 returns-in-Ok-Some-clause-stands g c =
-    let h : HostState g.row.L.Denot g.row.S.Denot = record { side = c.self.inside.side; streams = c.self.inside.streams; book = c.self.inside.book; pass = c.self.inside.pass; other = c.self.inside.other; pump = c.self.inside.pump; link = c.self.inside.link; outbox = c.self.inside.outbox; journal = c.self.inside.journal } in
+    let h : HostState g.row.L.Denot g.row.S.Denot = record { side = c.self.inside.side; streams = c.self.inside.streams; book = c.self.inside.book; pass = c.self.inside.pass; other = c.self.inside.other; pump = c.self.inside.pump; link = c.self.inside.link; outbox = c.self.inside.outbox; journal = c.self.inside.journal; unanswered = c.self.inside.unanswered } in
     let met = c.meet.ensures in
     let stands = (rw c.in-Ok-Some.field-0-is at c.in-Ok-Some.ensures.found).1 in
     let t = host_looked h c.meet.new.one c.look.new.pass c.meet.new.two c.self.invariant stands.same stands.extends met.same met.met met.later met.no_others.0 met.right.1 in
@@ -27,7 +27,7 @@ returns-in-Ok-Some-clause-stands g c =
 
 pub returns-in-Ok-Some-clause-whole : goal.returns-in-Ok-Some-clause-whole
 returns-in-Ok-Some-clause-whole g c =
-    let h : HostState g.row.L.Denot g.row.S.Denot = record { side = c.self.inside.side; streams = c.self.inside.streams; book = c.self.inside.book; pass = c.self.inside.pass; other = c.self.inside.other; pump = c.self.inside.pump; link = c.self.inside.link; outbox = c.self.inside.outbox; journal = c.self.inside.journal } in
+    let h : HostState g.row.L.Denot g.row.S.Denot = record { side = c.self.inside.side; streams = c.self.inside.streams; book = c.self.inside.book; pass = c.self.inside.pass; other = c.self.inside.other; pump = c.self.inside.pump; link = c.self.inside.link; outbox = c.self.inside.outbox; journal = c.self.inside.journal; unanswered = c.self.inside.unanswered } in
     let met = c.meet.ensures in
     let stands = (rw c.in-Ok-Some.field-0-is at c.in-Ok-Some.ensures.found).1 in
     let t = host_looked h c.meet.new.one c.look.new.pass c.meet.new.two c.self.invariant stands.same stands.extends met.same met.met met.later met.no_others.0 met.right.1 in
@@ -35,7 +35,7 @@ returns-in-Ok-Some-clause-whole g c =
 
 pub returns-in-Ok-Some-clause-same : goal.returns-in-Ok-Some-clause-same
 returns-in-Ok-Some-clause-same g c =
-    let h : HostState g.row.L.Denot g.row.S.Denot = record { side = c.self.inside.side; streams = c.self.inside.streams; book = c.self.inside.book; pass = c.self.inside.pass; other = c.self.inside.other; pump = c.self.inside.pump; link = c.self.inside.link; outbox = c.self.inside.outbox; journal = c.self.inside.journal } in
+    let h : HostState g.row.L.Denot g.row.S.Denot = record { side = c.self.inside.side; streams = c.self.inside.streams; book = c.self.inside.book; pass = c.self.inside.pass; other = c.self.inside.other; pump = c.self.inside.pump; link = c.self.inside.link; outbox = c.self.inside.outbox; journal = c.self.inside.journal; unanswered = c.self.inside.unanswered } in
     let met = c.meet.ensures in
     let stands = (rw c.in-Ok-Some.field-0-is at c.in-Ok-Some.ensures.found).1 in
     let t = host_looked h c.meet.new.one c.look.new.pass c.meet.new.two c.self.invariant stands.same stands.extends met.same met.met met.later met.no_others.0 met.right.1 in

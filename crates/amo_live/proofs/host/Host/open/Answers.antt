@@ -5,6 +5,8 @@ use Rattle.amo_book.specs.Pass.{PassState, mine}
 use Rattle.amo_host.specs.Host.{Host}
 use Rattle.amo_live.specs.Emitted.{WasEmitted}
 use Rattle.amo_live.specs.Noted.{Holds}
+use Rattle.amo_live.specs.OpenLines.{KeepsOpen}
+use Rattle.amo_live.proofs.Following.{none_open}
 use Rattle.amo_live.proofs.Emissions.{nothing_emitted}
 use Rattle.amo_live.proofs.Opens.{charges_driven, charges_many, charges_rest, first_of_two, last_of_two, side_of_pump}
 use Rattle.amo_live.proofs.host.Host.open.Goals as goal
@@ -64,4 +66,8 @@ returns-in-Ok-paced-clause-noted g c =
     let id = c.in-Ok.book.id in let sides = c.in_ok-sides.sides.items in let charges = c.in-Ok.charges.items in let is = c.in_ok-sides.ensures in
     let opens = c.in-Ok.ensures.opened.1 in
     let last : c.in-Some.pass ≡ first_pass id 1 = last_of_two (first_pass id) c.in-Ok.passes.items c.pop.new.self.items c.in-Some.pass opens.numbered_are c.in-Some.ensures.items in
-    subst (λ (p : PassState). Holds g.S.Sink.written c.args.journal (mine p)) (sym last) c.requires.unwritten
+    let kept = c.in_ok-unanswered-in-Ok.ensures in (
+      subst (λ (p : PassState). Holds g.S.Sink.written c.args.journal (mine p)) (sym last) c.requires.unwritten,
+      subst (λ (p : PassState). KeepsOpen c.args.side c.args.streams c.args.journal.first c.args.journal.standing (mine p) c.in_ok-unanswered-in-Ok.unanswered) (sym last)
+          (none_open c.args.side c.args.streams c.args.journal.first c.args.journal.standing c.in_ok-unanswered-in-Ok.unanswered (kept.many ∙ c.senders_of.ensures) kept.none),
+    )

@@ -1,64 +1,42 @@
-use Rattle.std.proofs.Common.{◌<◌, length, inr, sym, subst}
-use Rattle.amo_book.specs.Pass.{PassState, mine}
-use Rattle.amo_live.specs.Due.{Resent}
-use Rattle.amo_live.specs.Host.{HostState, IsNoted, MayNotStart}
-use Rattle.amo_live.specs.Noted.{Holds}
+use Rattle.std.proofs.Common.{◌≡◌, ◌∙◌, ap, sym, subst}
+use Rattle.amo_core.specs.Summary.{summary_of}
+use Rattle.amo_book.specs.Pass.{automaton_after, mine}
+use Rattle.amo_host.specs.AtStream.{HasMode}
+use Rattle.amo_live.specs.declared.unanswered.Step.{Step}
+use Rattle.amo_live.specs.Host.{HostState, IsBegun, IsNoted, IsWhole, MayNotStart}
+use Rattle.amo_live.specs.Unanswered.{step_of, stepped}
+use Rattle.amo_live.proofs.NotedLines.{did_around, performed_noted, with_kept, with_other}
 use Rattle.amo_live.proofs.Onwards.{begins_whole}
-use Rattle.amo_live.proofs.Performing.{grows, happens, host_driven, host_pushed, host_unpushed}
 use Rattle.amo_live.proofs.host.Host.perform.Goals as goal
-
-pub returns-in-Err-clause-begun : goal.returns-in-Err-clause-begun
-returns-in-Err-clause-begun g c =
-    let h : HostState g.row.L.Denot g.row.S.Denot = record { side = c.self.inside.side; streams = c.self.inside.streams; book = c.self.inside.book; pass = c.self.inside.pass; other = c.self.inside.other; pump = c.self.inside.pump; link = c.self.inside.link; outbox = c.self.inside.outbox; journal = c.self.inside.journal } in
-    let held : IsNoted g.S.Sink.written h = subst (λ (t : HostState g.row.L.Denot g.row.S.Denot). IsNoted g.S.Sink.written t) (sym c.self.view_is) c.requires.noted in
-    begins_whole g.S.Sink.written h.journal (mine c.drive.new.pass) (subst (λ (p : PassState). Holds g.S.Sink.written h.journal (mine p)) (sym c.in-Err.ensures.failed) held)
-
-pub invariant_of-self-in-Err-note_answer : goal.invariant_of-self-in-Err-note_answer
-invariant_of-self-in-Err-note_answer g c =
-    let h : HostState g.row.L.Denot g.row.S.Denot = record { side = c.self.inside.side; streams = c.self.inside.streams; book = c.self.inside.book; pass = c.self.inside.pass; other = c.self.inside.other; pump = c.self.inside.pump; link = c.self.inside.link; outbox = c.self.inside.outbox; journal = c.self.inside.journal } in
-    host_driven h c.drive.new.pump c.drive.new.pass c.self.invariant c.drive.ensures.side c.drive.ensures.station c.self.inside.room c.drive.new.out c.args.stream c.args.act c.in-Ok-Some.done (rw c.in-Ok-Some.field-0-is at c.in-Ok-Some.ensures.driven) c.note_answer.new.journal
-
-pub returns-in-Err-note_answer-clause-begun : goal.returns-in-Err-note_answer-clause-begun
-returns-in-Err-note_answer-clause-begun g c =
-    let h : HostState g.row.L.Denot g.row.S.Denot = record { side = c.self.inside.side; streams = c.self.inside.streams; book = c.self.inside.book; pass = c.self.inside.pass; other = c.self.inside.other; pump = c.self.inside.pump; link = c.self.inside.link; outbox = c.self.inside.outbox; journal = c.self.inside.journal } in
-    let held : IsNoted g.S.Sink.written h = subst (λ (t : HostState g.row.L.Denot g.row.S.Denot). IsNoted g.S.Sink.written t) (sym c.self.view_is) c.requires.noted in
-    let grown = grows h c.drive.new.pump c.drive.new.pass c.self.invariant c.drive.ensures.side c.drive.ensures.station c.self.inside.room c.drive.new.out c.args.stream c.args.act c.in-Ok-Some.done (rw c.in-Ok-Some.field-0-is at c.in-Ok-Some.ensures.driven) in
-    c.in-Err-note_answer.ensures.begun h.pass c.drive.new.pass (sym c.number-pass.ensures.number) grown held
-
-pub invariant_of-self-in_default-push : goal.invariant_of-self-in_default-push
-invariant_of-self-in_default-push g c =
-    let h : HostState g.row.L.Denot g.row.S.Denot = record { side = c.self.inside.side; streams = c.self.inside.streams; book = c.self.inside.book; pass = c.self.inside.pass; other = c.self.inside.other; pump = c.self.inside.pump; link = c.self.inside.link; outbox = c.self.inside.outbox; journal = c.self.inside.journal } in
-    host_unpushed h c.drive.new.pump c.drive.new.pass c.self.invariant c.drive.ensures.side c.drive.ensures.station c.self.inside.room c.drive.new.out c.args.stream c.args.act c.in-Ok-Some.done (rw c.in-Ok-Some.field-0-is at c.in-Ok-Some.ensures.driven) c.push.new.self c.note_answer.new.journal c.in_default-push.ensures.unchanged
-
-pub returns-in_default-push-clause-begun : goal.returns-in_default-push-clause-begun
-returns-in_default-push-clause-begun g c =
-    let h : HostState g.row.L.Denot g.row.S.Denot = record { side = c.self.inside.side; streams = c.self.inside.streams; book = c.self.inside.book; pass = c.self.inside.pass; other = c.self.inside.other; pump = c.self.inside.pump; link = c.self.inside.link; outbox = c.self.inside.outbox; journal = c.self.inside.journal } in
-    let held : IsNoted g.S.Sink.written h = subst (λ (t : HostState g.row.L.Denot g.row.S.Denot). IsNoted g.S.Sink.written t) (sym c.self.view_is) c.requires.noted in
-    let grown = grows h c.drive.new.pump c.drive.new.pass c.self.invariant c.drive.ensures.side c.drive.ensures.station c.self.inside.room c.drive.new.out c.args.stream c.args.act c.in-Ok-Some.done (rw c.in-Ok-Some.field-0-is at c.in-Ok-Some.ensures.driven) in
-    begins_whole g.S.Sink.written c.note_answer.new.journal (mine c.drive.new.pass) (c.in-Ok.ensures.noted h.pass c.drive.new.pass (sym c.number-pass.ensures.number) grown held)
-
-pub invariant_of-self-2 : goal.invariant_of-self-2
-invariant_of-self-2 g c =
-    let h : HostState g.row.L.Denot g.row.S.Denot = record { side = c.self.inside.side; streams = c.self.inside.streams; book = c.self.inside.book; pass = c.self.inside.pass; other = c.self.inside.other; pump = c.self.inside.pump; link = c.self.inside.link; outbox = c.self.inside.outbox; journal = c.self.inside.journal } in
-    let within : c.in-Some.place < length h.outbox.recent = subst (λ (t : HostState g.row.L.Denot g.row.S.Denot). c.in-Some.place < length t.outbox.recent) (sym c.self.view_is) c.in-Some.ensures.within.0 in
-    host_pushed h c.drive.new.pump c.drive.new.pass c.self.invariant c.drive.ensures.side c.drive.ensures.station c.self.inside.room c.drive.new.out c.args.stream c.args.act c.in-Ok-Some.done (rw c.in-Ok-Some.field-0-is at c.in-Ok-Some.ensures.driven) c.push.new.self c.note_answer.new.journal c.in-Some.place c.is_answer-is_answer.result within c.in-Ok-push.ensures.leaving c.in-Ok-push.ensures.recent
-
-pub returns-clause-did : goal.returns-clause-did
-returns-clause-did g c =
-    let h : HostState g.row.L.Denot g.row.S.Denot = record { side = c.self.inside.side; streams = c.self.inside.streams; book = c.self.inside.book; pass = c.self.inside.pass; other = c.self.inside.other; pump = c.self.inside.pump; link = c.self.inside.link; outbox = c.self.inside.outbox; journal = c.self.inside.journal } in
-    rw (← c.self.view_is) (happens h c.drive.new.pump c.drive.new.pass c.self.invariant c.drive.ensures.side c.drive.ensures.station c.self.inside.room c.drive.new.out c.args.stream c.args.act c.in-Ok-Some.done (rw c.in-Ok-Some.field-0-is at c.in-Ok-Some.ensures.driven) c.push.new.self c.note_answer.new.journal c.in-Ok-push.ensures.leaving)
-
-pub returns-clause-noted : goal.returns-clause-noted
-returns-clause-noted g c =
-    let h : HostState g.row.L.Denot g.row.S.Denot = record { side = c.self.inside.side; streams = c.self.inside.streams; book = c.self.inside.book; pass = c.self.inside.pass; other = c.self.inside.other; pump = c.self.inside.pump; link = c.self.inside.link; outbox = c.self.inside.outbox; journal = c.self.inside.journal } in
-    let held : IsNoted g.S.Sink.written h = subst (λ (t : HostState g.row.L.Denot g.row.S.Denot). IsNoted g.S.Sink.written t) (sym c.self.view_is) c.requires.noted in
-    let grown = grows h c.drive.new.pump c.drive.new.pass c.self.invariant c.drive.ensures.side c.drive.ensures.station c.self.inside.room c.drive.new.out c.args.stream c.args.act c.in-Ok-Some.done (rw c.in-Ok-Some.field-0-is at c.in-Ok-Some.ensures.driven) in
-    c.in-Ok.ensures.noted h.pass c.drive.new.pass (sym c.number-pass.ensures.number) grown held
-
-pub returns-clause-resent : goal.returns-clause-resent
-returns-clause-resent g c = λ same.
-    subst (λ (t : HostState g.row.L.Denot g.row.S.Denot). Resent c.args.now t.pump c.drive.new.pump c.args.stream c.in-Ok-Some.done.mode) c.self.view_is (rw c.in-Ok-Some.field-0-is at (c.in-Ok-Some.ensures.resent same))
 
 pub returns-in-Ok-None-clause-waits : goal.returns-in-Ok-None-clause-waits
 returns-in-Ok-None-clause-waits g c = λ begins.
-    subst (λ (t : HostState g.row.L.Denot g.row.S.Denot). MayNotStart t c.args.stream) c.self.view_is (inr (inr (rw c.in-Ok-None.field-0-is at (c.in-Ok-None.ensures.waits begins))))
+    subst (λ (x : HostState g.row.L.Denot g.row.S.Denot). MayNotStart x c.args.stream) c.travelling.ensures.same (rw c.in-Ok-None.field-0-is at (c.in-Ok-None.ensures.waits begins))
+
+pub returns-in-Ok-keep_step-clause-did : goal.returns-in-Ok-keep_step-clause-did
+returns-in-Ok-keep_step-clause-did g c =
+    did_around c.args.self.now c.travelling.new.self c.note_act.new.self c.meet.new.self c.keep_step.new.self c.args.stream c.args.act c.in-Ok-Some.mode c.travelling.ensures.same c.meet.ensures.same c.keep_step.ensures.same
+    (rw c.in-Ok-Some.field-0-is at c.in-Ok-Some.ensures.did)
+
+pub returns-in-Ok-keep_step-clause-noted : goal.returns-in-Ok-keep_step-clause-noted
+returns-in-Ok-keep_step-clause-noted g c =
+    let t = c.travelling.new.self in let n = c.note_act.new.self in let m = c.meet.new.self in let k = c.keep_step.new.self in
+    let before = c.mode_of-before.result in let now = c.in-Ok-Some.mode in let messages = c.in-Ok.messages in
+    let same = c.travelling.ensures.same in
+    let after : k ≡ with_kept (with_other n m.other) k.unanswered = c.keep_step.ensures.same ∙ ap (λ (x : HostState g.row.L.Denot g.row.S.Denot). with_kept x k.unanswered) c.meet.ensures.same in
+    let kept : k.unanswered ≡ stepped (step_of before now) c.args.stream messages n.journal.last n.unanswered =
+    c.in-Ok-keep_step.ensures.kept ∙ (ap (λ (s : Step). stepped s c.args.stream messages m.journal.last m.unanswered) c.step_of.ensures
+    ∙ ap (λ (x : HostState g.row.L.Denot g.row.S.Denot). stepped (step_of before now) c.args.stream messages x.journal.last x.unanswered) c.meet.ensures.same) in
+    subst (λ (x : HostState g.row.L.Denot g.row.S.Denot). IsNoted g.S.Sink.written x) (sym after)
+    (performed_noted g.S.Sink.written t n c.args.stream c.args.act before now messages (subst (λ (x : HostState g.row.L.Denot g.row.S.Denot). IsNoted g.S.Sink.written x) (sym same) c.requires.noted)
+    c.in-Ok-Some.ensures.noted c.in-Ok-Some.ensures.stays (rw c.in-Ok-Some.field-0-is at c.in-Ok-Some.ensures.did) (rw c.in-Ok-Some.field-0-is at c.in-Ok-Some.ensures.found) (rw c.in-Ok-Some.field-0-is at c.in-Ok-Some.ensures.last)
+    (subst IsWhole (ap (λ (x : HostState g.row.L.Denot g.row.S.Denot). x.pass) c.meet.ensures.same) c.meet.ensures.whole)
+    (λ known has. c.mode_of-before.ensures.only known (subst (λ (x : HostState g.row.L.Denot g.row.S.Denot). HasMode x.pump.host c.args.stream known) same has))
+    (λ sends. subst (λ (x : HostState g.row.L.Denot g.row.S.Denot). messages ≡ (summary_of (automaton_after x.side c.args.stream x.pass.seen)).held) (sym same) (c.in-Ok.ensures.sends sends))
+    (λ sends. c.in-Ok.ensures.whole sends) c.requires.suits.0 k.unanswered kept c.in-Ok-Some.ensures.kept)
+
+pub returns-in-Err-keep_step-clause-begun : goal.returns-in-Err-keep_step-clause-begun
+returns-in-Err-keep_step-clause-begun g c =
+    let n = c.note_act.new.self in let m = c.meet.new.self in let k = c.keep_step.new.self in
+    let after : k ≡ with_kept (with_other n m.other) k.unanswered = c.keep_step.ensures.same ∙ ap (λ (x : HostState g.row.L.Denot g.row.S.Denot). with_kept x k.unanswered) c.meet.ensures.same in
+    subst (λ (x : HostState g.row.L.Denot g.row.S.Denot). IsBegun g.S.Sink.written x) (sym after) (begins_whole g.S.Sink.written n.journal (mine n.pass) c.in-Ok-Some.ensures.noted)

@@ -1,40 +1,24 @@
-use Rattle.std.proofs.Common.{List, ℕ, sym, subst}
-use Rattle.amo_object.specs.declared.step.End.TheVariants.{Sender}
-use Rattle.amo_core.specs.declared.act.Act.TheVariants as act
+use Rattle.std.proofs.Common.{◌≡◌, ◌∙◌, ap, sym, subst}
 use Rattle.amo_book.specs.Calls.{put_answer}
-use Rattle.amo_book.specs.Pass.{Answer, Grown}
-use Rattle.amo_live.specs.Host.{HostState, IsNoted}
-use Rattle.amo_live.proofs.Emissions.{host_called}
-use Rattle.amo_live.proofs.Suiting.{put_spelt}
+use Rattle.amo_book.specs.Pass.{mine}
+use Rattle.amo_live.specs.Host.{HostState, IsBegun, IsNoted, IsWhole}
+use Rattle.amo_live.specs.OpenLines.{with_put}
+use Rattle.amo_live.proofs.NotedLines.{put_noted, with_kept, with_other}
+use Rattle.amo_live.proofs.Onwards.{begins_whole}
 use Rattle.amo_live.proofs.host.Host.put.Goals as goal
 
-pub note_answer-requires-clause-spelt : goal.note_answer-requires-clause-spelt
-note_answer-requires-clause-spelt g c = put_spelt c.self.inside.journal.version c.args.stream c.args.message c.in-Ok.copy c.put-answer.result c.reply_to_put-known.result c.is_message.ensures c.in-Ok.ensures.cases c.reply_to_put-known.ensures
+pub returns-in-Ok-keep_put-clause-noted : goal.returns-in-Ok-keep_put-clause-noted
+returns-in-Ok-keep_put-clause-noted g c =
+    let n = c.note_put.new.self in let m = c.meet.new.self in let k = c.keep_put.new.self in let answer = put_answer c.in-Ok.answer in
+    let after : k ≡ with_kept (with_other n m.other) k.unanswered = c.keep_put.ensures.same ∙ ap (λ (x : HostState g.row.L.Denot g.row.S.Denot). with_kept x k.unanswered) c.meet.ensures.same in
+    let kept : k.unanswered ≡ with_put answer c.args.stream n.journal.last n.unanswered =
+    c.in-Ok-keep_put.ensures.kept ∙ ap (λ (x : HostState g.row.L.Denot g.row.S.Denot). with_put answer c.args.stream x.journal.last x.unanswered) c.meet.ensures.same in
+    subst (λ (x : HostState g.row.L.Denot g.row.S.Denot). IsNoted g.S.Sink.written x) (sym after)
+    (put_noted g.S.Sink.written c.args.self.now n c.args.stream c.args.message answer c.requires c.in-Ok.ensures.noted c.in-Ok.ensures.stays.0 c.in-Ok.ensures.put
+    (subst IsWhole (ap (λ (x : HostState g.row.L.Denot g.row.S.Denot). x.pass) c.meet.ensures.same) c.meet.ensures.whole) c.in-Ok.ensures.last k.unanswered kept c.in-Ok.ensures.kept)
 
-pub returns-in-Err-clause-begun : goal.returns-in-Err-clause-begun
-returns-in-Err-clause-begun g c =
-    let h : HostState g.row.L.Denot g.row.S.Denot = record { side = c.self.inside.side; streams = c.self.inside.streams; book = c.self.inside.book; pass = c.self.inside.pass; other = c.self.inside.other; pump = c.self.inside.pump; link = c.self.inside.link; outbox = c.self.inside.outbox; journal = c.self.inside.journal } in
-    let held : IsNoted g.S.Sink.written h = subst (λ (t : HostState g.row.L.Denot g.row.S.Denot). IsNoted g.S.Sink.written t) (sym c.self.view_is) c.requires in
-    let v = c.self.inside.pass in let w = c.put-answer.new.pass in
-    let same : Grown v w Sender c.args.stream (act.Put c.in-Ok.copy) (put_answer c.put-answer.result) = subst (λ (m : List ℕ). Grown v w Sender c.args.stream (act.Put m) (put_answer c.put-answer.result)) (sym c.in-Ok.ensures.cases) c.put-answer.ensures.grown in
-    let grown : Grown v w Sender c.args.stream (act.Put c.in-Ok.copy) c.reply_to_put-known.result = subst (λ (a : Answer). Grown v w Sender c.args.stream (act.Put c.in-Ok.copy) a) (sym c.reply_to_put-known.ensures) same in
-    c.in-Err.ensures.begun v w (sym c.number-pass.ensures.number) grown held
-
-pub returns-clause-noted : goal.returns-clause-noted
-returns-clause-noted g c =
-    let h : HostState g.row.L.Denot g.row.S.Denot = record { side = c.self.inside.side; streams = c.self.inside.streams; book = c.self.inside.book; pass = c.self.inside.pass; other = c.self.inside.other; pump = c.self.inside.pump; link = c.self.inside.link; outbox = c.self.inside.outbox; journal = c.self.inside.journal } in
-    let held : IsNoted g.S.Sink.written h = subst (λ (t : HostState g.row.L.Denot g.row.S.Denot). IsNoted g.S.Sink.written t) (sym c.self.view_is) c.requires in
-    let v = c.self.inside.pass in let w = c.put-answer.new.pass in
-    let same : Grown v w Sender c.args.stream (act.Put c.in-Ok.copy) (put_answer c.put-answer.result) = subst (λ (m : List ℕ). Grown v w Sender c.args.stream (act.Put m) (put_answer c.put-answer.result)) (sym c.in-Ok.ensures.cases) c.put-answer.ensures.grown in
-    let grown : Grown v w Sender c.args.stream (act.Put c.in-Ok.copy) c.reply_to_put-known.result = subst (λ (a : Answer). Grown v w Sender c.args.stream (act.Put c.in-Ok.copy) a) (sym c.reply_to_put-known.ensures) same in
-    c.in-Ok-note_answer.ensures.noted v w (sym c.number-pass.ensures.number) grown held
-
-pub invariant_of-self : goal.invariant_of-self
-invariant_of-self g c =
-    let h : HostState g.row.L.Denot g.row.S.Denot = record { side = c.self.inside.side; streams = c.self.inside.streams; book = c.self.inside.book; pass = c.self.inside.pass; other = c.self.inside.other; pump = c.self.inside.pump; link = c.self.inside.link; outbox = c.self.inside.outbox; journal = c.self.inside.journal } in
-    host_called h c.note_answer.new.journal c.put-answer.new.pass Sender c.args.stream (act.Put c.args.message) (put_answer c.put-answer.result) c.self.invariant c.put-answer.ensures.grown
-
-pub invariant_of-self-2 : goal.invariant_of-self-2
-invariant_of-self-2 g c =
-    let h : HostState g.row.L.Denot g.row.S.Denot = record { side = c.self.inside.side; streams = c.self.inside.streams; book = c.self.inside.book; pass = c.self.inside.pass; other = c.self.inside.other; pump = c.self.inside.pump; link = c.self.inside.link; outbox = c.self.inside.outbox; journal = c.self.inside.journal } in
-    host_called h c.note_answer.new.journal c.put-answer.new.pass Sender c.args.stream (act.Put c.args.message) (put_answer c.put-answer.result) c.self.invariant c.put-answer.ensures.grown
+pub returns-in-Err-keep_put-clause-begun : goal.returns-in-Err-keep_put-clause-begun
+returns-in-Err-keep_put-clause-begun g c =
+    let n = c.note_put.new.self in let m = c.meet.new.self in let k = c.keep_put.new.self in
+    let after : k ≡ with_kept (with_other n m.other) k.unanswered = c.keep_put.ensures.same ∙ ap (λ (x : HostState g.row.L.Denot g.row.S.Denot). with_kept x k.unanswered) c.meet.ensures.same in
+    subst (λ (x : HostState g.row.L.Denot g.row.S.Denot). IsBegun g.S.Sink.written x) (sym after) (begins_whole g.S.Sink.written n.journal (mine n.pass) c.in-Ok.ensures.noted)

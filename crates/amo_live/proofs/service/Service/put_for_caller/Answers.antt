@@ -1,4 +1,4 @@
-use Rattle.std.proofs.Common.{◌≡◌, Some, ap, refl, rules, subst, sym, ◌∙◌}
+use Rattle.std.proofs.Common.{◌≡◌, Some, ap, refl, rules, subst, ◌∙◌}
 use Rattle.amo_world.specs.History.{Extends}
 use Rattle.amo_book.specs.Pass.{PassState, mine}
 use Rattle.amo_live.specs.Callers.{PutsAt}
