@@ -1,5 +1,5 @@
 -- Which messages were got, and where their gets stand.
-use Rattle.std.proofs.Common.{◌≡◌, ℕ, ◌%◌, ◌^◌, Bool, List, [], ◌∷◌, Option, Some, None, length, refl, ap, sym, subst, ◌∙◌}
+use Rattle.std.proofs.Common.{◌≡◌, ℕ, ◌+◌, ◌-◌, ◌%◌, ◌^◌, Bool, List, [], ◌∷◌, Option, Some, None, length, refl, ap, sym, subst, ◌∙◌}
 use Rattle.amo_object.specs.declared.step.End.{End}
 use Rattle.amo_object.specs.declared.step.End.TheVariants.{Receiver, Sender}
 use Rattle.amo_core.specs.declared.act.Act.{Act}
@@ -8,41 +8,54 @@ use Rattle.amo_core.specs.declared.mode.Mode.{Mode}
 use Rattle.amo_core.specs.declared.reply.Reply.{Reply}
 use Rattle.amo_core.specs.declared.reply.Reply.TheVariants as reply
 use Rattle.amo_world.specs.declared.event.Event.{Event}
-use Rattle.amo_world.specs.History.{Extends}
+use Rattle.amo_world.specs.History.{Extends, events_of}
 use Rattle.amo_world.proofs.Extensions.{further, itself}
 use Rattle.amo_book.specs.Pass.{PassState, Answer, Answered, Grown, GrownBy, HasPosition, event, mine}
-use Rattle.amo_live.specs.Callers.{Gets, HappensAt, gets_in}
+use Rattle.amo_live.specs.Callers.{Gets, HappensAt, IsSameLife, gets_in}
 use Rattle.amo_live.specs.Host.{HostState, Did, Looks, got_at, got_in, puts_in}
+use Rattle.amo_live.specs.Noted.{IsSameJournal, JournalState}
 use Rattle.amo_live.specs.declared.service.door.EventAt.{EventAt}
 use Rattle.amo_live.proofs.Emissions.{grown_extends}
+use Rattle.amo_live.proofs.Lined.{line_stays, made_by, next_line}
 use Rattle.amo_live.proofs.Repeating.{looks_still}
 
--- the event of a call stands at the position that the call answered
-pub happens_at : (v w : PassState) (side : End) (stream : ℕ) (a : Act) (r : Reply) (position : ℕ) → GrownBy v w (event v.number side stream a r) → HasPosition w position → HappensAt v w side stream a r position
-happens_at v w side stream a r position grown place = record {
+-- the event of a call stands at the position that the call answered, and in the next line
+pub happens_at : {S : Type 0} (v w : PassState) (j k : JournalState S) (side : End) (stream : ℕ) (a : Act) (r : Reply) (position line : ℕ) → GrownBy v w (event v.number side stream a r) → HasPosition w position
+    → IsSameJournal j k → j.next ≡ j.first + (length (mine v) - j.standing) → line ≡ j.next → HappensAt v w k side stream a r position line
+happens_at v w j k side stream a r position line grown place same next is = record {
   pass = v.number;
+  own = grown.number;
   past = grown.earlier;
   since = grown.extends;
   stands = subst (λ (seen : List Event). Extends seen (event v.number side stream a r ∷ grown.earlier)) (sym grown.seen) (itself (event v.number side stream a r ∷ grown.earlier));
   place = place ∙ ap (λ (seen : List Event). length seen % 2 ^ 64) grown.seen;
+  in_journal = next_line j k v w (event v.number side stream a r) line grown refl same next is;
 }
 
 -- also behind what happened before, and in front of what happens later
-pub happens_since : (u v w : PassState) (side : End) (stream : ℕ) (a : Act) (r : Reply) (position : ℕ) → Extends v.seen u.seen → HappensAt v w side stream a r position → HappensAt u w side stream a r position
-happens_since u v w side stream a r position more at = record { pass = at.pass; past = at.past; since = further at.past v.seen u.seen at.since more; stands = at.stands; place = at.place }
+pub happens_since : {S : Type 0} (u v w : PassState) (j : JournalState S) (side : End) (stream : ℕ) (a : Act) (r : Reply) (position line : ℕ) → Extends v.seen u.seen → HappensAt v w j side stream a r position line
+    → HappensAt u w j side stream a r position line
+happens_since u v w j side stream a r position line more at =
+    record { pass = at.pass; own = at.own; past = at.past; since = further at.past v.seen u.seen at.since more; stands = at.stands; place = at.place; in_journal = at.in_journal }
 
-pub happens_until : (v w x : PassState) (side : End) (stream : ℕ) (a : Act) (r : Reply) (position : ℕ) → Extends x.seen w.seen → HappensAt v w side stream a r position → HappensAt v x side stream a r position
-happens_until v w x side stream a r position more at = record {
-  pass = at.pass;
-  past = at.past;
-  since = at.since;
-  stands = further x.seen w.seen (event at.pass side stream a r ∷ at.past) more at.stands;
-  place = at.place;
-}
+pub happens_until : {S : Type 0} (v w x : PassState) (j k : JournalState S) (side : End) (stream : ℕ) (a : Act) (r : Reply) (position line : ℕ) → Extends x.seen w.seen → IsSameLife w x j k
+    → HappensAt v w j side stream a r position line → HappensAt v x k side stream a r position line
+happens_until v w x j k side stream a r position line more life at =
+    let e = event at.pass side stream a r in
+    let stands = further x.seen w.seen (e ∷ at.past) more at.stands in
+    record {
+      pass = at.pass;
+      own = life.number ∙ at.own;
+      past = at.past;
+      since = at.since;
+      stands = stands;
+      place = at.place;
+      in_journal = line_stays j k (events_of at.pass w.seen) (events_of at.pass x.seen) (events_of at.pass at.past) e line life.journal (made_by at.pass x.seen at.past e refl stands) at.in_journal;
+    }
 
 -- so what was seen before goes on
-pub happens_extends : (v w : PassState) (side : End) (stream : ℕ) (a : Act) (r : Reply) (position : ℕ) → HappensAt v w side stream a r position → Extends w.seen v.seen
-happens_extends v w side stream a r position at =
+pub happens_extends : {S : Type 0} (v w : PassState) (j : JournalState S) (side : End) (stream : ℕ) (a : Act) (r : Reply) (position line : ℕ) → HappensAt v w j side stream a r position line → Extends w.seen v.seen
+happens_extends v w j side stream a r position line at =
     let e = event at.pass side stream a r in
     let older = at.since in
     further w.seen (e ∷ at.past) v.seen at.stands (e ∷ older.0, ap (λ (l : List Event). e ∷ l) older.1)
@@ -75,25 +88,26 @@ unfolding position_of
 same_position m n at position is = ap position_of is
 
 -- a get that was answered with a message got it, at that position
-pub was_got : (v w : PassState) (stream : ℕ) (m : List ℕ) (at : EventAt) (answer : Answer) → got_at m at.position ≡ got_in answer → Grown v w Receiver stream act.Get answer → Answered w answer → Gets v w stream (Some (m, at))
-was_got v w stream m at None is grown answered = absurd (no is)
+pub was_got : {S : Type 0} (v w : PassState) (j k : JournalState S) (stream : ℕ) (m : List ℕ) (at : EventAt) (answer : Answer) → got_at m at.position ≡ got_in answer → Grown v w Receiver stream act.Get answer → Answered w answer
+    → IsSameJournal j k → j.next ≡ j.first + (length (mine v) - j.standing) → at.line ≡ j.next → Gets v w k stream (Some (m, at))
+was_got v w j k stream m at None is grown answered same next line = absurd (no is)
   where
     no : got_at m at.position ≡ None → ⊥
     no e = cc
-was_got v w stream m at (Some (reply.Got n, position)) is grown answered =
-    let same = same_message m n at.position position is in
+was_got v w j k stream m at (Some (reply.Got n, position)) is grown answered same next line =
+    let message = same_message m n at.position position is in
     let place = same_position m n at.position position is in
     let one : gets_in (mine w) ≡ (stream, n) ∷ gets_in (mine v) = ap gets_in grown.mine_grew in
-    subst (λ (k : List ℕ). Gets v w stream (Some (k, at))) (sym same)
-    (one, subst (λ (p : ℕ). HappensAt v w Receiver stream act.Get (reply.Got n) p) (sym place) (happens_at v w Receiver stream act.Get (reply.Got n) position grown answered))
-was_got v w stream m at (Some (reply.Ok, position)) is grown answered = cc
-was_got v w stream m at (Some (reply.Full, position)) is grown answered = cc
-was_got v w stream m at (Some (reply.Down, position)) is grown answered = cc
-was_got v w stream m at (Some (reply.Nothing, position)) is grown answered = cc
-was_got v w stream m at (Some (reply.Yes, position)) is grown answered = cc
-was_got v w stream m at (Some (reply.No, position)) is grown answered = cc
-was_got v w stream m at (Some (reply.NotYet, position)) is grown answered = cc
-was_got v w stream m at (Some (reply.Done, position)) is grown answered = cc
+    subst (λ (l : List ℕ). Gets v w k stream (Some (l, at))) (sym message)
+    (one, subst (λ (p : ℕ). HappensAt v w k Receiver stream act.Get (reply.Got n) p at.line) (sym place) (happens_at v w j k Receiver stream act.Get (reply.Got n) position at.line grown answered same next line))
+was_got v w j k stream m at (Some (reply.Ok, position)) is grown answered same next line = cc
+was_got v w j k stream m at (Some (reply.Full, position)) is grown answered same next line = cc
+was_got v w j k stream m at (Some (reply.Down, position)) is grown answered same next line = cc
+was_got v w j k stream m at (Some (reply.Nothing, position)) is grown answered same next line = cc
+was_got v w j k stream m at (Some (reply.Yes, position)) is grown answered same next line = cc
+was_got v w j k stream m at (Some (reply.No, position)) is grown answered same next line = cc
+was_got v w j k stream m at (Some (reply.NotYet, position)) is grown answered same next line = cc
+was_got v w j k stream m at (Some (reply.Done, position)) is grown answered same next line = cc
 
 -- one that was answered with none got none
 none_got : (v w : PassState) (stream : ℕ) (answer : Answer) → None ≡ got_in answer → Grown v w Receiver stream act.Get answer → gets_in (mine w) ≡ gets_in (mine v)
@@ -108,16 +122,17 @@ none_got v w stream (Some (reply.No, position)) is grown = ap gets_in grown.mine
 none_got v w stream (Some (reply.NotYet, position)) is grown = ap gets_in grown.mine_grew
 none_got v w stream (Some (reply.Done, position)) is grown = ap gets_in grown.mine_grew
 
-pub got_none : (v w : PassState) (stream : ℕ) (answer : Answer) → None ≡ got_in answer → Grown v w Receiver stream act.Get answer → Gets v w stream None
-got_none v w stream answer is grown = (none_got v w stream answer is grown, call_extends v w Receiver stream act.Get answer grown)
+pub got_none : {S : Type 0} (v w : PassState) (j : JournalState S) (stream : ℕ) (answer : Answer) → None ≡ got_in answer → Grown v w Receiver stream act.Get answer → Gets v w j stream None
+got_none v w j stream answer is grown = (none_got v w stream answer is grown, call_extends v w Receiver stream act.Get answer grown)
 
 -- where no event happened none was got either
-pub got_none_still : (v : PassState) (stream : ℕ) → Gets v v stream None
-got_none_still v stream = (refl, itself v.seen)
+pub got_none_still : {S : Type 0} (v : PassState) (j : JournalState S) (stream : ℕ) → Gets v v j stream None
+got_none_still v j stream = (refl, itself v.seen)
 
 -- a get and the resend behind it
-pub got_on : (v w x : PassState) (stream : ℕ) (m : List ℕ) (at : EventAt) → gets_in (mine x) ≡ gets_in (mine w) → Extends x.seen w.seen → Gets v w stream (Some (m, at)) → Gets v x stream (Some (m, at))
-got_on v w x stream m at none more (one, stands) = (none ∙ one, happens_until v w x Receiver stream act.Get (reply.Got m) at.position more stands)
+pub got_on : {S : Type 0} (v w x : PassState) (j k : JournalState S) (stream : ℕ) (m : List ℕ) (at : EventAt) → gets_in (mine x) ≡ gets_in (mine w) → Extends x.seen w.seen → IsSameLife w x j k → Gets v w j stream (Some (m, at))
+    → Gets v x k stream (Some (m, at))
+got_on v w x j k stream m at none more life (one, stands) = (none ∙ one, happens_until v w x j k Receiver stream act.Get (reply.Got m) at.position at.line more life stands)
 
 -- a get puts nothing
 pub get_puts : (v w : PassState) (stream : ℕ) (answer : Answer) → Grown v w Receiver stream act.Get answer → puts_in (mine w) ≡ puts_in (mine v)

@@ -21,5 +21,6 @@ pub mod Fresh
 pub mod Getting
 pub mod Doubting
 pub mod Keeping
+pub mod Lined
 pub mod Listening
 pub mod Wholeness

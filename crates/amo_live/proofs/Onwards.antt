@@ -26,7 +26,7 @@ behind_count : (n : ℕ) (past : List Event) → length (behind_first n past) �
 behind_count n past = length-take-le (length past - n) past (omega arith)
 
 -- what is written of a history grows by what is written of its next event
-text_grows : (front : List ℕ) (first standing left next : ℕ) (past : List Event) (e : Event) → next ≡ first + (length past - standing) → left ≡ standing - length past
+pub text_grows : (front : List ℕ) (first standing left next : ℕ) (past : List Event) (e : Event) → next ≡ first + (length past - standing) → left ≡ standing - length past
     → front ++ lines_of first (behind_first standing (e ∷ past)) ≡ (front ++ lines_of first (behind_first standing past)) ++ line_behind left next e
 text_grows front first standing zero next past e is none =
     let few : standing ≤ length past = omega (arith, none) in

@@ -1,5 +1,5 @@
 -- Which messages were put.
-use Rattle.std.proofs.Common.{◌≡◌, ℕ, Bool, true, false, List, ◌∷◌, Option, Some, None, Ok, Err, refl, ap, subst, sym, ◌∙◌}
+use Rattle.std.proofs.Common.{◌≡◌, ℕ, ◌+◌, ◌-◌, length, Bool, true, false, List, ◌∷◌, Option, Some, None, Ok, Err, refl, ap, subst, sym, ◌∙◌}
 use Rattle.amo_object.specs.declared.step.End.TheVariants.{Sender}
 use Rattle.amo_core.specs.declared.act.Act.{Act}
 use Rattle.amo_core.specs.declared.act.Act.TheVariants as act
@@ -14,8 +14,9 @@ use Rattle.amo_book.specs.Pass.{PassState, Answered, Grown, mine}
 use Rattle.amo_journal.specs.declared.version.Version.{Version}
 use Rattle.amo_journal.specs.declared.version.Version.TheVariants.{One, Two}
 use Rattle.amo_journal.specs.Version.{HasBatches}
-use Rattle.amo_live.specs.Callers.{HappensAt, MovesNone, PutsAt, gets_in}
+use Rattle.amo_live.specs.Callers.{HappensAt, IsSameLife, MovesNone, PutsAt, gets_in}
 use Rattle.amo_live.specs.Host.{HostState, Delivered, Did, Looks, puts_in}
+use Rattle.amo_live.specs.Noted.{IsSameJournal, JournalState}
 use Rattle.amo_live.specs.Service.{start_of, starts_batches}
 use Rattle.amo_live.specs.declared.service.door.EventAt.{EventAt}
 use Rattle.amo_live.proofs.Getting.{call_extends, happens_at, happens_until}
@@ -25,13 +26,14 @@ use Rattle.amo_live.proofs.Repeating.{looks_still, none_still}
 pub was_put : (v w : PassState) (stream : ℕ) (m : List ℕ) (position : ℕ) → Grown v w Sender stream (act.Put m) (put_answer (Ok position)) → puts_in (mine w) ≡ (stream, m) ∷ puts_in (mine v)
 was_put v w stream m position grown = ap puts_in grown.mine_grew
 
--- also where a handshake began behind it, and it stands at the position that it answered
-pub put_on : (v u w : PassState) (stream : ℕ) (m : List ℕ) (position : ℕ) (at : EventAt) → at.position ≡ position → Grown v u Sender stream (act.Put m) (put_answer (Ok position)) → Answered u (put_answer (Ok position))
-    → puts_in (mine w) ≡ puts_in (mine u) → Extends w.seen u.seen → PutsAt v w stream m (Some at)
-put_on v u w stream m position at is grown answered none more = (
+-- also where a handshake began behind it, and it stands at the position that it answered, and in the next line
+pub put_on : {S : Type 0} (v u w : PassState) (i j k : JournalState S) (stream : ℕ) (m : List ℕ) (position : ℕ) (at : EventAt) → at.position ≡ position → Grown v u Sender stream (act.Put m) (put_answer (Ok position)) → Answered u (put_answer (Ok position))
+    → IsSameJournal i j → i.next ≡ i.first + (length (mine v) - i.standing) → at.line ≡ i.next
+    → puts_in (mine w) ≡ puts_in (mine u) → Extends w.seen u.seen → IsSameLife u w j k → PutsAt v w k stream m (Some at)
+put_on v u w i j k stream m position at is grown answered same next line none more life = (
   none ∙ was_put v u stream m position grown,
-  subst (λ (p : ℕ). HappensAt v w Sender stream (act.Put m) reply.Ok p) (sym is)
-      (happens_until v u w Sender stream (act.Put m) reply.Ok position more (happens_at v u Sender stream (act.Put m) reply.Ok position grown answered)),
+  subst (λ (p : ℕ). HappensAt v w k Sender stream (act.Put m) reply.Ok p at.line) (sym is)
+      (happens_until v u w j k Sender stream (act.Put m) reply.Ok position at.line more life (happens_at v u i j Sender stream (act.Put m) reply.Ok position at.line grown answered same next line)),
 )
 
 -- one that was refused put nothing
@@ -41,12 +43,12 @@ was_refused v w stream m (put_fault.Down position back) grown = ap puts_in grown
 was_refused v w stream m (put_fault.Busy back) grown = ap (λ (p : PassState). puts_in (mine p)) grown
 was_refused v w stream m (put_fault.NoStream back) grown = ap (λ (p : PassState). puts_in (mine p)) grown
 
-pub put_none : (v w : PassState) (stream : ℕ) (m : List ℕ) (fault : PutFault) → Grown v w Sender stream (act.Put m) (put_answer (Err fault)) → PutsAt v w stream m None
-put_none v w stream m fault grown = (was_refused v w stream m fault grown, call_extends v w Sender stream (act.Put m) (put_answer (Err fault)) grown)
+pub put_none : {S : Type 0} (v w : PassState) (j : JournalState S) (stream : ℕ) (m : List ℕ) (fault : PutFault) → Grown v w Sender stream (act.Put m) (put_answer (Err fault)) → PutsAt v w j stream m None
+put_none v w j stream m fault grown = (was_refused v w stream m fault grown, call_extends v w Sender stream (act.Put m) (put_answer (Err fault)) grown)
 
 -- nor did what did nothing
-pub put_none_still : (v : PassState) (stream : ℕ) (m : List ℕ) → PutsAt v v stream m None
-put_none_still v stream m = (refl, itself v.seen)
+pub put_none_still : {S : Type 0} (v : PassState) (j : JournalState S) (stream : ℕ) (m : List ℕ) → PutsAt v v j stream m None
+put_none_still v j stream m = (refl, itself v.seen)
 
 -- batches are started where they have lines
 pub batches_noted : (batch : Bool) (version : Version) → starts_batches batch version ≡ true → HasBatches version

@@ -1,5 +1,5 @@
 -- A journal that is written while things happen.
-use Rattle.std.specs.Prelude.{◌≡◌, ℕ, zero, suc, ◌+◌, ◌-◌, Bool, if◌then◌else◌, Option, Some, None, List, [], ◌∷◌, ◌++◌, length, take}
+use Rattle.std.specs.Prelude.{◌≡◌, ℕ, zero, suc, ◌+◌, ◌-◌, ◌≤◌, Bool, if◌then◌else◌, Option, Some, None, List, [], ◌∷◌, ◌++◌, length, take}
 use Rattle.std.specs.Io.KnownBytes.{Appends}
 use Rattle.amo_text.specs.Sink.{AppendsFront}
 use Rattle.amo_world.specs.declared.event.Event.{Event}
@@ -58,6 +58,12 @@ lines_of first (e ∷ past) = lines_of first past ++ line_text (record { number 
 -- what is written of a history since the journal was opened: the heading, if it was new, and the lines of all events but those whose lines stood
 abbrev pub text_since : {S : Type 0} → JournalState S → List Event → List ℕ
 text_since j history = j.front ++ lines_of j.first (behind_first j.standing history)
+
+-- The line of an event of this history, before which these happened: its number, and where it stands in what is written of the history. That is behind what is
+-- written of those before it; unless its line was there before the journal was opened.
+pub record HasLine {S : Type 0} (j : JournalState S) (history past : List Event) (e : Event) (line : ℕ) : Type 0 where
+  pub number : line ≡ j.first + (length past - j.standing)
+  pub written : j.standing ≤ length past → (behind : List ℕ) × (text_since j history ≡ text_since j past ++ (line_text (record { number = line; event = e }) ++ behind))
 
 -- what is written of the next event, with this number, where the lines of so many stand
 abbrev pub line_behind : ℕ → ℕ → Event → List ℕ

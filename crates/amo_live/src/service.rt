@@ -4,7 +4,7 @@ ghost use Rattle.amo_core.specs.declared.mode.Mode.TheVariants.{Quiet, Send};
 ghost use Rattle.amo_packet.specs.Packet.{body_of, packet_of};
 ghost use Rattle.amo_packet.specs.Grammar.{Spells, messages_of};
 ghost use Rattle.amo_journal.specs.Version.{newest};
-ghost use Rattle.amo_live.specs.Callers.{MovesNone, MovesWithin};
+ghost use Rattle.amo_live.specs.Callers.{IsSameLife, MovesNone, MovesWithin};
 ghost use Rattle.amo_live.specs.Client.{PutsNamed, has};
 ghost use Rattle.amo_live.specs.Host.{Delivered, Did, IsNoted};
 ghost use Rattle.amo_live.specs.Service.{IsAtRest, got_by, is_in_doubt, lane_of, new_version, nothing_known, settled_by, shown_by, spelling_of, start_of, starts_batches, streams_of, words_of};
@@ -383,6 +383,7 @@ impl<L: Link, S: Sink, W: Lineage> Service<L, S, W> {
     fn begin(&mut self, stream: u32, now: u64) -> Result<(), LiveFault>
         requires { IsNoted S.written self.old.host }
         ensures noted { OnOk result (IsNoted S.written self.new.host) }
+        ensures life { IsSameLife self.old.host.pass self.new.host.pass self.old.host.journal self.new.host.journal }
         ensures moved { OnOk result (MovesNone self.old.host.pass self.new.host.pass) }
         ensures streams { streams_of self.new ≡ streams_of self.old }
         ensures shown { OnOk result (ShowsMore (spelling_of self.old) self.old.host.pass self.new.host.pass (shown_by self.old) (shown_by self.new)) }
@@ -400,6 +401,7 @@ impl<L: Link, S: Sink, W: Lineage> Service<L, S, W> {
     fn catch_up(&mut self, now: u64) -> Result<(), LiveFault>
         requires { IsNoted S.written self.old.host }
         ensures noted { OnOk result (IsNoted S.written self.new.host) }
+        ensures life { IsSameLife self.old.host.pass self.new.host.pass self.old.host.journal self.new.host.journal }
         ensures moved { OnOk result (MovesNone self.old.host.pass self.new.host.pass) }
         ensures streams { streams_of self.new ≡ streams_of self.old }
         ensures shown { OnOk result (ShowsMore (spelling_of self.old) self.old.host.pass self.new.host.pass (shown_by self.old) (shown_by self.new)) }
@@ -422,6 +424,7 @@ impl<L: Link, S: Sink, W: Lineage> Service<L, S, W> {
     fn begin_in_turn(&mut self, now: u64) -> Result<(), LiveFault>
         requires { IsNoted S.written self.old.host }
         ensures noted { OnOk result (IsNoted S.written self.new.host) }
+        ensures life { IsSameLife self.old.host.pass self.new.host.pass self.old.host.journal self.new.host.journal }
         ensures moved { OnOk result (MovesNone self.old.host.pass self.new.host.pass) }
         ensures streams { streams_of self.new ≡ streams_of self.old }
         ensures shown { OnOk result (ShowsMore (spelling_of self.old) self.old.host.pass self.new.host.pass (shown_by self.old) (shown_by self.new)) }
@@ -455,6 +458,7 @@ impl<L: Link, S: Sink, W: Lineage> Service<L, S, W> {
     fn begin_next(&mut self, stream: u32, now: u64) -> Result<(), LiveFault>
         requires { IsNoted S.written self.old.host }
         ensures noted { OnOk result (IsNoted S.written self.new.host) }
+        ensures life { IsSameLife self.old.host.pass self.new.host.pass self.old.host.journal self.new.host.journal }
         ensures moved { OnOk result (MovesNone self.old.host.pass self.new.host.pass) }
         ensures streams { streams_of self.new ≡ streams_of self.old }
         ensures shown { OnOk result (ShowsMore (spelling_of self.old) self.old.host.pass self.new.host.pass (shown_by self.old) (shown_by self.new)) }
@@ -476,6 +480,7 @@ impl<L: Link, S: Sink, W: Lineage> Service<L, S, W> {
     fn start_anew(&mut self, stream: u32, now: u64) -> Result<Option<Mode>, LiveFault>
         requires { IsNoted S.written self.old.host }
         ensures noted { OnOk result (IsNoted S.written self.new.host) }
+        ensures life { IsSameLife self.old.host.pass self.new.host.pass self.old.host.journal self.new.host.journal }
         ensures did { IfOk result (λ mode. (word : ℕ) × Did self.old.host self.new.host stream (start_of self.old.setup.batch self.old.host.journal.version word) mode) }
         ensures words { OnOk result (BearsNew W.is_drawn (words_of self.old) (words_of self.new) self.old.host.pass self.new.host.pass) }
         ensures same { self.new ≡ record self.old { host = self.new.host; words = self.new.words } }
@@ -489,6 +494,7 @@ impl<L: Link, S: Sink, W: Lineage> Service<L, S, W> {
     fn start(&mut self, stream: u32, word: u64, now: u64) -> Result<Option<Mode>, LiveFault>
         requires { IsNoted S.written self.old.host }
         ensures noted { OnOk result (IsNoted S.written self.new.host) }
+        ensures life { IsSameLife self.old.host.pass self.new.host.pass self.old.host.journal self.new.host.journal }
         ensures did { IfOk result (Did self.old.host self.new.host stream (start_of self.old.setup.batch self.old.host.journal.version word)) }
         ensures same { self.new ≡ record self.old { host = self.new.host } }
     {
@@ -519,6 +525,7 @@ impl<L: Link, S: Sink, W: Lineage> Service<L, S, W> {
     fn deliver(&mut self, bytes: &[u8], now: u64, room: usize) -> Result<(), LiveFault>
         requires { IsNoted S.written self.old.host }
         ensures noted { OnOk result (IsNoted S.written self.new.host) }
+        ensures life { IsSameLife self.old.host.pass self.new.host.pass self.old.host.journal self.new.host.journal }
         ensures moved { OnOk result (MovesWithin room self.old.host.pass self.new.host.pass) }
         ensures streams { streams_of self.new ≡ streams_of self.old }
         ensures shown { OnOk result (ShowsMore (spelling_of self.old) self.old.host.pass self.new.host.pass (shown_by self.old) (shown_by self.new)) }
@@ -566,6 +573,7 @@ impl<L: Link, S: Sink, W: Lineage> Service<L, S, W> {
     ) -> Result<(), LiveFault>
         requires { IsNoted S.written self.old.host }
         ensures noted { OnOk result (IsNoted S.written self.new.host) }
+        ensures life { IsSameLife self.old.host.pass self.new.host.pass self.old.host.journal self.new.host.journal }
         ensures moved { OnOk result (MovesWithin room self.old.host.pass self.new.host.pass) }
         ensures streams { streams_of self.new ≡ streams_of self.old }
         ensures shown { OnOk result (ShowsMore (spelling_of self.old) self.old.host.pass self.new.host.pass (shown_by self.old) (shown_by self.new)) }
@@ -595,6 +603,7 @@ impl<L: Link, S: Sink, W: Lineage> Service<L, S, W> {
         requires noted { IsNoted S.written self.old.host }
         requires spelt { Spells (newest self.old.host.journal.version) bytes.now (packet_of packet.now) }
         ensures noted { OnOk result (IsNoted S.written self.new.host) }
+        ensures life { IsSameLife self.old.host.pass self.new.host.pass self.old.host.journal self.new.host.journal }
         ensures delivered { IfOk result (λ did. (word : ℕ) × Delivered self.old.host self.new.host bytes.now word did) }
         ensures words { OnOk result (BearsNew W.is_drawn (words_of self.old) (words_of self.new) self.old.host.pass self.new.host.pass) }
         ensures same { self.new ≡ record self.old { host = self.new.host; words = self.new.words } }
@@ -614,6 +623,7 @@ impl<L: Link, S: Sink, W: Lineage> Service<L, S, W> {
     fn settle(&mut self, end: Settled, now: u64) -> Result<(), LiveFault>
         requires { IsNoted S.written self.old.host }
         ensures noted { OnOk result (IsNoted S.written self.new.host) }
+        ensures life { IsSameLife self.old.host.pass self.new.host.pass self.old.host.journal self.new.host.journal }
         ensures moved { OnOk result (MovesNone self.old.host.pass self.new.host.pass) }
         ensures streams { streams_of self.new ≡ streams_of self.old }
         ensures shown { OnOk result (ShowsMore (spelling_of self.old) self.old.host.pass self.new.host.pass (shown_by self.old) (shown_by self.new)) }

@@ -1,5 +1,5 @@
 //! The start of a host: its journal goes on where it ended, or begins.
-ghost use Rattle.std.specs.Prelude.{◌≡◌, ◌*◌, ◌≤◌, [], true, IfOk};
+ghost use Rattle.std.specs.Prelude.{◌≡◌, ◌*◌, ◌≤◌, [], length, true, IfOk};
 ghost use Rattle.amo_book.specs.Pass.{mine};
 ghost use Rattle.amo_disk.specs.Back.{returned};
 ghost use Rattle.amo_live.specs.Host.{IsNoted, first_events, sides_from};
@@ -34,6 +34,8 @@ pub fn start<L: Link + Drop, S: Durable + Drop, W: Lineage + Drop>(
     ensures journal { IfOk result (λ service. IsSameJournal (opening (new_version setup) place.version place.lines (2 * standing_of place setup.streams) sink) service.host.journal) }
     // The first of these events have lines already, where the last lines are those by which the host before it came back.
     ensures standing { IfOk result (λ service. BeganSo (returned setup.side (standing_of place setup.streams)) (mine service.host.pass)) }
+    // Each event behind these has a line of its own.
+    ensures stood { IfOk result (λ service. service.host.journal.standing ≤ length (mine service.host.pass)) }
     // It has the streams that it was set up for. No word was drawn, and no event of the host bears one.
     ensures streams { IfOk result (λ service. streams_of service ≡ setup.streams) }
     ensures words { IfOk result (λ service. words_of service ≡ words) }

@@ -1,6 +1,6 @@
 //! What callers are told by other means than what is shown: puts, gets, and ends of handshakes.
 ghost use Rattle.std.specs.Prelude.{◌≡◌, ◌≢◌, ◌∷◌, ◌++◌, [], length, IfNone, IfOk, IfSome, OnOk};
-ghost use Rattle.amo_live.specs.Callers.{Gets, GetsNone, PutsAt};
+ghost use Rattle.amo_live.specs.Callers.{Gets, GetsNone, IsSameLife, PutsAt};
 ghost use Rattle.amo_live.specs.Host.{IsNoted, IsWhole};
 ghost use Rattle.amo_live.specs.Service.{CannotGet, CannotPut, HasLooked, PutsNone, gives_message, settled_by, summary_on, streams_of, takes_put, words_of};
 ghost use Rattle.amo_live.specs.Shown.{told_at, told_in};
@@ -143,7 +143,8 @@ impl<L: Link, S: Sink, W: Lineage> Service<L, S, W> {
     ) -> Result<Option<EventAt>, LiveFault>
         requires { IsNoted S.written self.old.host }
         ensures noted { OnOk result (IsNoted S.written self.new.host) }
-        ensures put { IfOk result (PutsAt self.old.host.pass self.new.host.pass stream message) }
+        ensures life { IsSameLife self.old.host.pass self.new.host.pass self.old.host.journal self.new.host.journal }
+        ensures put { IfOk result (PutsAt self.old.host.pass self.new.host.pass self.new.host.journal stream message) }
         ensures none_got { OnOk result (GetsNone self.old.host.pass self.new.host.pass) }
         ensures full { IfOk result (λ put. IfNone put (CannotPut self.old stream × HasLooked self.old self.new)) }
         ensures room { IfOk result (λ put. IfSome put (λ at. ¬ (CannotPut self.old stream))) }
@@ -176,8 +177,9 @@ impl<L: Link, S: Sink, W: Lineage> Service<L, S, W> {
     ) -> Result<Option<(Message, EventAt)>, LiveFault>
         requires { IsNoted S.written self.old.host }
         ensures noted { OnOk result (IsNoted S.written self.new.host) }
+        ensures life { IsSameLife self.old.host.pass self.new.host.pass self.old.host.journal self.new.host.journal }
         ensures none_put { OnOk result (PutsNone self.old.host.pass self.new.host.pass) }
-        ensures got { IfOk result (Gets self.old.host.pass self.new.host.pass stream) }
+        ensures got { IfOk result (Gets self.old.host.pass self.new.host.pass self.new.host.journal stream) }
         ensures none { IfOk result (λ got. IfNone got (CannotGet self.old stream × HasLooked self.old self.new)) }
         ensures some { IfOk result (λ got. IfSome got (λ g. ¬ (CannotGet self.old stream))) }
         ensures line { IfOk result (λ got. IfSome got (λ g. g.1.line ≡ self.old.host.journal.next)) }

@@ -2,7 +2,7 @@
 ghost use Rattle.std.specs.Prelude.{◌≡◌, ◌↔◌, Contains, IsTrue, OnOk};
 ghost use Rattle.amo_host.specs.AtStream.{IsNextDue};
 ghost use Rattle.amo_host.specs.Host as host;
-ghost use Rattle.amo_live.specs.Callers.{GetsNone};
+ghost use Rattle.amo_live.specs.Callers.{GetsNone, IsSameLife};
 ghost use Rattle.amo_live.specs.Due.{HasDue, NoneDue, SendsAgain, SendsDue};
 ghost use Rattle.amo_live.specs.Host.{IsNoted};
 ghost use Rattle.amo_live.specs.Service.{PutsNone, shown_by, spelling_of, streams_of, words_of};
@@ -37,6 +37,7 @@ impl<L: Link, S: Sink, W: Lineage> Service<L, S, W> {
     pub fn resend(&mut self, now: u64) -> Result<(), LiveFault>
         requires { IsNoted S.written self.old.host }
         ensures noted { OnOk result (IsNoted S.written self.new.host) }
+        ensures life { IsSameLife self.old.host.pass self.new.host.pass self.old.host.journal self.new.host.journal }
         ensures none_put { OnOk result (PutsNone self.old.host.pass self.new.host.pass) }
         ensures streams { streams_of self.new ≡ streams_of self.old }
         ensures shown { OnOk result (ShowsMore (spelling_of self.old) self.old.host.pass self.new.host.pass (shown_by self.old) (shown_by self.new)) }
@@ -64,6 +65,7 @@ impl<L: Link, S: Sink, W: Lineage> Service<L, S, W> {
     fn send_again(&mut self, stream: u32, now: u64) -> Result<(), LiveFault>
         requires { IsNoted S.written self.old.host }
         ensures noted { OnOk result (IsNoted S.written self.new.host) }
+        ensures life { IsSameLife self.old.host.pass self.new.host.pass self.old.host.journal self.new.host.journal }
         ensures none_put { OnOk result (PutsNone self.old.host.pass self.new.host.pass) }
         ensures streams { streams_of self.new ≡ streams_of self.old }
         ensures shown { OnOk result (ShowsMore (spelling_of self.old) self.old.host.pass self.new.host.pass (shown_by self.old) (shown_by self.new)) }

@@ -1,6 +1,6 @@
 //! What a receiver gets, and when: a message only where there is room to show it.
 ghost use Rattle.std.specs.Prelude.{◌≡◌, OnOk};
-ghost use Rattle.amo_live.specs.Callers.{MovesWithin};
+ghost use Rattle.amo_live.specs.Callers.{IsSameLife, MovesWithin};
 ghost use Rattle.amo_live.specs.Host.{IsNoted};
 ghost use Rattle.amo_live.specs.Service.{PutsNone, is_rcvd, shown_by, spelling_of, streams_of, words_of};
 ghost use Rattle.amo_live.specs.Shown.{ShowsMore};
@@ -19,6 +19,7 @@ impl<L: Link, S: Sink, W: Lineage> Service<L, S, W> {
     pub(crate) fn get_unread(&mut self, now: u64, room: usize) -> Result<(), LiveFault>
         requires { IsNoted S.written self.old.host }
         ensures noted { OnOk result (IsNoted S.written self.new.host) }
+        ensures life { IsSameLife self.old.host.pass self.new.host.pass self.old.host.journal self.new.host.journal }
         ensures moved { OnOk result (MovesWithin room self.old.host.pass self.new.host.pass) }
         ensures streams { streams_of self.new ≡ streams_of self.old }
         ensures shown { OnOk result (ShowsMore (spelling_of self.old) self.old.host.pass self.new.host.pass (shown_by self.old) (shown_by self.new)) }
@@ -41,6 +42,7 @@ impl<L: Link, S: Sink, W: Lineage> Service<L, S, W> {
     fn get_in_turn(&mut self, now: u64, room: usize) -> Result<(), LiveFault>
         requires { IsNoted S.written self.old.host }
         ensures noted { OnOk result (IsNoted S.written self.new.host) }
+        ensures life { IsSameLife self.old.host.pass self.new.host.pass self.old.host.journal self.new.host.journal }
         ensures moved { OnOk result (MovesWithin room self.old.host.pass self.new.host.pass) }
         ensures streams { streams_of self.new ≡ streams_of self.old }
         ensures shown { OnOk result (ShowsMore (spelling_of self.old) self.old.host.pass self.new.host.pass (shown_by self.old) (shown_by self.new)) }
@@ -61,6 +63,7 @@ impl<L: Link, S: Sink, W: Lineage> Service<L, S, W> {
     fn get_held(&mut self, stream: u32, now: u64, room: usize) -> Result<(), LiveFault>
         requires { IsNoted S.written self.old.host }
         ensures noted { OnOk result (IsNoted S.written self.new.host) }
+        ensures life { IsSameLife self.old.host.pass self.new.host.pass self.old.host.journal self.new.host.journal }
         ensures moved { OnOk result (MovesWithin room self.old.host.pass self.new.host.pass) }
         ensures streams { streams_of self.new ≡ streams_of self.old }
         ensures shown { OnOk result (ShowsMore (spelling_of self.old) self.old.host.pass self.new.host.pass (shown_by self.old) (shown_by self.new)) }
@@ -80,6 +83,7 @@ impl<L: Link, S: Sink, W: Lineage> Service<L, S, W> {
     pub(crate) fn get_all(&mut self, stream: u32, now: u64, room: usize) -> Result<(), LiveFault>
         requires { IsNoted S.written self.old.host }
         ensures noted { OnOk result (IsNoted S.written self.new.host) }
+        ensures life { IsSameLife self.old.host.pass self.new.host.pass self.old.host.journal self.new.host.journal }
         ensures moved { OnOk result (MovesWithin room self.old.host.pass self.new.host.pass) }
         ensures streams { streams_of self.new ≡ streams_of self.old }
         ensures shown { OnOk result (ShowsMore (spelling_of self.old) self.old.host.pass self.new.host.pass (shown_by self.old) (shown_by self.new)) }
@@ -110,6 +114,7 @@ impl<L: Link, S: Sink, W: Lineage> Service<L, S, W> {
     fn get(&mut self, stream: u32) -> Result<bool, LiveFault>
         requires { IsNoted S.written self.old.host }
         ensures noted { OnOk result (IsNoted S.written self.new.host) }
+        ensures life { IsSameLife self.old.host.pass self.new.host.pass self.old.host.journal self.new.host.journal }
         ensures none_put { OnOk result (PutsNone self.old.host.pass self.new.host.pass) }
         ensures streams { streams_of self.new ≡ streams_of self.old }
         ensures shown { OnOk result (ShowsMore (spelling_of self.old) self.old.host.pass self.new.host.pass (shown_by self.old) (shown_by self.new)) }

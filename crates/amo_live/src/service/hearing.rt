@@ -1,6 +1,6 @@
 //! How a live host hears: it listens while it waits, and takes the datagrams that have come.
 ghost use Rattle.std.specs.Prelude.{◌≡◌, ◌≤◌, IfSome, OnOk, Some, false, min};
-ghost use Rattle.amo_live.specs.Callers.{GetsNone, MovesWithin};
+ghost use Rattle.amo_live.specs.Callers.{GetsNone, IsSameLife, MovesWithin};
 ghost use Rattle.amo_live.specs.Host.{IsNoted};
 ghost use Rattle.amo_live.specs.Service.{Listened, PutsNone, has_come, shown_by, spelling_of, streams_of, words_of};
 ghost use Rattle.amo_live.specs.Shown.{ShowsMore};
@@ -28,6 +28,7 @@ impl<L: Link, S: Sink, W: Lineage> Service<L, S, W> {
     ) -> Result<(), LiveFault>
         requires { IsNoted S.written self.old.host }
         ensures noted { OnOk result (IsNoted S.written self.new.host) }
+        ensures life { IsSameLife self.old.host.pass self.new.host.pass self.old.host.journal self.new.host.journal }
         ensures none_put { OnOk result (PutsNone self.old.host.pass self.new.host.pass) }
         ensures none_got { OnOk result (room ≡ 0 → GetsNone self.old.host.pass self.new.host.pass) }
         ensures streams { streams_of self.new ≡ streams_of self.old }
@@ -47,6 +48,7 @@ impl<L: Link, S: Sink, W: Lineage> Service<L, S, W> {
     fn take_datagrams(&mut self, datagrams: u32, now: u64, room: usize) -> Result<(), LiveFault>
         requires { IsNoted S.written self.old.host }
         ensures noted { OnOk result (IsNoted S.written self.new.host) }
+        ensures life { IsSameLife self.old.host.pass self.new.host.pass self.old.host.journal self.new.host.journal }
         ensures moved { OnOk result (MovesWithin room self.old.host.pass self.new.host.pass) }
         ensures streams { streams_of self.new ≡ streams_of self.old }
         ensures shown { OnOk result (ShowsMore (spelling_of self.old) self.old.host.pass self.new.host.pass (shown_by self.old) (shown_by self.new)) }
@@ -77,6 +79,7 @@ impl<L: Link, S: Sink, W: Lineage> Service<L, S, W> {
     ) -> Result<(), LiveFault>
         requires { IsNoted S.written self.old.host }
         ensures noted { OnOk result (IsNoted S.written self.new.host) }
+        ensures life { IsSameLife self.old.host.pass self.new.host.pass self.old.host.journal self.new.host.journal }
         ensures moved { OnOk result (MovesWithin room self.old.host.pass self.new.host.pass) }
         ensures streams { streams_of self.new ≡ streams_of self.old }
         ensures shown { OnOk result (ShowsMore (spelling_of self.old) self.old.host.pass self.new.host.pass (shown_by self.old) (shown_by self.new)) }
@@ -160,6 +163,7 @@ impl<L: Link, S: Sink, W: Lineage> Service<L, S, W> {
     fn hear_peer(&mut self, now: u64)
         requires { IsNoted S.written self.old.host }
         ensures noted { IsNoted S.written self.new.host }
+        ensures life { IsSameLife self.old.host.pass self.new.host.pass self.old.host.journal self.new.host.journal }
         ensures pass { self.new.host.pass ≡ self.old.host.pass }
         ensures streams { streams_of self.new ≡ streams_of self.old }
         ensures shown { (shown_by self.new ≡ shown_by self.old) × (self.new.setup ≡ self.old.setup) }

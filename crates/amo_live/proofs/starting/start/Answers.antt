@@ -6,6 +6,7 @@ use Rattle.amo_journal.specs.declared.version.Version.{Version}
 use Rattle.amo_live.specs.Noted.{IsSameJournal, opening}
 use Rattle.amo_live.specs.Service.{new_version}
 use Rattle.amo_live.specs.Standing.{standing_of}
+use Rattle.amo_live.proofs.Lined.{all_stood}
 use Rattle.amo_live.proofs.Onwards.{same_on}
 use Rattle.amo_live.specs.Words.{words_in}
 use Rattle.amo_live.proofs.Returning.{began_standing, first_back, first_bears_none, none_made}
@@ -62,3 +63,8 @@ returns-clause-journal g c =
 pub returns-clause-unborne : goal.returns-clause-unborne
 returns-clause-unborne g c =
     ap (λ (l : List Event). words_in l) (returns-clause-back g c) ∙ first_bears_none _ (sides_from c.args.setup.side 1 c.args.setup.streams) c.args.place.lines
+
+pub returns-clause-stood : goal.returns-clause-stood
+returns-clause-stood g c =
+    let read = c.args.place in
+    all_stood _ (new_version c.args.setup) read.version read.lines (standing_of read c.args.setup.streams) c.args.sink c.args.setup.side _ (returns-clause-journal g c) (returns-clause-standing g c)

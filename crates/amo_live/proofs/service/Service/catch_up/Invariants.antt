@@ -1,15 +1,16 @@
 use Rattle.std.specs.Prelude.{◌≡◌}
-use Rattle.amo_live.specs.Callers.{MovesNone}
+use Rattle.amo_live.specs.Callers.{IsSameLife, MovesNone}
 use Rattle.amo_live.specs.Host.{IsNoted}
 use Rattle.amo_live.specs.Service.{shown_by, spelling_of, streams_of, words_of}
 use Rattle.amo_live.specs.Shown.{ShowsMore}
 use Rattle.amo_live.specs.Words.{BearsNew}
 use Rattle.amo_live.proofs.service.Service.catch_up.Given as goal
 
--- the journal has all lines so far, no message was put or got, and what has happened is shown
+-- the journal is the same one and has all lines so far, no message was put or got, and what has happened is shown
 abbrev pub invariant-streams : goal.invariant-streams
 invariant-streams g l = record {
   noted : IsNoted g.S.Sink.written l.self.host;
+  life : IsSameLife l.fn.self.host.pass l.self.host.pass l.fn.self.host.journal l.self.host.journal;
   moved : MovesNone l.fn.self.host.pass l.self.host.pass;
   streams : streams_of l.self ≡ streams_of l.fn.self;
   shown : ShowsMore (spelling_of l.fn.self) l.fn.self.host.pass l.self.host.pass (shown_by l.fn.self) (shown_by l.self);

@@ -1,6 +1,7 @@
 use Rattle.std.proofs.Common.{refl}
 use Rattle.amo_live.specs.Service.{words_of}
 use Rattle.amo_live.proofs.Delivering.{needuid_is_new, other_delivered, under_some_word}
+use Rattle.amo_live.proofs.Lined.{stays_alive}
 use Rattle.amo_live.proofs.service.Service.deliver_anew.Goals as goal
 
 pub returns-in_default : goal.returns-in_default
@@ -8,6 +9,7 @@ returns-in_default g c =
     let old = c.args.self.now in let new = c.deliver.new.self in let bytes = c.args.bytes.now in
     record {
       noted = c.deliver.ensures.noted;
+      life = stays_alive old.host new c.deliver.ensures.stays;
       delivered = under_some_word old.host new bytes 0 c.deliver.result c.deliver.ensures.delivered;
       words = other_delivered g.W.Lineage.is_drawn old.host new bytes c.args.packet.now (words_of old) c.deliver.result c.requires.spelt c.in_default.not-NeedUid c.deliver.ensures.delivered;
       same = refl;

@@ -1,6 +1,7 @@
 use Rattle.std.proofs.Common.{◌∙◌, refl, rules}
 use Rattle.amo_live.specs.Service.{shown_by, spelling_of, words_of}
 use Rattle.amo_live.proofs.Fresh.{bears_none, bears_on, resend_bears}
+use Rattle.amo_live.proofs.Lined.{life_itself, life_on}
 use Rattle.amo_live.proofs.Showing.{resend_shows, shows_after, shows_idle, shows_on}
 use Rattle.amo_live.proofs.service.Service.get_all.Goals as goal
 
@@ -15,6 +16,7 @@ messages-preserved g c =
     let so_far = c.messages.invariant in
     record {
       noted = search rules;
+      life = life_on c.args.self.now.host.pass c.messages.self.host.pass c.get.new.self.host.pass c.args.self.now.host.journal c.messages.self.host.journal c.get.new.self.host.journal so_far.life c.get.ensures.life;
       moved = search rules;
       streams = c.get.ensures.streams ∙ so_far.streams;
       shown = shows_after (spelling_of c.args.self.now) (spelling_of c.messages.self) c.args.self.now.host.pass c.messages.self.host.pass c.get.new.self.host.pass
@@ -47,6 +49,7 @@ messages-init g c =
     let old = c.args.self.now in
     record {
       noted = c.requires;
+      life = life_itself old.host.pass old.host.journal;
       moved = (refl, λ none. refl);
       streams = refl;
       shown = shows_idle (spelling_of old) old.host.pass old.host.pass (shown_by old) (shown_by old) refl refl;

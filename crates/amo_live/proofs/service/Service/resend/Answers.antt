@@ -2,6 +2,7 @@ use Rattle.std.proofs.Common.{◌≡◌, ◌+◌, ◌≤◌, ◌∙◌, refl, sy
 use Rattle.std.proofs.lemmas.Bool.{true≢false}
 use Rattle.amo_host.specs.AtStream.{IsDue}
 use Rattle.amo_host.specs.Host as host
+use Rattle.amo_live.specs.Callers.{IsSameLife}
 use Rattle.amo_live.specs.Due.{SendsAgain}
 use Rattle.amo_live.specs.Host.{HostState}
 use Rattle.amo_live.specs.Service.{shown_by, spelling_of, words_of}
@@ -9,6 +10,7 @@ use Rattle.amo_live.specs.Shown.{ShowsMore}
 use Rattle.amo_live.specs.Words.{BearsNew}
 use Rattle.amo_live.proofs.Dues.{SendsUpTo, contains_at, none_due_in, sends_all, sends_next, sends_none, skips_next}
 use Rattle.amo_live.proofs.Fresh.{bears_as, bears_none, bears_on}
+use Rattle.amo_live.proofs.Lined.{life_itself, life_on}
 use Rattle.amo_live.proofs.Showing.{shows_after, shows_as, shows_idle}
 use Rattle.amo_live.proofs.service.Service.resend.Goals as goal
 use Rattle.amo_live.proofs.service.Service.resend.Goals.{then-is_due+in_ok-send_again, else-is_due}
@@ -23,6 +25,7 @@ streams-init g c =
     let old = c.args.self.now in
     record {
       noted = c.requires;
+      life = life_itself old.host.pass old.host.journal;
       none_put = refl;
       none_got = refl;
       streams = refl;
@@ -59,6 +62,16 @@ streams-preserved g c =
           (bears_on (words_of c.args.self.now) had (words_of w.send_again.new.self) first middle w.send_again.new.self.host.pass so_far.words w.in_ok-send_again.ensures.words)
       | else-is_due w ↦ search rules
     ] in
+    let life : IsSameLife first last c.args.self.now.host.journal c.if-is_due.self.host.journal = elim c.if-is_due.branch [
+      | then-is_due+in_ok-send_again w ↦
+          let sent = w.send_again.new.self.host in
+          let same : c.if-is_due.self.host ≡ sent = search rules in
+          subst (λ (x : HostState g.row.L.Denot g.row.S.Denot). IsSameLife first x.pass c.args.self.now.host.journal x.journal) (sym same)
+          (life_on first middle sent.pass c.args.self.now.host.journal c.streams.self.host.journal sent.journal so_far.life w.send_again.ensures.life)
+      | else-is_due w ↦
+          let same : c.if-is_due.self.host ≡ c.streams.self.host = search rules in
+          subst (λ (x : HostState g.row.L.Denot g.row.S.Denot). IsSameLife first x.pass c.args.self.now.host.journal x.journal) (sym same) so_far.life
+    ] in
     let h = c.args.self.now.host in let m = c.streams.self.host in let f = c.if-is_due.self.host in
     let k = c.streams.place in let now = c.args.now in
     let sends : SendsUpTo (k + 1) now h f = elim c.if-is_due.branch [
@@ -74,6 +87,7 @@ streams-preserved g c =
           (skips_next k now h m m c.streams-count.ensures.host (k + 1) refl so_far.sends (λ d. true≢false (sym (c.is_due.ensures.1 d) ∙ w.if-is_due.false)))
     ] in
     record {
+      life = life;
       noted = elim c.if-is_due.branch [ then-is_due+in_ok-send_again w ↦ search rules | else-is_due w ↦ search rules ];
       none_put = elim c.if-is_due.branch [ then-is_due+in_ok-send_again w ↦ search rules | else-is_due w ↦ search rules ];
       none_got = elim c.if-is_due.branch [ then-is_due+in_ok-send_again w ↦ search rules | else-is_due w ↦ search rules ];

@@ -1,5 +1,5 @@
 use Rattle.std.specs.Prelude.{◌≡◌}
-use Rattle.amo_live.specs.Callers.{GetsNone}
+use Rattle.amo_live.specs.Callers.{GetsNone, IsSameLife}
 use Rattle.amo_live.specs.Host.{IsNoted}
 use Rattle.amo_live.specs.Service.{PutsNone, shown_by, spelling_of, streams_of, words_of}
 use Rattle.amo_live.specs.Shown.{ShowsMore}
@@ -7,10 +7,11 @@ use Rattle.amo_live.specs.Words.{BearsNew}
 use Rattle.amo_live.proofs.Dues.{SendsUpTo}
 use Rattle.amo_live.proofs.service.Service.resend.Given as goal
 
--- the journal has all lines so far, no message was put or got, and what has happened is shown; of the streams so far, each that was due was sent again
+-- the journal is the same one and has all lines so far, no message was put or got, and what has happened is shown; of the streams so far, each that was due was sent again
 abbrev pub invariant-streams : goal.invariant-streams
 invariant-streams g l = record {
   noted : IsNoted g.S.Sink.written l.self.host;
+  life : IsSameLife l.fn.self.host.pass l.self.host.pass l.fn.self.host.journal l.self.host.journal;
   none_put : PutsNone l.fn.self.host.pass l.self.host.pass;
   none_got : GetsNone l.fn.self.host.pass l.self.host.pass;
   streams : streams_of l.self ≡ streams_of l.fn.self;

@@ -3,6 +3,7 @@ use Rattle.amo_live.specs.Host.{HostState}
 use Rattle.amo_live.specs.Service.{shown_by, spelling_of, words_of}
 use Rattle.amo_live.specs.declared.service.Setup.{Setup}
 use Rattle.amo_live.proofs.Fresh.{bears_as, bears_on}
+use Rattle.amo_live.proofs.Lined.{life_as, life_on}
 use Rattle.amo_live.proofs.Showing.{shows_as, shows_on}
 use Rattle.amo_live.proofs.service.Service.take_by.Goals as goal
 
@@ -22,6 +23,9 @@ datagrams-preserved g c =
     let spelt : spelling_of asked ≡ spelling = ap (λ (setup : Setup). setup.spelling) listened.3 ∙ so_far.spelling in
     record {
       noted = search rules;
+      life = let j = c.datagrams.self.host.journal in let k = c.deliver.new.self.host.journal in
+          let journal : asked.host.journal ≡ j = ap (λ (host : HostState g.row.L.Denot g.row.S.Denot). host.journal) listened.0 in
+          life_on first middle last c.args.self.now.host.journal j k so_far.life (life_as asked.host.pass last middle last asked.host.journal k j k (sym pass) refl (sym journal) refl c.deliver.ensures.life);
       moved = search rules;
       streams = search rules;
       shown = shows_on spelling first middle last old before new so_far.shown
