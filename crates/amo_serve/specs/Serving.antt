@@ -1,16 +1,18 @@
 -- What a host does for those who ask at its door.
-use Rattle.std.specs.Prelude.{◌≡◌, ℕ, Some, None, List, [], ◌∷◌, ◌++◌}
+use Rattle.std.specs.Prelude.{◌≡◌, ℕ, ◌⊎◌, Some, None, List, [], ◌∷◌, ◌++◌}
 use Rattle.std.specs.List.{AllByRecursion}
 use Rattle.amo_object.specs.declared.step.End.TheVariants.{Receiver, Sender}
 use Rattle.amo_core.specs.declared.act.Act.TheVariants as act
 use Rattle.amo_core.specs.declared.reply.Reply.TheVariants as event_reply
 use Rattle.amo_world.specs.History.{Extends}
 use Rattle.amo_book.specs.Pass.{PassState, mine}
-use Rattle.amo_live.specs.Callers.{HappensAt, MovesNone, gets_in}
+use Rattle.amo_live.specs.Callers.{HappensAt, IsSameLife, MovesNone, gets_in}
 use Rattle.amo_live.specs.Host.{puts_in}
+use Rattle.amo_live.specs.Noted.{JournalState}
 use Rattle.amo_door.specs.declared.answer.Answer.{Answer as DoorAnswer}
 use Rattle.amo_door.specs.declared.answer.Extra.TheVariants.{Message}
 use Rattle.amo_door.specs.declared.answer.Kind.TheVariants.{Bytes}
+use Rattle.amo_door.specs.declared.answer.When.{When}
 use Rattle.amo_door.specs.declared.answer.When.TheVariants.{Now, Before}
 use Rattle.amo_door.specs.declared.claim.Claim.{Claim}
 use Rattle.amo_door.specs.declared.claim.Made.{Made}
@@ -51,34 +53,50 @@ abbrev pub got_by_turns : List Turn → List (ℕ × List ℕ)
 got_by_turns [] = []
 got_by_turns (turn ∷ past) = got_by_turn turn ++ got_by_turns past
 
--- what a turn made, if it made something, happened between two moments of a host's pass: a put or a get of that message, which stands at the position that is told
-abbrev pub Happened : PassState → PassState → Turn → Type 0
-Happened v w (Claimed claim (Some brought) (Fresh made)) = HappensAt v w Sender claim.stream (act.Put made.message) event_reply.Ok made.place.position
-Happened v w (Claimed claim None (Fresh made)) = HappensAt v w Receiver claim.stream act.Get (event_reply.Got made.message) made.place.position
-Happened v w (Unclaimed stream made) = HappensAt v w Sender stream (act.Put made.message) event_reply.Ok made.place.position
-Happened v w _ = Unit {0}
+-- What a turn made, if it made something, happened between two moments of a host's pass: a put or a get of that message, which stands at the position that is told, and in
+-- the line of the journal that is told.
+abbrev pub Happened : {S : Type 0} → PassState → PassState → JournalState S → Turn → Type 0
+Happened v w j (Claimed claim (Some brought) (Fresh made)) = HappensAt v w j Sender claim.stream (act.Put made.message) event_reply.Ok made.place.position made.place.line
+Happened v w j (Claimed claim None (Fresh made)) = HappensAt v w j Receiver claim.stream act.Get (event_reply.Got made.message) made.place.position made.place.line
+Happened v w j (Unclaimed stream made) = HappensAt v w j Sender stream (act.Put made.message) event_reply.Ok made.place.position made.place.line
+Happened v w j _ = Unit {0}
 
--- no message was put or got, and what was seen goes on
-abbrev pub IsStill : PassState → PassState → Type 0
-IsStill v w = MovesNone v w × Extends w.seen v.seen
+-- no message was put or got, and what was seen goes on, in the same life
+abbrev pub IsStill : {S : Type 0} → PassState → PassState → JournalState S → JournalState S → Type 0
+IsStill v w j k = MovesNone v w × Extends w.seen v.seen × IsSameLife v w j k
 
 -- This turn came to what is kept of a life, and what the host put and got meanwhile is what the turn put and got, where it says.
-pub record IsTurn (s t : Table) (v w : PassState) (turn : Turn) : Type 0 where
+pub record IsTurn {S : Type 0} (s t : Table) (v w : PassState) (j k : JournalState S) (turn : Turn) : Type 0 where
   pub keeps : (past : List Turn) → Keeps past s → Keeps (turn ∷ past) t
   pub puts : puts_in (mine w) ≡ put_by_turn turn ++ puts_in (mine v)
   pub gets : gets_in (mine w) ≡ got_by_turn turn ++ gets_in (mine v)
   pub extends : Extends w.seen v.seen
-  pub happened : Happened v w turn
+  pub goes_on : IsSameLife v w j k
+  pub happened : Happened v w k turn
 
 -- Between two moments these turns came to what is kept of a life, each right behind those before it, and the messages that the host put, and those that it
 -- got, are those that the turns put and got, in their order, and where they say.
-pub record Serves (s t : Table) (v w : PassState) : Type 0 where
+pub record Serves {S : Type 0} (s t : Table) (v w : PassState) (j k : JournalState S) : Type 0 where
   pub turns : List Turn
   pub keeps : (past : List Turn) → Keeps past s → Keeps (turns ++ past) t
   pub puts : puts_in (mine w) ≡ put_by_turns turns ++ puts_in (mine v)
   pub gets : gets_in (mine w) ≡ got_by_turns turns ++ gets_in (mine v)
   pub extends : Extends w.seen v.seen
-  pub happened : AllByRecursion (Happened v w) turns
+  pub goes_on : IsSameLife v w j k
+  pub happened : AllByRecursion (Happened v w k) turns
+
+-- what was made on a stream happened since that moment, where it says: a put of its message, or a get
+abbrev pub WasMade : {S : Type 0} → PassState → PassState → JournalState S → ℕ → Made → Type 0
+WasMade u w k stream made =
+    HappensAt u w k Sender stream (act.Put made.message) event_reply.Ok made.place.position made.place.line
+    ⊎ HappensAt u w k Receiver stream act.Get (event_reply.Got made.message) made.place.position made.place.line
+
+-- since that moment, at which nothing was made for callers, a host served them, and what is kept came of that
+pub record HasServed {S : Type 0} (u v : PassState) (j : JournalState S) (s : Table) : Type 0 where
+  pub first : Table
+  pub opened : JournalState S
+  pub none : Keeps [] first
+  pub serves : Serves first s u v opened j
 
 -- what the turn of a claim to put was answered is spelt so: what was made, with 201 now and 200 before; or why nothing was
 abbrev pub SpellsPut : List ℕ → ℕ → Answer → DoorAnswer → Type 0
@@ -104,28 +122,37 @@ SpellsTaken stream Gone answer = answer.status ≡ status_of OtherLife
 SpellsTaken stream NotNow answer = answer.status ≡ 204
 
 -- A claim to put this message was answered so: its turn came to what is kept and to the host, and its answer spells what the turn was answered.
-pub record AnswersPut (s t : Table) (v w : PassState) (claim : Claim) (message : List ℕ) (answer : DoorAnswer) : Type 0 where
+pub record AnswersPut {S : Type 0} (s t : Table) (v w : PassState) (j k : JournalState S) (claim : Claim) (message : List ℕ) (answer : DoorAnswer) : Type 0 where
   pub told : Answer
-  pub turn : IsTurn s t v w (Claimed claim (Some message) told)
+  pub turn : IsTurn s t v w j k (Claimed claim (Some message) told)
   pub spelt : SpellsPut s.life claim.stream told answer
 
 -- A claim to take was answered so: the same.
-pub record AnswersTake (s t : Table) (v w : PassState) (claim : Claim) (answer : DoorAnswer) : Type 0 where
+pub record AnswersTake {S : Type 0} (s t : Table) (v w : PassState) (j k : JournalState S) (claim : Claim) (answer : DoorAnswer) : Type 0 where
   pub told : Answer
-  pub turn : IsTurn s t v w (Claimed claim None told)
+  pub turn : IsTurn s t v w j k (Claimed claim None told)
   pub spelt : SpellsTaken claim.stream told answer
 
 -- A message was put without a number, and answered with 201 and where it stands; or it was not, as there was no room for it.
-pub data AnswersUnclaimed (s t : Table) (v w : PassState) (stream : ℕ) (message : List ℕ) (answer : DoorAnswer) : Type 0 where
-  IsPut : (made : Made) → IsTurn s t v w (Unclaimed stream made) → made.message ≡ message → answer.status ≡ status_of_put Now → answer.body.items ≡ put_body s.life stream made → AnswersUnclaimed s t v w stream message answer
-  IsFull : t ≡ s → IsStill v w → answer.status ≡ status_of Full → AnswersUnclaimed s t v w stream message answer
+pub data AnswersUnclaimed {S : Type 0} (s t : Table) (v w : PassState) (j k : JournalState S) (stream : ℕ) (message : List ℕ) (answer : DoorAnswer) : Type 0 where
+  IsPut : (made : Made) → IsTurn s t v w j k (Unclaimed stream made) → made.message ≡ message → answer.status ≡ status_of_put Now → answer.body.items ≡ put_body s.life stream made → AnswersUnclaimed s t v w j k stream message answer
+  IsFull : t ≡ s → IsStill v w j k → answer.status ≡ status_of Full → AnswersUnclaimed s t v w j k stream message answer
 
 -- What came of a claim to take: it was answered, or it waits, and nothing was got or kept.
-abbrev pub Takes : Table → Table → PassState → PassState → Claim → Taken → Type 0
-Takes s t v w claim (taken.Answer answer) = AnswersTake s t v w claim answer
-Takes s t v w claim (taken.NotYet back) = (back ≡ claim) × (t ≡ s) × IsStill v w
+abbrev pub Takes : {S : Type 0} → Table → Table → PassState → PassState → JournalState S → JournalState S → Claim → Taken → Type 0
+Takes s t v w j k claim (taken.Answer answer) = AnswersTake s t v w j k claim answer
+Takes s t v w j k claim (taken.NotYet back) = (back ≡ claim) × (t ≡ s) × IsStill v w j k
 
 -- it waits
 abbrev pub IsNotYet : Taken → Type 0
 IsNotYet (taken.Answer answer) = ⊥
 IsNotYet (taken.NotYet back) = Unit {0}
+
+-- an answer to a claim to put that says what was put, now or before, says it of what was made for that since the host began to serve: so its event stands where it says
+abbrev pub TellsPut : {S : Type 0} → PassState → PassState → JournalState S → List ℕ → ℕ → DoorAnswer → Type 0
+TellsPut u w k life stream answer = (when : When) → answer.status ≡ status_of_put when → (made : Made) × (answer.body.items ≡ put_body life stream made) × WasMade u w k stream made
+
+-- so does an answer to a claim to take that says what was taken
+abbrev pub TellsTake : {S : Type 0} → PassState → PassState → JournalState S → ℕ → Taken → Type 0
+TellsTake u w k stream (taken.Answer answer) = answer.status ≡ 200 → (made : Made) × CarriesMade stream made answer × WasMade u w k stream made
+TellsTake u w k stream (taken.NotYet back) = Unit {0}

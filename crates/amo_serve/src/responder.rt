@@ -148,7 +148,7 @@ impl<L: Link, S: Sink, W: Lineage> Responder<L, S, W> {
     pub fn respond(&mut self, call: Call, message: Message, now: u64) -> Result<Reply, LiveFault>
         requires { IsNoted S.written self.old.service.host }
         ensures noted { OnOk result (IsNoted S.written self.new.service.host) }
-        ensures serves { OnOk result (Serves self.old.numbers self.new.numbers self.old.service.host.pass self.new.service.host.pass) }
+        ensures serves { OnOk result (Serves self.old.numbers self.new.numbers self.old.service.host.pass self.new.service.host.pass self.old.service.host.journal self.new.service.host.journal) }
         ensures words { OnOk result (BearsNew W.is_drawn (words_of self.old.service) (words_of self.new.service) self.old.service.host.pass self.new.service.host.pass) }
         // A question is answered by the host as it is, or waits, or goes to the journal.
         ensures told { IfOk result (TellsCall self.old call) }

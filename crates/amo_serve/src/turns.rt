@@ -1,5 +1,6 @@
 //! The turns of a host with a door.
 ghost use Rattle.std.specs.Prelude.{◌≡◌, OnOk, true};
+ghost use Rattle.amo_live.specs.Callers.{IsSameLife};
 ghost use Rattle.amo_live.specs.Host.{IsNoted};
 ghost use Rattle.amo_live.specs.Service.{words_of};
 ghost use Rattle.amo_live.specs.Words.{BearsNew};
@@ -39,7 +40,7 @@ pub fn serve_door<C: Clock + Eprint + Files<File = File>, L: Link, S: Durable, W
     requires { IsNoted S.written responder.old.service.host }
     ensures noted { OnOk result (IsNoted S.written responder.new.service.host) }
     // Each message that was put or got was put or got by a turn of a caller, once and with its bytes; and each turn is right behind those before it.
-    ensures serves { OnOk result (Serves responder.old.numbers responder.new.numbers responder.old.service.host.pass responder.new.service.host.pass) }
+    ensures serves { OnOk result (Serves responder.old.numbers responder.new.numbers responder.old.service.host.pass responder.new.service.host.pass responder.old.service.host.journal responder.new.service.host.journal) }
     // Each word that an event bears was drawn meanwhile, and none is borne twice.
     ensures words { OnOk result (BearsNew W.is_drawn (words_of responder.old.service) (words_of responder.new.service) responder.old.service.host.pass responder.new.service.host.pass) }
 {
@@ -92,7 +93,7 @@ fn turn_or_tell<C: Files<File = File>, L: Link, S: Durable, W: Lineage>(
 ) -> Result<(), DoorFault>
     requires { IsNoted S.written responder.old.service.host }
     ensures noted { OnOk result (IsNoted S.written responder.new.service.host) }
-    ensures serves { OnOk result (Serves responder.old.numbers responder.new.numbers responder.old.service.host.pass responder.new.service.host.pass) }
+    ensures serves { OnOk result (Serves responder.old.numbers responder.new.numbers responder.old.service.host.pass responder.new.service.host.pass responder.old.service.host.journal responder.new.service.host.journal) }
     ensures words { OnOk result (BearsNew W.is_drawn (words_of responder.old.service) (words_of responder.new.service) responder.old.service.host.pass responder.new.service.host.pass) }
 {
     match turn(rt, responder, door, archive, sync, now) {
@@ -115,7 +116,7 @@ fn turn<C: Files<File = File>, L: Link, S: Durable, W: Lineage>(
 ) -> Result<(), DoorFault>
     requires { IsNoted S.written responder.old.service.host }
     ensures noted { OnOk result (IsNoted S.written responder.new.service.host) }
-    ensures serves { OnOk result (Serves responder.old.numbers responder.new.numbers responder.old.service.host.pass responder.new.service.host.pass) }
+    ensures serves { OnOk result (Serves responder.old.numbers responder.new.numbers responder.old.service.host.pass responder.new.service.host.pass responder.old.service.host.journal responder.new.service.host.journal) }
     ensures words { OnOk result (BearsNew W.is_drawn (words_of responder.old.service) (words_of responder.new.service) responder.old.service.host.pass responder.new.service.host.pass) }
 {
     let datagrams = door.datagrams(responder.service.has_come());
@@ -141,6 +142,7 @@ fn let_go<C: Files<File = File>, L: Link, S: Durable, W: Lineage>(
     requires on_disk { sync ≡ true → S.on_disk responder.old.service.host.journal.sink ≡ S.written responder.old.service.host.journal.sink }
     ensures noted { OnOk result (IsNoted S.written responder.new.service.host) }
     ensures pass { responder.new.service.host.pass ≡ responder.old.service.host.pass }
+    ensures journal { responder.new.service.host.journal ≡ responder.old.service.host.journal }
     ensures numbers { responder.new.numbers ≡ responder.old.numbers }
     ensures words { words_of responder.new.service ≡ words_of responder.old.service }
 {
@@ -236,7 +238,7 @@ impl<L: Link, S: Durable, W: Lineage> Responder<L, S, W> {
     fn hear(&mut self, datagrams: u32, now: u64) -> Result<(), LiveFault>
         requires { IsNoted S.written self.old.service.host }
         ensures noted { OnOk result (IsNoted S.written self.new.service.host) }
-        ensures serves { OnOk result (Serves self.old.numbers self.new.numbers self.old.service.host.pass self.new.service.host.pass) }
+        ensures serves { OnOk result (Serves self.old.numbers self.new.numbers self.old.service.host.pass self.new.service.host.pass self.old.service.host.journal self.new.service.host.journal) }
         ensures words { OnOk result (BearsNew W.is_drawn (words_of self.old.service) (words_of self.new.service) self.old.service.host.pass self.new.service.host.pass) }
     {
         self.service.hear(now, NO_ROOM, datagrams, self.ends)?;
@@ -293,6 +295,7 @@ impl<L: Link, S: Durable, W: Lineage> Responder<L, S, W> {
         ensures flushed { OnOk result (S.flushed self.new.service.host.journal.sink ≡ S.written self.new.service.host.journal.sink) }
         ensures on_disk { OnOk result (sync ≡ true → S.on_disk self.new.service.host.journal.sink ≡ S.written self.new.service.host.journal.sink) }
         ensures pass { OnOk result (self.new.service.host.pass ≡ self.old.service.host.pass) }
+        ensures life { IsSameLife self.old.service.host.pass self.new.service.host.pass self.old.service.host.journal self.new.service.host.journal }
         ensures numbers { self.new.numbers ≡ self.old.numbers }
         ensures words { words_of self.new.service ≡ words_of self.old.service }
     {

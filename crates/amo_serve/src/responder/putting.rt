@@ -1,6 +1,7 @@
 //! Puts for callers, each once.
 ghost use Rattle.std.specs.Prelude.{◌≡◌, ◌+◌, ◌<◌, ◌^◌, IfNone, IfOk, IfSome, IsSome, OnOk, Some};
-ghost use Rattle.amo_live.specs.Callers.{GetsNone, PutsAt};
+ghost use Rattle.amo_book.specs.Pass.{PassState};
+ghost use Rattle.amo_live.specs.Callers.{GetsNone, IsSameLife, PutsAt};
 ghost use Rattle.amo_live.specs.Host.{IsNoted};
 ghost use Rattle.amo_live.specs.Service.{HasLooked, words_of};
 ghost use Rattle.amo_live.specs.Words.{BearsNew};
@@ -9,7 +10,7 @@ ghost use Rattle.amo_door.specs.declared.refusal.Refusal.TheVariants.{Conflict, 
 ghost use Rattle.amo_door.specs.Answer.{put_body, status_of_put};
 ghost use Rattle.amo_door.specs.Numbers.{HasStream, decision, last_of, number_of};
 ghost use Rattle.amo_door.specs.Refusal.{status_of};
-ghost use Rattle.amo_serve.specs.Serving.{AnswersPut, AnswersUnclaimed, Serves};
+ghost use Rattle.amo_serve.specs.Serving.{AnswersPut, AnswersUnclaimed, HasServed, Serves, TellsPut};
 ghost use Rattle.amo_serve.specs.States.{Refuses};
 
 use crate::responder::{Reply, Responder};
@@ -30,7 +31,7 @@ impl<L: Link, S: Sink, W: Lineage> Responder<L, S, W> {
     ) -> Result<Reply, LiveFault>
         requires { IsNoted S.written self.old.service.host }
         ensures noted { OnOk result (IsNoted S.written self.new.service.host) }
-        ensures serves { OnOk result (Serves self.old.numbers self.new.numbers self.old.service.host.pass self.new.service.host.pass) }
+        ensures serves { OnOk result (Serves self.old.numbers self.new.numbers self.old.service.host.pass self.new.service.host.pass self.old.service.host.journal self.new.service.host.journal) }
         ensures words { OnOk result (BearsNew W.is_drawn (words_of self.old.service) (words_of self.new.service) self.old.service.host.pass self.new.service.host.pass) }
     {
         if !self.has_stream(claim.stream) {
@@ -49,7 +50,7 @@ impl<L: Link, S: Sink, W: Lineage> Responder<L, S, W> {
     ) -> Result<Reply, LiveFault>
         requires { IsNoted S.written self.old.service.host }
         ensures noted { OnOk result (IsNoted S.written self.new.service.host) }
-        ensures serves { OnOk result (Serves self.old.numbers self.new.numbers self.old.service.host.pass self.new.service.host.pass) }
+        ensures serves { OnOk result (Serves self.old.numbers self.new.numbers self.old.service.host.pass self.new.service.host.pass self.old.service.host.journal self.new.service.host.journal) }
         ensures words { OnOk result (BearsNew W.is_drawn (words_of self.old.service) (words_of self.new.service) self.old.service.host.pass self.new.service.host.pass) }
     {
         if !self.has_stream(stream) {
@@ -67,7 +68,22 @@ impl<L: Link, S: Sink, W: Lineage> Responder<L, S, W> {
         requires noted { IsNoted S.written self.old.service.host }
         requires stream { HasStream self.old.numbers claim.stream }
         ensures noted { OnOk result (IsNoted S.written self.new.service.host) }
-        ensures answered { IfOk result (AnswersPut self.old.numbers self.new.numbers self.old.service.host.pass self.new.service.host.pass claim message) }
+        ensures answered { IfOk result (AnswersPut self.old.numbers self.new.numbers self.old.service.host.pass self.new.service.host.pass self.old.service.host.journal self.new.service.host.journal claim message) }
+        ensures full { IfOk result (λ answer. answer.status ≡ status_of Full → Refuses self.old claim.stream) }
+        ensures words { OnOk result (BearsNew W.is_drawn (words_of self.old.service) (words_of self.new.service) self.old.service.host.pass self.new.service.host.pass) }
+        // Now or again, it is told where the event stands that was made for it.
+        ensures told { (u : PassState) → HasServed u self.old.service.host.pass self.old.service.host.journal self.old.numbers
+            → IfOk result (TellsPut u self.new.service.host.pass self.new.service.host.journal self.old.numbers.life claim.stream) }
+    {
+        self.put_once(claim, message, now)
+    }
+
+    /// The same: what is answered came of one turn.
+    fn put_once(&mut self, claim: Claim, message: Message, now: u64) -> Result<Answer, LiveFault>
+        requires noted { IsNoted S.written self.old.service.host }
+        requires stream { HasStream self.old.numbers claim.stream }
+        ensures noted { OnOk result (IsNoted S.written self.new.service.host) }
+        ensures answered { IfOk result (AnswersPut self.old.numbers self.new.numbers self.old.service.host.pass self.new.service.host.pass self.old.service.host.journal self.new.service.host.journal claim message) }
         ensures full { IfOk result (λ answer. answer.status ≡ status_of Full → Refuses self.old claim.stream) }
         ensures words { OnOk result (BearsNew W.is_drawn (words_of self.old.service) (words_of self.new.service) self.old.service.host.pass self.new.service.host.pass) }
     {
@@ -86,7 +102,7 @@ impl<L: Link, S: Sink, W: Lineage> Responder<L, S, W> {
         requires stream { HasStream self.old.numbers claim.stream }
         requires next { decision self.old.numbers.life (last_of self.old.numbers claim.stream) claim (Some message) ≡ AnyDecision.Next }
         ensures noted { OnOk result (IsNoted S.written self.new.service.host) }
-        ensures answered { IfOk result (AnswersPut self.old.numbers self.new.numbers self.old.service.host.pass self.new.service.host.pass claim message) }
+        ensures answered { IfOk result (AnswersPut self.old.numbers self.new.numbers self.old.service.host.pass self.new.service.host.pass self.old.service.host.journal self.new.service.host.journal claim message) }
         ensures full { IfOk result (λ answer. answer.status ≡ status_of Full → Refuses self.old claim.stream) }
         ensures words { OnOk result (BearsNew W.is_drawn (words_of self.old.service) (words_of self.new.service) self.old.service.host.pass self.new.service.host.pass) }
     {
@@ -111,7 +127,7 @@ impl<L: Link, S: Sink, W: Lineage> Responder<L, S, W> {
         requires stream { HasStream self.old.numbers stream }
         requires next { number_of (last_of self.old.numbers stream) + 1 < 2 ^ 64 }
         ensures noted { OnOk result (IsNoted S.written self.new.service.host) }
-        ensures answered { IfOk result (AnswersUnclaimed self.old.numbers self.new.numbers self.old.service.host.pass self.new.service.host.pass stream message) }
+        ensures answered { IfOk result (AnswersUnclaimed self.old.numbers self.new.numbers self.old.service.host.pass self.new.service.host.pass self.old.service.host.journal self.new.service.host.journal stream message) }
         ensures full { IfOk result (λ answer. answer.status ≡ status_of Full → Refuses self.old stream) }
         ensures words { OnOk result (BearsNew W.is_drawn (words_of self.old.service) (words_of self.new.service) self.old.service.host.pass self.new.service.host.pass) }
     {
@@ -133,7 +149,8 @@ impl<L: Link, S: Sink, W: Lineage> Responder<L, S, W> {
     ) -> Result<Option<EventAt>, LiveFault>
         requires { IsNoted S.written self.old.service.host }
         ensures noted { OnOk result (IsNoted S.written self.new.service.host) }
-        ensures put { IfOk result (PutsAt self.old.service.host.pass self.new.service.host.pass stream message) }
+        ensures life { IsSameLife self.old.service.host.pass self.new.service.host.pass self.old.service.host.journal self.new.service.host.journal }
+        ensures put { IfOk result (PutsAt self.old.service.host.pass self.new.service.host.pass self.new.service.host.journal stream message) }
         ensures full { IfOk result (λ put. IfNone put (Refuses self.old stream)) }
         ensures none_got { OnOk result (GetsNone self.old.service.host.pass self.new.service.host.pass) }
         ensures words { OnOk result (BearsNew W.is_drawn (words_of self.old.service) (words_of self.new.service) self.old.service.host.pass self.new.service.host.pass) }

@@ -1,5 +1,6 @@
 //! Takes for callers, each once.
 ghost use Rattle.std.specs.Prelude.{◌≡◌, IfOk, IfSome, IsSome, None, OnOk, true};
+ghost use Rattle.amo_book.specs.Pass.{PassState};
 ghost use Rattle.amo_live.specs.Host.{IsNoted};
 ghost use Rattle.amo_live.specs.Service.{CannotGet, HasLooked, words_of};
 ghost use Rattle.amo_live.specs.Words.{BearsNew};
@@ -7,7 +8,7 @@ ghost use Rattle.amo_door.specs.declared.claim.Decision.TheVariants as AnyDecisi
 ghost use Rattle.amo_door.specs.declared.refusal.Refusal.TheVariants.{Conflict};
 ghost use Rattle.amo_door.specs.Numbers.{HasStream, decision, last_of};
 ghost use Rattle.amo_door.specs.Refusal.{status_of};
-ghost use Rattle.amo_serve.specs.Serving.{CarriesMade, IsAtOnce, IsNotYet, Serves, Takes};
+ghost use Rattle.amo_serve.specs.Serving.{CarriesMade, HasServed, IsAtOnce, IsNotYet, Serves, Takes, TellsTake};
 
 use crate::responder::putting::place_of;
 use crate::responder::{Reply, Responder};
@@ -36,7 +37,7 @@ impl<L: Link, S: Sink, W: Lineage> Responder<L, S, W> {
     ) -> Result<Reply, LiveFault>
         requires { IsNoted S.written self.old.service.host }
         ensures noted { OnOk result (IsNoted S.written self.new.service.host) }
-        ensures serves { OnOk result (Serves self.old.numbers self.new.numbers self.old.service.host.pass self.new.service.host.pass) }
+        ensures serves { OnOk result (Serves self.old.numbers self.new.numbers self.old.service.host.pass self.new.service.host.pass self.old.service.host.journal self.new.service.host.journal) }
         ensures words { OnOk result (BearsNew W.is_drawn (words_of self.old.service) (words_of self.new.service) self.old.service.host.pass self.new.service.host.pass) }
         ensures ends { self.new.ends ≡ true → IfOk result IsAtOnce }
     {
@@ -58,7 +59,22 @@ impl<L: Link, S: Sink, W: Lineage> Responder<L, S, W> {
         requires noted { IsNoted S.written self.old.service.host }
         requires stream { HasStream self.old.numbers claim.stream }
         ensures noted { OnOk result (IsNoted S.written self.new.service.host) }
-        ensures taken { IfOk result (Takes self.old.numbers self.new.numbers self.old.service.host.pass self.new.service.host.pass claim) }
+        ensures taken { IfOk result (Takes self.old.numbers self.new.numbers self.old.service.host.pass self.new.service.host.pass self.old.service.host.journal self.new.service.host.journal claim) }
+        ensures none { IfOk result (λ taken. IsNotYet taken → CannotGet self.old.service claim.stream) }
+        ensures words { OnOk result (BearsNew W.is_drawn (words_of self.old.service) (words_of self.new.service) self.old.service.host.pass self.new.service.host.pass) }
+        // Now or again, it is told where the event stands that was made for it.
+        ensures told { (u : PassState) → HasServed u self.old.service.host.pass self.old.service.host.journal self.old.numbers
+            → IfOk result (TellsTake u self.new.service.host.pass self.new.service.host.journal claim.stream) }
+    {
+        self.take_once(claim, now)
+    }
+
+    /// The same: what is answered came of one turn.
+    fn take_once(&mut self, claim: Claim, now: u64) -> Result<Taken, LiveFault>
+        requires noted { IsNoted S.written self.old.service.host }
+        requires stream { HasStream self.old.numbers claim.stream }
+        ensures noted { OnOk result (IsNoted S.written self.new.service.host) }
+        ensures taken { IfOk result (Takes self.old.numbers self.new.numbers self.old.service.host.pass self.new.service.host.pass self.old.service.host.journal self.new.service.host.journal claim) }
         ensures none { IfOk result (λ taken. IsNotYet taken → CannotGet self.old.service claim.stream) }
         ensures words { OnOk result (BearsNew W.is_drawn (words_of self.old.service) (words_of self.new.service) self.old.service.host.pass self.new.service.host.pass) }
     {
@@ -83,7 +99,7 @@ impl<L: Link, S: Sink, W: Lineage> Responder<L, S, W> {
         requires stream { HasStream self.old.numbers claim.stream }
         requires next { decision self.old.numbers.life (last_of self.old.numbers claim.stream) claim None ≡ AnyDecision.Next }
         ensures noted { OnOk result (IsNoted S.written self.new.service.host) }
-        ensures taken { IfOk result (Takes self.old.numbers self.new.numbers self.old.service.host.pass self.new.service.host.pass claim) }
+        ensures taken { IfOk result (Takes self.old.numbers self.new.numbers self.old.service.host.pass self.new.service.host.pass self.old.service.host.journal self.new.service.host.journal claim) }
         ensures none { IfOk result (λ taken. IsNotYet taken → CannotGet self.old.service claim.stream) }
         ensures words { OnOk result (BearsNew W.is_drawn (words_of self.old.service) (words_of self.new.service) self.old.service.host.pass self.new.service.host.pass) }
     {

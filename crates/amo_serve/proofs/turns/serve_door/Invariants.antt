@@ -8,6 +8,6 @@ use Rattle.amo_serve.proofs.turns.serve_door.Given as goal
 abbrev pub invariant-turns : goal.invariant-turns
 invariant-turns g l = record {
   noted : IsNoted g.S.Sink.written l.responder.service.host;
-  serves : Serves l.fn.responder.numbers l.responder.numbers l.fn.responder.service.host.pass l.responder.service.host.pass;
+  serves : Serves l.fn.responder.numbers l.responder.numbers l.fn.responder.service.host.pass l.responder.service.host.pass l.fn.responder.service.host.journal l.responder.service.host.journal;
   words : BearsNew g.W.Lineage.is_drawn (words_of l.fn.responder.service) (words_of l.responder.service) l.fn.responder.service.host.pass l.responder.service.host.pass;
 }

@@ -2,7 +2,9 @@ use Rattle.std.proofs.Common.{◌≡◌, refl, rules}
 use Rattle.std.proofs.lemmas.Result.{on_ok_weaker}
 use Rattle.amo_live.specs.Service.{words_of}
 use Rattle.amo_live.proofs.Fresh.{bears_as, bears_on}
-use Rattle.amo_serve.proofs.Served.{serves_as, serves_on}
+use Rattle.amo_live.proofs.Lined.{life_as}
+use Rattle.amo_serve.specs.Serving.{Serves}
+use Rattle.amo_serve.proofs.Served.{serves_none, serves_on, still_in}
 use Rattle.amo_serve.proofs.turns.turn.Goals as goal
 
 pub returns-clause-serves : goal.returns-clause-serves
@@ -10,9 +12,16 @@ returns-clause-serves g c =
     let first = c.args.responder.now in let heard = c.hear.new.self in let waited = c.serve_waiters.new.self in let asked = c.ask_clients.new.self in let left = c.let_go.new.responder in
     let numbers : left.numbers ≡ asked.numbers = search rules in
     let pass : left.service.host.pass ≡ asked.service.host.pass = search rules in
-    let to_waited = serves_on first.numbers heard.numbers waited.numbers first.service.host.pass heard.service.host.pass waited.service.host.pass c.in_ok-hear.ensures.serves c.in_ok-serve_waiters.ensures.serves in
-    let to_asked = serves_on first.numbers waited.numbers asked.numbers first.service.host.pass waited.service.host.pass asked.service.host.pass to_waited c.in_ok-ask_clients.ensures.serves in
-    on_ok_weaker c.let_go.result (λ noted. serves_as first.numbers asked.numbers first.numbers left.numbers first.service.host.pass asked.service.host.pass first.service.host.pass left.service.host.pass refl numbers refl pass to_asked) c.let_go.ensures.noted
+    let i = first.service.host.journal in let j = asked.service.host.journal in
+    let written = c.write_down.new.self.service.host in
+    let same : left.service.host.pass ≡ written.pass = search rules in
+    let journal : left.service.host.journal ≡ written.journal = search rules in
+    let none : Serves asked.numbers left.numbers asked.service.host.pass left.service.host.pass j left.service.host.journal =
+    serves_none asked.numbers left.numbers asked.service.host.pass left.service.host.pass j left.service.host.journal numbers
+    (still_in asked.service.host.pass left.service.host.pass j left.service.host.journal pass (life_as asked.service.host.pass written.pass asked.service.host.pass left.service.host.pass j written.journal j left.service.host.journal refl same refl journal c.write_down.ensures.life)) in
+    let to_waited = serves_on first.numbers heard.numbers waited.numbers first.service.host.pass heard.service.host.pass waited.service.host.pass i heard.service.host.journal waited.service.host.journal c.in_ok-hear.ensures.serves c.in_ok-serve_waiters.ensures.serves in
+    let to_asked = serves_on first.numbers waited.numbers asked.numbers first.service.host.pass waited.service.host.pass asked.service.host.pass i waited.service.host.journal j to_waited c.in_ok-ask_clients.ensures.serves in
+    on_ok_weaker c.let_go.result (λ noted. serves_on first.numbers asked.numbers left.numbers first.service.host.pass asked.service.host.pass left.service.host.pass i j left.service.host.journal to_asked none) c.let_go.ensures.noted
 
 pub returns-clause-words : goal.returns-clause-words
 returns-clause-words g c =

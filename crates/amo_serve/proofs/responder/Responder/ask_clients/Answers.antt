@@ -1,7 +1,7 @@
 use Rattle.std.proofs.Common.{refl, rules}
 use Rattle.amo_live.specs.Service.{words_of}
 use Rattle.amo_live.proofs.Fresh.{bears_none, bears_on}
-use Rattle.amo_serve.proofs.Served.{serves_none, serves_on, still}
+use Rattle.amo_serve.proofs.Served.{serves_on, serves_still}
 use Rattle.amo_serve.proofs.responder.Responder.ask_clients.Goals as goal
 
 pub clients-init : goal.clients-init
@@ -9,7 +9,7 @@ clients-init g c =
     let first = c.args.self.now in
     record {
       noted = search rules;
-      serves = serves_none first.numbers first.numbers first.service.host.pass first.service.host.pass refl (still first.service.host.pass first.service.host.pass refl);
+      serves = serves_still first.numbers first.service.host.pass first.service.host.journal;
       words = bears_none (words_of first.service) (words_of first.service) first.service.host.pass first.service.host.pass refl refl;
     }
 
@@ -18,6 +18,6 @@ clients-preserved g c =
     let first = c.args.self.now in let before = c.clients.self in let after = c.ask.new.self in
     record {
       noted = search rules;
-      serves = serves_on first.numbers before.numbers after.numbers first.service.host.pass before.service.host.pass after.service.host.pass c.clients.invariant.serves c.in_ok-ask.ensures.serves;
+      serves = serves_on first.numbers before.numbers after.numbers first.service.host.pass before.service.host.pass after.service.host.pass first.service.host.journal before.service.host.journal after.service.host.journal c.clients.invariant.serves c.in_ok-ask.ensures.serves;
       words = bears_on (words_of first.service) (words_of before.service) (words_of after.service) first.service.host.pass before.service.host.pass after.service.host.pass c.clients.invariant.words c.in_ok-ask.ensures.words;
     }

@@ -8,6 +8,6 @@ use Rattle.amo_serve.proofs.responder.Responder.ask_clients.Given as goal
 abbrev pub invariant-clients : goal.invariant-clients
 invariant-clients g l = record {
   noted : IsNoted g.S.Sink.written l.self.service.host;
-  serves : Serves l.fn.self.numbers l.self.numbers l.fn.self.service.host.pass l.self.service.host.pass;
+  serves : Serves l.fn.self.numbers l.self.numbers l.fn.self.service.host.pass l.self.service.host.pass l.fn.self.service.host.journal l.self.service.host.journal;
   words : BearsNew g.W.Lineage.is_drawn (words_of l.fn.self.service) (words_of l.self.service) l.fn.self.service.host.pass l.self.service.host.pass;
 }

@@ -3,6 +3,7 @@ use Rattle.amo_world.proofs.Extensions.{further}
 use Rattle.amo_serve.proofs.Served.{serves_none, still_to}
 use Rattle.amo_live.specs.Service.{words_of}
 use Rattle.amo_live.proofs.Fresh.{bears_on}
+use Rattle.amo_live.proofs.Lined.{life_on}
 use Rattle.amo_serve.proofs.responder.Responder.hear.Goals as goal
 
 pub returns-clause-words : goal.returns-clause-words
@@ -16,8 +17,11 @@ returns-clause-serves g c =
     let first = c.args.self.now in let heard = c.tell_settled.new.self in
     let numbers : heard.numbers ≡ first.numbers = search rules in
     let pass : heard.service.host.pass ≡ c.resend.new.self.host.pass = search rules in
-    serves_none first.numbers heard.numbers first.service.host.pass heard.service.host.pass numbers
-    (still_to first.service.host.pass c.resend.new.self.host.pass heard.service.host.pass pass (
+    let i = first.service.host.journal in let k = heard.service.host.journal in let again = c.resend.new.self.host.journal in
+    let journal : k ≡ again = search rules in
+    serves_none first.numbers heard.numbers first.service.host.pass heard.service.host.pass i k numbers
+    (still_to first.service.host.pass c.resend.new.self.host.pass heard.service.host.pass i again k pass journal (
       (c.in_ok-resend.ensures.none_put ∙ c.in_ok-hear.ensures.none_put, c.in_ok-resend.ensures.none_got ∙ c.in_ok-hear.ensures.none_got refl),
       further c.resend.new.self.host.pass.seen c.hear.new.self.host.pass.seen first.service.host.pass.seen c.in_ok-resend.ensures.shown.extends c.in_ok-hear.ensures.shown.extends,
+      life_on first.service.host.pass c.hear.new.self.host.pass c.resend.new.self.host.pass i c.hear.new.self.host.journal again c.hear.ensures.life c.resend.ensures.life,
     ))

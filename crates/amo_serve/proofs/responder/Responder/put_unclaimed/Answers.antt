@@ -4,7 +4,7 @@ use Rattle.amo_object.specs.declared.step.End.TheVariants.{Sender}
 use Rattle.amo_core.specs.declared.act.Act.TheVariants as act
 use Rattle.amo_core.specs.declared.reply.Reply.TheVariants as event_reply
 use Rattle.amo_book.specs.Pass.{PassState, mine}
-use Rattle.amo_live.specs.Callers.{HappensAt, gets_in}
+use Rattle.amo_live.specs.Callers.{HappensAt, IsSameLife, gets_in}
 use Rattle.amo_live.specs.Host.{puts_in}
 use Rattle.amo_live.proofs.Getting.{happens_extends}
 use Rattle.amo_door.specs.declared.answer.When.TheVariants.{Now}
@@ -20,19 +20,25 @@ returns-clause-answered g c =
     let s = c.args.self.now.numbers in
     let v = c.args.self.now.service.host.pass in
     let w = c.tell_put.new.self.service.host.pass in
+    let i = c.args.self.now.service.host.journal in
+    let j = c.put_on.new.self.service.host.journal in
+    let k = c.tell_put.new.self.service.host.journal in
     let made = made_for_none (last_of c.tell_news.new.self.numbers c.args.stream) c.args.message c.place_of.result in
     let same : c.tell_put.new.self.numbers ≡ c.note_unclaimed.new.self = search rules in
     let pass : w ≡ c.put_on.new.self.service.host.pass = search rules in
+    let journal : k ≡ j = search rules in
     let copied : c.in_ok-copy.copy ≡ c.args.message = search rules in
     let one = rw c.in-Some.is at c.in_ok-at.ensures.put in
     let put : puts_in (mine w) ≡ (c.args.stream, c.args.message) ∷ puts_in (mine v) = ap (λ (p : PassState). puts_in (mine p)) pass ∙ (one.0 ∙ ap (λ (m : List ℕ). (c.args.stream, m) ∷ puts_in (mine v)) copied) in
     let gets : gets_in (mine w) ≡ gets_in (mine v) = ap (λ (p : PassState). gets_in (mine p)) pass ∙ c.in_ok-at.ensures.none_got in
     let start : c.tell_news.new.self.numbers ≡ s = search rules in
     let place : c.place_of.result.position ≡ c.in-Some.at.position = search rules in
-    let at : HappensAt v w Sender c.args.stream (act.Put c.args.message) event_reply.Ok c.place_of.result.position = rw (place, pass, sym copied) one.1 in
+    let line : c.place_of.result.line ≡ c.in-Some.at.line = search rules in
+    let at : HappensAt v w k Sender c.args.stream (act.Put c.args.message) event_reply.Ok c.place_of.result.position c.place_of.result.line = rw (place, line, pass, journal, sym copied) one.1 in
+    let goes_on : IsSameLife v w i k = rw (pass, journal) c.put_on.ensures.life in
     let last : last_of c.note_unclaimed.new.self c.args.stream ≡ Some made = search rules in
     let life : c.note_unclaimed.new.self.life ≡ s.life = search rules in
     IfOk-weaker c.tell_put.result _ _
     (λ answer told.
     let said = said_of (λ (m : Made). (answer.status ≡ status_of_put Now) × (answer.body.items ≡ put_body c.note_unclaimed.new.self.life c.args.stream m)) (last_of c.note_unclaimed.new.self c.args.stream) made last told in
-    IsPut made (record { keeps = λ past keeps. rw same (c.note_unclaimed.ensures.turns past (rw start keeps)); puts = put; gets = gets; extends = happens_extends v w Sender c.args.stream (act.Put c.args.message) event_reply.Ok c.place_of.result.position at; happened = at }) refl said.0 (rw (sym life) said.1)) c.tell_put.ensures.told
+    IsPut made (record { keeps = λ past keeps. rw same (c.note_unclaimed.ensures.turns past (rw start keeps)); puts = put; gets = gets; extends = happens_extends v w k Sender c.args.stream (act.Put c.args.message) event_reply.Ok c.place_of.result.position c.place_of.result.line at; goes_on = goes_on; happened = at }) refl said.0 (rw (sym life) said.1)) c.tell_put.ensures.told
