@@ -30,6 +30,8 @@ pub(crate) struct Counts {
     pub(crate) crowded: u64,
     /// Connections that are open.
     pub(crate) open: u64,
+    /// Pieces of its journal that the host has begun.
+    pub(crate) pieces: u64,
 }
 
 impl Counts {
@@ -46,6 +48,7 @@ impl Counts {
             accepted: 0,
             crowded: 0,
             open: 0,
+            pieces: 0,
         }
     }
 
@@ -265,6 +268,11 @@ impl<L: Link, S: Sink, W: Lineage> Responder<L, S, W> {
                 "amo_journal_bytes_total",
                 "Bytes of lines that the journal got.",
                 figures.bytes,
+            ),
+            (
+                "amo_journal_pieces_total",
+                "Pieces of the journal that were begun.",
+                self.counts.pieces,
             ),
         ] {
             push_counter(text, name, help, value)?;

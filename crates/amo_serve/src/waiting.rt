@@ -258,6 +258,7 @@ impl<L: Link, S: Durable, W: Lineage> Responder<L, S, W> {
         self.counts.accepted = door.accepted;
         self.counts.crowded = door.crowded;
         self.counts.open = door.clients.len() as u64;
+        self.counts.pieces = self.service.host.pieces_begun();
         let reader = Reader {
             routes: &door.routes,
             guard: &door.guard,
