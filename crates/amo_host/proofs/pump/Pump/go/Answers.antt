@@ -51,16 +51,20 @@ returns-clause-ok g c =
       kind_is c.args.act c.of-kind.result k c.of-kind.ensures of,
       silent.0,
       refl,
-      ([], [], record {
-        charge = charge;
-        at = at;
-        of_side = c.side-side.ensures;
-        of_stream = same_Some _ _ (sym found ∙ stream_at_place s c.self.invariant place charge at);
-        driven = subst (λ (d : ChargeState). Driven c.args.pass.now c.go_down_or_up.new.pass charge d c.args.act [] [] c.in_ok-done.done) driven.charge driven;
-        charges = ap (set s.charges place) driven.charge;
-        noted = noted;
-        batches = refl;
-      }),
+      (
+        [],
+        [],
+        record {
+          charge = charge;
+          at = at;
+          of_side = c.side-side.ensures;
+          of_stream = same_Some _ _ (sym found ∙ stream_at_place s c.self.invariant place charge at);
+          driven = subst (λ (d : ChargeState). Driven c.args.pass.now c.go_down_or_up.new.pass charge d c.args.act [] [] c.in_ok-done.done) driven.charge driven;
+          charges = ap (set s.charges place) driven.charge;
+          noted = noted;
+          batches = refl;
+        },
+      ),
     ))
 
 pub returns-clause-station : goal.returns-clause-station
