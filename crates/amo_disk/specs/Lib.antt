@@ -6,5 +6,6 @@ pub mod Ending
 pub mod Shelf
 pub mod Beginning
 pub mod Start
+pub mod Disk
 pub mod Gathered
 pub mod Standing

@@ -2,12 +2,14 @@
 ghost use Rattle.std.specs.Prelude.{◌≡◌, ◌+◌, ◌<◌};
 ghost use Rattle.std.specs.Io.{WritesAtMost};
 ghost use Rattle.std.specs.Io.KnownBytes.{WriteAppends};
+ghost use Rattle.amo_text.specs.Sink.{Refused};
+ghost use Rattle.amo_disk.specs.Disk.{AnswersPatiently};
 
 use crate::Cause;
-use amo_text::{Failures, Sink, SinkFault};
+use amo_text::{Device, Failures, Sink, SinkFault};
 use std::cell::Cell;
 use std::io;
-use std::io::{ErrorKind, Write};
+use std::io::ErrorKind;
 use std::marker::Model;
 use std::sync::ledger::{Blank, Ledger};
 
@@ -58,10 +60,12 @@ impl<'a, W, L: Ledger> Disk<'a, W, L> {
     }
 }
 
-impl<W: Write, L: Ledger> Sink for Disk<'_, W, L> {
+impl<D: Device, L: Ledger> Sink for Disk<'_, D, L> {
     ghost failures = { λ d. d.failures };
 
-    ghost written = { λ d. W.contents d.writer };
+    ghost written = { λ d. D.contents d.writer };
+
+    ghost refused = { λ old bytes new. Refused (AnswersPatiently D.answers) old.writer bytes new.writer };
 
     fn write(&mut self, bytes: &[u8]) -> Result<usize, SinkFault> {
         match write_patiently(&mut self.writer, bytes) {
@@ -73,16 +77,17 @@ impl<W: Write, L: Ledger> Sink for Disk<'_, W, L> {
 }
 
 /// Writes, and tries again where a signal interrupts it.
-#[tactic(auto, using(crate::proofs::Writers::kept_so_far, crate::proofs::Writers::kept_on, crate::proofs::Writers::kept_then))]
-fn write_patiently<W: Write>(writer: &mut W, bytes: &[u8]) -> io::Result<usize>
+#[tactic(auto, using(crate::proofs::Writers::kept_so_far, crate::proofs::Writers::kept_on, crate::proofs::Writers::kept_then, crate::proofs::Writers::interrupts_none))]
+fn write_patiently<D: Device>(writer: &mut D, bytes: &[u8]) -> io::Result<usize>
     ensures bound { WritesAtMost result bytes.now }
-    ensures bytes { WriteAppends (W.contents writer.old) (W.contents writer.new) result bytes.now }
+    ensures bytes { WriteAppends (D.contents writer.old) (D.contents writer.new) result bytes.now }
+    ensures answers { AnswersPatiently D.answers writer.old bytes.now result writer.new }
 {
     'attempts: for _attempt in 0..MOST_INTERRUPTIONS {
-        match writer.write(bytes) {
+        match writer.offer(bytes) {
             Err(error) if error.kind() == ErrorKind::Interrupted => (),
             answer => return answer,
         }
     }
-    writer.write(bytes)
+    writer.offer(bytes)
 }

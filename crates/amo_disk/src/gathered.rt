@@ -1,6 +1,8 @@
 //! What is gathered before it is handed to the system.
-ghost use Rattle.std.specs.Prelude.{◌≡◌, ◌+◌, [], OnOk, OnErr};
-ghost use Rattle.std.specs.Io.KnownBytes.{Keeps, append_known};
+ghost use Rattle.std.specs.Prelude.{◌≡◌, ◌+◌, ◌<◌, [], length, OnOk, OnErr};
+ghost use Rattle.std.specs.Io.KnownBytes.{Appends, Keeps, append_known};
+ghost use Rattle.amo_text.specs.Sink.{RefusedAt};
+ghost use Rattle.amo_disk.specs.Gathered.{GatheredRefused};
 
 use crate::Durable;
 use amo_text::{Sink, SinkFault};
@@ -43,8 +45,11 @@ impl<S: Sink> Gathered<S> {
     fn hand_on(&mut self) -> Result<(), SinkFault>
         ensures kept { Keeps (append_known (S.written self.old.sink) self.old.waiting) (append_known (S.written self.new.sink) self.new.waiting) }
         ensures all { OnOk result (self.new.waiting ≡ []) }
+        ensures handed { OnOk result (Appends (S.written self.old.sink) (S.written self.new.sink) self.old.waiting) }
         ensures calm { OnOk result (S.failures self.new.sink ≡ S.failures self.old.sink) }
         ensures failed { OnErr result (S.failures self.new.sink ≡ S.failures self.old.sink + 1) }
+        ensures some { OnErr result (0 < length self.old.waiting) }
+        ensures refused { OnErr result (RefusedAt S.refused S.written self.old.sink self.old.waiting self.new.sink) }
     {
         let mut done = 0;
         while done < self.room.len() {
@@ -65,6 +70,8 @@ impl<S: Sink> Sink for Gathered<S> {
     ghost failures = { λ g. S.failures g.sink };
 
     ghost written = { λ g. append_known (S.written g.sink) g.waiting };
+
+    ghost refused = { λ old bytes new. GatheredRefused S.refused S.written old bytes new };
 
     fn write(&mut self, bytes: &[u8]) -> Result<usize, SinkFault> {
         if MOST_GATHERED < self.room.len().saturating_add(bytes.len()) {

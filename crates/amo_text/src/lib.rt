@@ -28,6 +28,7 @@
 
 mod act;
 mod decimal;
+mod device;
 mod failures;
 mod hexadecimal;
 mod items;
@@ -41,6 +42,7 @@ mod stream;
 
 pub use act::{ActName, read_act_name};
 pub use decimal::{next_decimal, push_decimal, read_decimal};
+pub use device::Device;
 pub use failures::Failures;
 pub use hexadecimal::{hex_length, push_hex, read_hex};
 pub use items::{CheckedItem, LineItem, LinesFault, first_malformed, item_in_front, read_items};

@@ -1,10 +1,10 @@
 //! Where bytes are written.
 ghost use Rattle.std.specs.Prelude.{◌≡◌, ◌+◌, ◌<◌, ◌≤◌, length, take, Ok, IfOk, IfSome, IfNone, OnOk, OnErr};
 ghost use Rattle.std.specs.Io.KnownBytes.{Appends, Keeps};
-ghost use Rattle.amo_text.specs.Sink.{AppendsFront};
+ghost use Rattle.amo_text.specs.Sink.{AppendsFront, Refused, IsRefusal, RefusedAt};
 
-use crate::Failures;
-use std::io::{self, Write};
+use crate::{Device, Failures};
+use std::io;
 use std::marker::Model;
 use std::sync::ledger::{Blank, Ledger};
 use thiserror::Error;
@@ -24,25 +24,30 @@ pub trait Sink {
     /// What was written so far, where the sink tells it.
     ghost written: { Self → Option (List ℕ) };
 
+    /// That a call with these bytes was refused: what the sink stands on was called, and took none of them.
+    ghost refused: { Self → List ℕ → Self → Type 0 };
+
     /// Appends the first `n` of the bytes and answers `n`, which is 1 at least where there are any.
     ///
-    /// A call that fails appends nothing, and is counted once.
+    /// A call that fails appends nothing, and is counted once. It fails by an answer of what the sink stands on.
     fn write(&mut self, bytes: &[u8]) -> Result<usize, SinkFault>
         ensures count { IfOk result (λ n. (n ≤ length bytes.now) × (0 < length bytes.now → 0 < n)) }
         ensures ok { IfOk result (λ n. Appends (written self.old) (written self.new) (take n bytes.now)) }
         ensures calm { OnOk result (failures self.new ≡ failures self.old) }
         ensures fault { OnErr result (Keeps (written self.old) (written self.new)) }
-        ensures failed { OnErr result (failures self.new ≡ failures self.old + 1) };
+        ensures failed { OnErr result (failures self.new ≡ failures self.old + 1) }
+        ensures refused { OnErr result (refused self.old bytes.now self.new) };
 }
 
 /// Writes all the bytes, in as many calls as the sink needs.
 ///
-/// Where one of them fails, it is the last, and a beginning of the bytes was appended.
+/// Where one of them fails, it is the last, and a beginning of the bytes was appended. That one was handed what is behind it.
 pub fn write_all<W: Sink>(sink: &mut W, bytes: &[u8]) -> Result<(), SinkFault>
     ensures ok { OnOk result (Appends (W.written sink.old) (W.written sink.new) bytes.now) }
     ensures calm { OnOk result (W.failures sink.new ≡ W.failures sink.old) }
     ensures fault { OnErr result (AppendsFront (W.written sink.old) (W.written sink.new) bytes.now) }
     ensures failed { OnErr result (W.failures sink.new ≡ W.failures sink.old + 1) }
+    ensures refused { OnErr result (RefusedAt W.refused W.written sink.old bytes.now sink.new) }
 {
     let mut done = 0;
     while done < bytes.len() {
@@ -51,7 +56,7 @@ pub fn write_all<W: Sink>(sink: &mut W, bytes: &[u8]) -> Result<(), SinkFault>
     Ok(())
 }
 
-/// A sink over any writer, seen by contracts as that writer and how many calls have failed.
+/// A sink over any device, as a writer, seen by contracts as that writer and how many calls have failed.
 ///
 /// A write of no bytes is a failure where there were bytes to write.
 /// So is an interrupted write. It is not tried again, since that need never end.
@@ -94,13 +99,15 @@ impl<W, L: Ledger> Out<W, L> {
     }
 }
 
-impl<W: Write, L: Ledger> Sink for Out<W, L> {
+impl<D: Device, L: Ledger> Sink for Out<D, L> {
     ghost failures = { λ o. o.failures };
 
-    ghost written = { λ o. W.contents o.writer };
+    ghost written = { λ o. D.contents o.writer };
+
+    ghost refused = { λ old bytes new. Refused D.answers old.writer bytes new.writer };
 
     fn write(&mut self, bytes: &[u8]) -> Result<usize, SinkFault> {
-        match taken(self.writer.write(bytes), bytes) {
+        match taken(self.writer.offer(bytes), bytes) {
             Some(count) => Ok(count),
             None => {
                 self.failures.count();
@@ -113,7 +120,7 @@ impl<W: Write, L: Ledger> Sink for Out<W, L> {
 /// How many of the bytes a writer took, as it answers; none where it failed, or took nothing of some bytes.
 fn taken(answer: io::Result<usize>, bytes: &[u8]) -> Option<usize>
     ensures some { IfSome result (λ n. (answer ≡ Ok n) × (0 < length bytes.now → 0 < n)) }
-    ensures none { IfNone result (IfOk answer (λ n. (n ≡ 0) × (0 < length bytes.now))) }
+    ensures none { IfNone result (IsRefusal answer bytes.now) }
 {
     match answer {
         Ok(count) if count > 0 || bytes.is_empty() => Some(count),
