@@ -1,15 +1,8 @@
 -- Why a live host cannot go on.
-use Rattle.amo_journal.specs.declared.fault.JournalFault.{JournalFault}
-use Rattle.amo_journal.specs.declared.fault.JournalFault.TheVariants as journal
 use Rattle.amo_live.specs.declared.fault.LiveFault.{LiveFault}
 use Rattle.amo_lives.specs.declared.fault.BeginFault.{BeginFault}
 use Rattle.amo_lives.specs.declared.fault.BeginFault.TheVariants as begin
-use Rattle.amo_live.specs.declared.fault.LiveFault.TheVariants.{NoMemory, Journal, Lives}
-
--- of a line that was not written
-abbrev pub note_fault : JournalFault → LiveFault
-note_fault journal.NoMemory = NoMemory
-note_fault _ = Journal
+use Rattle.amo_live.specs.declared.fault.LiveFault.TheVariants.{NoMemory, Lives}
 
 -- of a life that did not begin
 abbrev pub begin_fault : BeginFault → LiveFault

@@ -2,7 +2,6 @@
 ghost use Rattle.std.specs.Prelude.{◌≡◌};
 
 use amo_disk::{Cause, OpenFault};
-use amo_journal::JournalFault;
 use amo_lives::{BeginFault, BeyondJournal, LivesFault};
 use std::alloc::AllocError;
 use std::fs::TryLockError;
@@ -39,19 +38,6 @@ pub enum LiveFault {
     /// Another call was under way at a side. In a process with one thread there is none.
     #[error("busy")]
     Busy,
-}
-
-impl From<JournalFault> for LiveFault {
-    ghost use Rattle.amo_live.specs.Fault.{note_fault};
-
-    ghost from_gives = { λ fault live. live ≡ note_fault fault };
-
-    fn from(fault: JournalFault) -> LiveFault {
-        match fault {
-            JournalFault::NoMemory => LiveFault::NoMemory,
-            _ => LiveFault::Journal,
-        }
-    }
 }
 
 impl From<BeginFault> for LiveFault {
