@@ -1,2 +1,3 @@
 pub mod Fault
 pub mod Statuses
+pub mod ToldFile

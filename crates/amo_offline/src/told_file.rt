@@ -1,5 +1,9 @@
 //! The file beside a sender's journal that keeps of how many of its lines each put is told, but for some that it lists, and on which streams one was told
 //! to be unknown.
+ghost use Rattle.std.specs.Prelude.{◌≡◌, ◌∷◌, ◌++◌, codes, IfOk, IfSome, OnOk};
+ghost use Rattle.std.specs.List.{flat_map};
+ghost use Rattle.amo_offline.specs.ToldFile.{fields_in, stream_field, told_line};
+
 use crate::fault::OfflineFault;
 use amo_disk::{Cause, put_in_place, write_beside};
 use amo_text::{cut, push_decimal, push_hex, read_decimal, read_stream};
@@ -304,18 +308,30 @@ fn is_seal_of(alloc: Global, front: &[u8], seal: &[u8]) -> Result<bool, AllocErr
 }
 
 /// Appends what the file says in front of its list: `amo told LINES`, each stream behind a space, and a line feed.
-pub fn push_told(text: &mut Vec<u8>, lines: u64, in_doubt: &[u32]) -> Result<(), AllocError> {
+pub fn push_told(text: &mut Vec<u8>, lines: u64, in_doubt: &[u32]) -> Result<(), AllocError>
+    ensures { OnOk result (text.new.items ≡ text.old.items ++ told_line lines in_doubt.now) }
+{
     text.extend_from_slice(FRONT)?;
     push_decimal(text, lines)?;
-    for stream in in_doubt {
-        text.extend_from_slice(b" ")?;
-        push_decimal(text, u64::from(*stream))?;
-    }
+    push_streams(text, in_doubt)?;
     text.extend_from_slice(b"\n")
 }
 
+/// Appends each of these streams behind a space.
+fn push_streams(text: &mut Vec<u8>, streams: &[u32]) -> Result<(), AllocError>
+    ensures { OnOk result (text.new.items ≡ text.old.items ++ flat_map stream_field streams.now) }
+{
+    'streams: for stream in streams {
+        text.extend_from_slice(b" ")?;
+        push_decimal(text, u64::from(*stream))?;
+    }
+    Ok(())
+}
+
 /// How many lines these bytes say, and which streams, in their order; and what stands behind that line. None where they begin with no such line.
-fn read_told(alloc: Global, bytes: &[u8]) -> Result<Option<(u64, Vec<u32>, &[u8])>, AllocError> {
+fn read_told(alloc: Global, bytes: &[u8]) -> Result<Option<(u64, Vec<u32>, &[u8])>, AllocError>
+    ensures { IfOk result (λ found. IfSome found (λ told. bytes.now ≡ told_line told.0 told.1.items ++ told.2.now)) }
+{
     let Some((numbers, list)) = numbers_in(bytes) else {
         return Ok(None);
     };
@@ -330,11 +346,13 @@ fn read_told(alloc: Global, bytes: &[u8]) -> Result<Option<(u64, Vec<u32>, &[u8]
 }
 
 /// The streams that a text names, rising, with a space between two; none where it is no such text.
-fn read_streams(alloc: Global, text: Option<&[u8]>) -> Result<Option<Vec<u32>>, AllocError> {
+fn read_streams(alloc: Global, text: Option<&[u8]>) -> Result<Option<Vec<u32>>, AllocError>
+    ensures { IfOk result (λ found. IfSome found (λ streams. fields_in text.entry ≡ flat_map stream_field streams.items)) }
+{
     let mut streams = Vec::new(alloc);
     let mut rest = text;
     let mut last = 0;
-    'streams: for _stream in 0..STREAMS {
+    'fields: for _field in 0..STREAMS {
         let Some(fields) = rest else {
             break;
         };
@@ -350,13 +368,17 @@ fn read_streams(alloc: Global, text: Option<&[u8]>) -> Result<Option<Vec<u32>>, 
 }
 
 /// What stands behind the front of the first line of these bytes, if it begins so, and behind the line.
-fn numbers_in(bytes: &[u8]) -> Option<(&[u8], &[u8])> {
+fn numbers_in(bytes: &[u8]) -> Option<(&[u8], &[u8])>
+    ensures { IfSome result (λ parts. bytes.now ≡ (codes "amo told " ++ parts.0.now) ++ 10 ∷ parts.1.now) }
+{
     let (line, behind) = cut(bytes, b'\n')?;
     Some((line.strip_prefix(FRONT)?, behind))
 }
 
 /// What stands in front of the first space, and what behind it, if there is one.
-fn first_field(text: &[u8]) -> (&[u8], Option<&[u8]>) {
+fn first_field(text: &[u8]) -> (&[u8], Option<&[u8]>)
+    ensures { text.now ≡ result.0.now ++ fields_in result.1 }
+{
     match cut(text, b' ') {
         Some((field, behind)) => (field, Some(behind)),
         None => (text, None),

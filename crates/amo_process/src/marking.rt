@@ -1,4 +1,9 @@
 //! Keeps, while a sender is at work, from which line of its journal on its next start is to tell.
+ghost use Rattle.std.specs.Prelude.{◌≡◌, ◌++◌, IfOk};
+ghost use Rattle.amo_live.specs.Host.{IsNoted, open_text_of};
+ghost use Rattle.amo_live.specs.Service.{doubtful};
+ghost use Rattle.amo_offline.specs.ToldFile.{listed, told_line};
+
 use crate::stopping::{Identity, identity_in};
 use amo_desk::{Keeper, ServeFault};
 use amo_live::{Aside, Lineage, Plan, Service};
@@ -129,7 +134,10 @@ fn told_by<L: Link, S: Sink, W: Lineage>(
     alloc: Global,
     service: &Service<L, S, W>,
     beyond: &[u32],
-) -> Result<Vec<u8>, AllocError> {
+) -> Result<Vec<u8>, AllocError>
+    ensures { IfOk result (λ text. IsNoted S.written service.now.host → text.items ≡ told_line service.now.host.journal.next (doubtful service.now ++ beyond.now)
+        ++ listed service.now.host.journal.version (open_text_of service.now.host)) }
+{
     let mut text = Vec::new(alloc);
     let mut in_doubt = service.streams_in_doubt()?;
     in_doubt.extend_from_slice(beyond)?;
