@@ -3,3 +3,4 @@ pub mod Fates
 pub mod Ending
 pub mod Waiting
 pub mod States
+pub mod Calls

@@ -6,9 +6,10 @@ use Rattle.amo_core.specs.declared.act.Act.TheVariants as act
 use Rattle.amo_core.specs.declared.reply.Reply.TheVariants as event_reply
 use Rattle.amo_world.specs.History.{Extends}
 use Rattle.amo_book.specs.Pass.{PassState, mine}
-use Rattle.amo_live.specs.Callers.{HappensAt, IsSameLife, MovesNone, gets_in}
+use Rattle.amo_live.specs.Callers.{GetsNone, HappensAt, IsSameLife, MovesNone, gets_in}
 use Rattle.amo_live.specs.Host.{puts_in}
 use Rattle.amo_live.specs.Noted.{JournalState}
+use Rattle.amo_live.specs.Service.{PutsNone}
 use Rattle.amo_door.specs.declared.answer.Answer.{Answer as DoorAnswer}
 use Rattle.amo_door.specs.declared.answer.Extra.TheVariants.{Message}
 use Rattle.amo_door.specs.declared.answer.Kind.TheVariants.{Bytes}
@@ -85,11 +86,17 @@ pub record Serves {S : Type 0} (s t : Table) (v w : PassState) (j k : JournalSta
   pub goes_on : IsSameLife v w j k
   pub happened : AllByRecursion (Happened v w k) turns
 
+-- what was made on a stream was put there since that moment, and its put stands where it says
+abbrev pub WasPut : {S : Type 0} → PassState → PassState → JournalState S → ℕ → Made → Type 0
+WasPut u w k stream made = HappensAt u w k Sender stream (act.Put made.message) event_reply.Ok made.place.position made.place.line
+
+-- it was got there
+abbrev pub WasGot : {S : Type 0} → PassState → PassState → JournalState S → ℕ → Made → Type 0
+WasGot u w k stream made = HappensAt u w k Receiver stream act.Get (event_reply.Got made.message) made.place.position made.place.line
+
 -- what was made on a stream happened since that moment, where it says: a put of its message, or a get
 abbrev pub WasMade : {S : Type 0} → PassState → PassState → JournalState S → ℕ → Made → Type 0
-WasMade u w k stream made =
-    HappensAt u w k Sender stream (act.Put made.message) event_reply.Ok made.place.position made.place.line
-    ⊎ HappensAt u w k Receiver stream act.Get (event_reply.Got made.message) made.place.position made.place.line
+WasMade u w k stream made = WasPut u w k stream made ⊎ WasGot u w k stream made
 
 -- since that moment, at which nothing was made for callers, a host served them, and what is kept came of that
 pub record HasServed {S : Type 0} (u v : PassState) (j : JournalState S) (s : Table) : Type 0 where
@@ -148,11 +155,13 @@ abbrev pub IsNotYet : Taken → Type 0
 IsNotYet (taken.Answer answer) = ⊥
 IsNotYet (taken.NotYet back) = Unit {0}
 
--- an answer to a claim to put that says what was put, now or before, says it of what was made for that since the host began to serve: so its event stands where it says
+-- An answer to a claim to put that says what was put, now or before, says it of what was made for that since the host began to serve: so its event stands where it says. It is a
+-- put where the host got none meanwhile.
 abbrev pub TellsPut : {S : Type 0} → PassState → PassState → JournalState S → List ℕ → ℕ → DoorAnswer → Type 0
-TellsPut u w k life stream answer = (when : When) → answer.status ≡ status_of_put when → (made : Made) × (answer.body.items ≡ put_body life stream made) × WasMade u w k stream made
+TellsPut u w k life stream answer =
+    (when : When) → answer.status ≡ status_of_put when → (made : Made) × (answer.body.items ≡ put_body life stream made) × WasMade u w k stream made × (GetsNone u w → WasPut u w k stream made)
 
--- so does an answer to a claim to take that says what was taken
+-- So does an answer to a claim to take that says what was taken. It is a get where the host put none meanwhile.
 abbrev pub TellsTake : {S : Type 0} → PassState → PassState → JournalState S → ℕ → Taken → Type 0
-TellsTake u w k stream (taken.Answer answer) = answer.status ≡ 200 → (made : Made) × CarriesMade stream made answer × WasMade u w k stream made
+TellsTake u w k stream (taken.Answer answer) = answer.status ≡ 200 → (made : Made) × CarriesMade stream made answer × WasMade u w k stream made × (PutsNone u w → WasGot u w k stream made)
 TellsTake u w k stream (taken.NotYet back) = Unit {0}

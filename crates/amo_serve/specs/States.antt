@@ -1,5 +1,5 @@
 -- How streams are, as a door tells it.
-use Rattle.std.specs.Prelude.{◌≡◌, ◌≢◌, ◌<◌, ◌+◌, ◌⊎◌, ℕ, zero, suc, nat_lt, Bool, true, false, Option, Some, None, is_some, List, ◌++◌, codes}
+use Rattle.std.specs.Prelude.{◌≡◌, ◌≢◌, ◌<◌, ◌+◌, ◌⊎◌, ℕ, zero, suc, nat_lt, Bool, true, false, Option, Some, None, is_some, List, [], ◌++◌, codes}
 use Rattle.amo_object.specs.declared.step.End.{End}
 use Rattle.amo_object.specs.declared.step.End.TheVariants as side
 use Rattle.amo_core.specs.declared.summary.Summary.{Summary}
@@ -15,8 +15,8 @@ use Rattle.amo_door.specs.declared.answer.SenderState.{SenderState}
 use Rattle.amo_door.specs.declared.refusal.Refusal.{Refusal}
 use Rattle.amo_door.specs.declared.call.Call.{Call}
 use Rattle.amo_door.specs.declared.call.Call.TheVariants as call
-use Rattle.amo_door.specs.declared.refusal.Refusal.TheVariants.{Conflict, NoStream, UnknownLine}
-use Rattle.amo_door.specs.Answer.{outcome_body, receiver_members, sender_members}
+use Rattle.amo_door.specs.declared.refusal.Refusal.TheVariants.{Conflict, Ending, Full, NoStream, OtherLife, UnknownLine}
+use Rattle.amo_door.specs.Answer.{IsRefusal, life_member, outcome_body, receiver_members, sender_members}
 use Rattle.amo_door.specs.Numbers.{HasStream, Table, last_of, number_of}
 use Rattle.amo_door.specs.Refusal.{status_of}
 use Rattle.amo_serve.specs.Fates.{present_fate}
@@ -86,9 +86,9 @@ abbrev pub IsJournalLine : ℕ → Option ℕ → Type 0
 IsJournalLine next None = Unit {0}
 IsJournalLine next (Some line) = line < next
 
--- a request was refused for this reason
+-- a request was refused for this reason, which its body says
 abbrev pub IsRefused : Refusal → Reply → Type 0
-IsRefused refusal (reply.Answer answer) = answer.status ≡ status_of refusal
+IsRefused refusal (reply.Answer answer) = (answer.status ≡ status_of refusal) × IsRefusal refusal [] answer.body.items
 IsRefused refusal _ = ⊥
 
 -- an answer tells what became of the message of a number; where it was not put yet, that there is none
@@ -102,6 +102,19 @@ TellsPresent summary table handshakes stream number (reply.Answer answer) =
     (got : Bool) × KnowsGot handshakes stream number got
     × SpellsFate table.life stream number (present_fate (summary.waiting + summary.held) (number_of (last_of table stream)) number got) answer
 TellsPresent summary table handshakes stream number _ = ⊥
+
+-- why a host takes no message: it comes to its end, or its stream has no room
+abbrev pub not_now : Bool → Refusal
+not_now true = Ending
+not_now false = Full
+
+-- An answer to a claim by which nothing was put or got says why: that another number is the next one, and how its stream is on this side; that the host lives another life,
+-- and which; or that it takes no message now.
+abbrev pub TellsWhy : {L S W : Type 0} → End → Responder L S W → ℕ → Answer → Type 0
+TellsWhy side responder stream answer =
+    (answer.status ≡ status_of Conflict → IsRefusal Conflict (codes "," ++ state_members side (summary_at responder stream) responder.numbers stream) answer.body.items)
+    × (answer.status ≡ status_of OtherLife → IsRefusal OtherLife (codes "," ++ life_member responder.numbers.life) answer.body.items)
+    × (answer.status ≡ status_of Full → IsRefusal (not_now responder.ends) [] answer.body.items)
 
 -- What is told who asks how a stream is, which messages were got there, or what became of one. What else a call comes to is not told of the host as it is.
 abbrev pub TellsCall : {L S W : Type 0} → Responder L S W → Call → Reply → Type 0

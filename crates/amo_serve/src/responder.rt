@@ -6,6 +6,7 @@ ghost use Rattle.amo_live.specs.Service.{words_of};
 ghost use Rattle.amo_live.specs.Words.{BearsNew};
 ghost use Rattle.amo_door.specs.Numbers.{HasStream};
 ghost use Rattle.amo_door.specs.Turns.{Keeps};
+ghost use Rattle.amo_serve.specs.Calls.{AnswersCall};
 ghost use Rattle.amo_serve.specs.Serving.{IsAtOnce, Serves};
 ghost use Rattle.amo_serve.specs.States.{IsJournalLine, IsQuestion, IsRefused, TellsCall};
 ghost use Rattle.amo_door.specs.declared.refusal.Refusal.TheVariants.{UnknownLine};
@@ -152,6 +153,8 @@ impl<L: Link, S: Sink, W: Lineage> Responder<L, S, W> {
         ensures words { OnOk result (BearsNew W.is_drawn (words_of self.old.service) (words_of self.new.service) self.old.service.host.pass self.new.service.host.pass) }
         // A question is answered by the host as it is, or waits, or goes to the journal.
         ensures told { IfOk result (TellsCall self.old call) }
+        // A call to put or to take is answered as its own turn was, or its own claim waits.
+        ensures answered { IfOk result (AnswersCall self.old self.new call message) }
         // Nothing happens at the host for it.
         ensures quiet { IsQuestion call → live.HasLooked self.old.service self.new.service }
     {

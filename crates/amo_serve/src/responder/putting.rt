@@ -1,17 +1,19 @@
 //! Puts for callers, each once.
-ghost use Rattle.std.specs.Prelude.{◌≡◌, ◌+◌, ◌<◌, ◌^◌, IfNone, IfOk, IfSome, IsSome, OnOk, Some};
+ghost use Rattle.std.specs.Prelude.{◌≡◌, ◌+◌, ◌<◌, ◌^◌, ◌++◌, [], IfNone, IfOk, IfSome, IsSome, OnOk, Some, codes};
+ghost use Rattle.amo_object.specs.declared.step.End.TheVariants.{Sender};
 ghost use Rattle.amo_book.specs.Pass.{PassState};
 ghost use Rattle.amo_live.specs.Callers.{GetsNone, IsSameLife, PutsAt};
 ghost use Rattle.amo_live.specs.Host.{IsNoted};
 ghost use Rattle.amo_live.specs.Service.{HasLooked, words_of};
 ghost use Rattle.amo_live.specs.Words.{BearsNew};
 ghost use Rattle.amo_door.specs.declared.claim.Decision.TheVariants as AnyDecision;
-ghost use Rattle.amo_door.specs.declared.refusal.Refusal.TheVariants.{Conflict, Full};
-ghost use Rattle.amo_door.specs.Answer.{put_body, status_of_put};
+ghost use Rattle.amo_door.specs.declared.refusal.Refusal.TheVariants.{Conflict, Full, NoStream};
+ghost use Rattle.amo_door.specs.Answer.{IsRefusal, put_body, status_of_put};
 ghost use Rattle.amo_door.specs.Numbers.{HasStream, decision, last_of, number_of};
 ghost use Rattle.amo_door.specs.Refusal.{status_of};
+ghost use Rattle.amo_serve.specs.Calls.{HasNext, RepliesToNext, RepliesToPut, WasRefused};
 ghost use Rattle.amo_serve.specs.Serving.{AnswersPut, AnswersUnclaimed, HasServed, Serves, TellsPut};
-ghost use Rattle.amo_serve.specs.States.{Refuses};
+ghost use Rattle.amo_serve.specs.States.{Refuses, TellsWhy, not_now, state_members, summary_at};
 
 use crate::responder::{Reply, Responder};
 use amo_door::{Answer, Claim, Decision, EventPlace, Happening, Refusal, When};
@@ -33,6 +35,9 @@ impl<L: Link, S: Sink, W: Lineage> Responder<L, S, W> {
         ensures noted { OnOk result (IsNoted S.written self.new.service.host) }
         ensures serves { OnOk result (Serves self.old.numbers self.new.numbers self.old.service.host.pass self.new.service.host.pass self.old.service.host.journal self.new.service.host.journal) }
         ensures words { OnOk result (BearsNew W.is_drawn (words_of self.old.service) (words_of self.new.service) self.old.service.host.pass self.new.service.host.pass) }
+        // The answer is that of its own turn, which tells of its own event.
+        ensures replies { HasStream self.old.numbers claim.stream → IfOk result (RepliesToPut self.old self.new claim message) }
+        ensures no_stream { ¬ (HasStream self.old.numbers claim.stream) → IfOk result (WasRefused NoStream self.old self.new) }
     {
         if !self.has_stream(claim.stream) {
             return self.refuse(Refusal::NoStream);
@@ -52,6 +57,9 @@ impl<L: Link, S: Sink, W: Lineage> Responder<L, S, W> {
         ensures noted { OnOk result (IsNoted S.written self.new.service.host) }
         ensures serves { OnOk result (Serves self.old.numbers self.new.numbers self.old.service.host.pass self.new.service.host.pass self.old.service.host.journal self.new.service.host.journal) }
         ensures words { OnOk result (BearsNew W.is_drawn (words_of self.old.service) (words_of self.new.service) self.old.service.host.pass self.new.service.host.pass) }
+        ensures replies { HasStream self.old.numbers stream → HasNext self.old.numbers stream → IfOk result (RepliesToNext self.old self.new stream message) }
+        ensures used_up { HasStream self.old.numbers stream → ¬ (HasNext self.old.numbers stream) → IfOk result (WasRefused Full self.old self.new) }
+        ensures no_stream { ¬ (HasStream self.old.numbers stream) → IfOk result (WasRefused NoStream self.old self.new) }
     {
         if !self.has_stream(stream) {
             return self.refuse(Refusal::NoStream);
@@ -70,6 +78,7 @@ impl<L: Link, S: Sink, W: Lineage> Responder<L, S, W> {
         ensures noted { OnOk result (IsNoted S.written self.new.service.host) }
         ensures answered { IfOk result (AnswersPut self.old.numbers self.new.numbers self.old.service.host.pass self.new.service.host.pass self.old.service.host.journal self.new.service.host.journal claim message) }
         ensures full { IfOk result (λ answer. answer.status ≡ status_of Full → Refuses self.old claim.stream) }
+        ensures why { IfOk result (TellsWhy Sender self.old claim.stream) }
         ensures words { OnOk result (BearsNew W.is_drawn (words_of self.old.service) (words_of self.new.service) self.old.service.host.pass self.new.service.host.pass) }
         // Now or again, it is told where the event stands that was made for it.
         ensures told { (u : PassState) → HasServed u self.old.service.host.pass self.old.service.host.journal self.old.numbers
@@ -85,6 +94,7 @@ impl<L: Link, S: Sink, W: Lineage> Responder<L, S, W> {
         ensures noted { OnOk result (IsNoted S.written self.new.service.host) }
         ensures answered { IfOk result (AnswersPut self.old.numbers self.new.numbers self.old.service.host.pass self.new.service.host.pass self.old.service.host.journal self.new.service.host.journal claim message) }
         ensures full { IfOk result (λ answer. answer.status ≡ status_of Full → Refuses self.old claim.stream) }
+        ensures why { IfOk result (TellsWhy Sender self.old claim.stream) }
         ensures words { OnOk result (BearsNew W.is_drawn (words_of self.old.service) (words_of self.new.service) self.old.service.host.pass self.new.service.host.pass) }
     {
         let stream = claim.stream;
@@ -104,6 +114,7 @@ impl<L: Link, S: Sink, W: Lineage> Responder<L, S, W> {
         ensures noted { OnOk result (IsNoted S.written self.new.service.host) }
         ensures answered { IfOk result (AnswersPut self.old.numbers self.new.numbers self.old.service.host.pass self.new.service.host.pass self.old.service.host.journal self.new.service.host.journal claim message) }
         ensures full { IfOk result (λ answer. answer.status ≡ status_of Full → Refuses self.old claim.stream) }
+        ensures why { IfOk result (TellsWhy Sender self.old claim.stream) }
         ensures words { OnOk result (BearsNew W.is_drawn (words_of self.old.service) (words_of self.new.service) self.old.service.host.pass self.new.service.host.pass) }
     {
         let stream = claim.stream;
@@ -129,6 +140,7 @@ impl<L: Link, S: Sink, W: Lineage> Responder<L, S, W> {
         ensures noted { OnOk result (IsNoted S.written self.new.service.host) }
         ensures answered { IfOk result (AnswersUnclaimed self.old.numbers self.new.numbers self.old.service.host.pass self.new.service.host.pass self.old.service.host.journal self.new.service.host.journal stream message) }
         ensures full { IfOk result (λ answer. answer.status ≡ status_of Full → Refuses self.old stream) }
+        ensures why { IfOk result (TellsWhy Sender self.old stream) }
         ensures words { OnOk result (BearsNew W.is_drawn (words_of self.old.service) (words_of self.new.service) self.old.service.host.pass self.new.service.host.pass) }
     {
         let copy = message.clone()?;
@@ -182,6 +194,7 @@ impl<L: Link, S: Sink, W: Lineage> Responder<L, S, W> {
     /// That a stream has no room, or that the host comes to its end.
     fn tell_full(&mut self) -> Result<Answer, LiveFault>
         ensures status { IfOk result (λ answer. answer.status ≡ status_of Full) }
+        ensures body { IfOk result (λ answer. IsRefusal (not_now self.old.ends) [] answer.body.items) }
         ensures same { self.new ≡ record self.old { counts = self.new.counts } }
     {
         if self.ends {
@@ -195,6 +208,7 @@ impl<L: Link, S: Sink, W: Lineage> Responder<L, S, W> {
     fn tell_conflict(&mut self, stream: u32) -> Result<Answer, LiveFault>
         requires { HasStream self.old.numbers stream }
         ensures status { IfOk result (λ answer. answer.status ≡ status_of Conflict) }
+        ensures body { IfOk result (λ answer. IsRefusal Conflict (codes "," ++ state_members Sender (summary_at self.old stream) self.old.numbers stream) answer.body.items) }
         ensures same { self.new ≡ record self.old { counts = self.new.counts; service = self.new.service } }
         ensures looked { HasLooked self.old.service self.new.service }
     {

@@ -1,13 +1,17 @@
 //! Takes for callers, each once.
-ghost use Rattle.std.specs.Prelude.{◌≡◌, IfOk, IfSome, IsSome, None, OnOk, true};
+ghost use Rattle.std.specs.Prelude.{◌≡◌, ◌++◌, IfOk, IfSome, IsSome, None, OnOk, codes, true};
+ghost use Rattle.amo_object.specs.declared.step.End.TheVariants.{Receiver};
 ghost use Rattle.amo_book.specs.Pass.{PassState};
 ghost use Rattle.amo_live.specs.Host.{IsNoted};
 ghost use Rattle.amo_live.specs.Service.{CannotGet, HasLooked, words_of};
 ghost use Rattle.amo_live.specs.Words.{BearsNew};
 ghost use Rattle.amo_door.specs.declared.claim.Decision.TheVariants as AnyDecision;
-ghost use Rattle.amo_door.specs.declared.refusal.Refusal.TheVariants.{Conflict};
+ghost use Rattle.amo_door.specs.declared.refusal.Refusal.TheVariants.{Conflict, NoStream};
+ghost use Rattle.amo_door.specs.Answer.{IsRefusal};
 ghost use Rattle.amo_door.specs.Numbers.{HasStream, decision, last_of};
 ghost use Rattle.amo_door.specs.Refusal.{status_of};
+ghost use Rattle.amo_serve.specs.Calls.{RepliesToTake, TellsWhyNot, WasRefused};
+ghost use Rattle.amo_serve.specs.States.{state_members, summary_at};
 ghost use Rattle.amo_serve.specs.Serving.{CarriesMade, HasServed, IsAtOnce, IsNotYet, Serves, Takes, TellsTake};
 
 use crate::responder::putting::place_of;
@@ -40,6 +44,9 @@ impl<L: Link, S: Sink, W: Lineage> Responder<L, S, W> {
         ensures serves { OnOk result (Serves self.old.numbers self.new.numbers self.old.service.host.pass self.new.service.host.pass self.old.service.host.journal self.new.service.host.journal) }
         ensures words { OnOk result (BearsNew W.is_drawn (words_of self.old.service) (words_of self.new.service) self.old.service.host.pass self.new.service.host.pass) }
         ensures ends { self.new.ends ≡ true → IfOk result IsAtOnce }
+        // The answer is that of its own turn, which tells of its own event; or its own claim waits.
+        ensures replies { HasStream self.old.numbers claim.stream → IfOk result (RepliesToTake self.old self.new claim wait) }
+        ensures no_stream { ¬ (HasStream self.old.numbers claim.stream) → IfOk result (WasRefused NoStream self.old self.new) }
     {
         if !self.has_stream(claim.stream) {
             return self.refuse(Refusal::NoStream);
@@ -61,6 +68,7 @@ impl<L: Link, S: Sink, W: Lineage> Responder<L, S, W> {
         ensures noted { OnOk result (IsNoted S.written self.new.service.host) }
         ensures taken { IfOk result (Takes self.old.numbers self.new.numbers self.old.service.host.pass self.new.service.host.pass self.old.service.host.journal self.new.service.host.journal claim) }
         ensures none { IfOk result (λ taken. IsNotYet taken → CannotGet self.old.service claim.stream) }
+        ensures why { IfOk result (TellsWhyNot self.old claim.stream) }
         ensures words { OnOk result (BearsNew W.is_drawn (words_of self.old.service) (words_of self.new.service) self.old.service.host.pass self.new.service.host.pass) }
         // Now or again, it is told where the event stands that was made for it.
         ensures told { (u : PassState) → HasServed u self.old.service.host.pass self.old.service.host.journal self.old.numbers
@@ -76,6 +84,7 @@ impl<L: Link, S: Sink, W: Lineage> Responder<L, S, W> {
         ensures noted { OnOk result (IsNoted S.written self.new.service.host) }
         ensures taken { IfOk result (Takes self.old.numbers self.new.numbers self.old.service.host.pass self.new.service.host.pass self.old.service.host.journal self.new.service.host.journal claim) }
         ensures none { IfOk result (λ taken. IsNotYet taken → CannotGet self.old.service claim.stream) }
+        ensures why { IfOk result (TellsWhyNot self.old claim.stream) }
         ensures words { OnOk result (BearsNew W.is_drawn (words_of self.old.service) (words_of self.new.service) self.old.service.host.pass self.new.service.host.pass) }
     {
         let stream = claim.stream;
@@ -101,6 +110,7 @@ impl<L: Link, S: Sink, W: Lineage> Responder<L, S, W> {
         ensures noted { OnOk result (IsNoted S.written self.new.service.host) }
         ensures taken { IfOk result (Takes self.old.numbers self.new.numbers self.old.service.host.pass self.new.service.host.pass self.old.service.host.journal self.new.service.host.journal claim) }
         ensures none { IfOk result (λ taken. IsNotYet taken → CannotGet self.old.service claim.stream) }
+        ensures why { IfOk result (TellsWhyNot self.old claim.stream) }
         ensures words { OnOk result (BearsNew W.is_drawn (words_of self.old.service) (words_of self.new.service) self.old.service.host.pass self.new.service.host.pass) }
     {
         let stream = claim.stream;
@@ -129,6 +139,7 @@ impl<L: Link, S: Sink, W: Lineage> Responder<L, S, W> {
     fn tell_taken_conflict(&mut self, stream: u32) -> Result<Answer, LiveFault>
         requires { HasStream self.old.numbers stream }
         ensures status { IfOk result (λ answer. answer.status ≡ status_of Conflict) }
+        ensures body { IfOk result (λ answer. IsRefusal Conflict (codes "," ++ state_members Receiver (summary_at self.old stream) self.old.numbers stream) answer.body.items) }
         ensures same { self.new ≡ record self.old { counts = self.new.counts; service = self.new.service } }
         ensures looked { HasLooked self.old.service self.new.service }
     {

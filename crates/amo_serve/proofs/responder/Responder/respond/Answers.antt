@@ -1,8 +1,11 @@
 use Rattle.std.proofs.Common.{Ok, Err, subst, sym}
 use Rattle.std.specs.Prelude.{IfOk, OnOk, Result}
+use Rattle.std.proofs.lemmas.Result.{IfOk-weaker}
 use Rattle.amo_door.specs.declared.call.Call.{Call}
+use Rattle.amo_serve.specs.Calls.{AnswersCall, RepliesToNext, RepliesToPut, RepliesToTake}
 use Rattle.amo_serve.specs.States.{TellsCall}
 use Rattle.amo_serve.specs.declared.responder.Responder.{Responder}
+use Rattle.amo_serve.proofs.Replied.{recounted_next, recounted_put, recounted_take}
 use Rattle.amo_serve.proofs.Served.{looked_bears, looked_serves}
 use Rattle.amo_serve.proofs.responder.Responder.respond.Goals as goal
 
@@ -45,3 +48,28 @@ pub returns-in-Outcome-clause-told : goal.returns-in-Outcome-clause-told
 returns-in-Outcome-clause-told g c =
     subst (λ (call : Call). IfOk c.respond_to_outcome.result (TellsCall c.args.self.now call)) (sym c.in-Outcome.is)
     (told_of_life _ _ _ c.respond_to_outcome.result c.respond_to_outcome.ensures.present c.respond_to_outcome.ensures.earlier c.respond_to_outcome.ensures.no_stream)
+
+-- a call to put or to take is answered as the function for it says
+pub returns-in-Put-clause-answered : goal.returns-in-Put-clause-answered
+returns-in-Put-clause-answered g c =
+    let first = c.args.self.now in let last = c.respond_to_put.new.self in
+    let counts = record first.counts { requests = c.saturating_add-self.result } in
+    subst (λ (call : Call). IfOk c.respond_to_put.result (AnswersCall first last call c.args.message)) (sym c.in-Put.is)
+    (told_either (RepliesToPut first last c.in-Put.claim c.args.message) _ c.respond_to_put.result
+    (λ has. IfOk-weaker c.respond_to_put.result _ _ (recounted_put first last counts c.in-Put.claim c.args.message) (c.respond_to_put.ensures.replies has)) c.respond_to_put.ensures.no_stream)
+
+pub returns-in-PutNext-clause-answered : goal.returns-in-PutNext-clause-answered
+returns-in-PutNext-clause-answered g c =
+    let first = c.args.self.now in let last = c.respond_to_next.new.self in
+    let counts = record first.counts { requests = c.saturating_add-self.result } in
+    subst (λ (call : Call). IfOk c.respond_to_next.result (AnswersCall first last call c.args.message)) (sym c.in-PutNext.is)
+    (told_of_life (RepliesToNext first last c.in-PutNext.stream c.args.message) _ _ c.respond_to_next.result
+    (λ has next. IfOk-weaker c.respond_to_next.result _ _ (recounted_next first last counts c.in-PutNext.stream c.args.message) (c.respond_to_next.ensures.replies has next)) c.respond_to_next.ensures.used_up c.respond_to_next.ensures.no_stream)
+
+pub returns-in-Take-clause-answered : goal.returns-in-Take-clause-answered
+returns-in-Take-clause-answered g c =
+    let first = c.args.self.now in let last = c.respond_to_take.new.self in
+    let counts = record first.counts { requests = c.saturating_add-self.result } in
+    subst (λ (call : Call). IfOk c.respond_to_take.result (AnswersCall first last call c.args.message)) (sym c.in-Take.is)
+    (told_either (RepliesToTake first last c.in-Take.claim c.in-Take.wait) _ c.respond_to_take.result
+    (λ has. IfOk-weaker c.respond_to_take.result _ _ (recounted_take first last counts c.in-Take.claim c.in-Take.wait) (c.respond_to_take.ensures.replies has)) c.respond_to_take.ensures.no_stream)
