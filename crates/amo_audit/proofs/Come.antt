@@ -69,7 +69,7 @@ abbrev pub StandsAt : Option Version → List ℕ → Type 0
 StandsAt None front = front ≡ []
 StandsAt (Some version) front = (front ≢ []) × ((body : List ℕ) × Opens version body front)
 
-lacks_whole : (front : List ℕ) → Lacks 10 front → IsWhole front → front ≡ []
+pub lacks_whole : (front : List ℕ) → Lacks 10 front → IsWhole front → front ≡ []
 lacks_whole front lacks (inl none) = none
 lacks_whole front lacks (inr (x, e)) = absurd (no_cut 10 front x [] lacks e)
 

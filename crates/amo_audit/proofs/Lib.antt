@@ -21,3 +21,5 @@ pub mod Exchanged
 pub mod Furthest
 pub mod Parts
 pub mod Come
+pub mod Reader
+pub mod Pair

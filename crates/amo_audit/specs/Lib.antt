@@ -18,3 +18,5 @@ pub mod Alone
 pub mod Sender
 pub mod Parts
 pub mod Pieces
+pub mod Reader
+pub mod Pair

@@ -116,7 +116,7 @@ impl JudgedLines {
 }
 
 /// Whether a line has its end in these bytes.
-fn has_end(bytes: &[u8]) -> bool
+pub(crate) fn has_end(bytes: &[u8]) -> bool
     ensures some { result ≡ true → (text : List ℕ) × (behind : List ℕ) × (bytes.now ≡ text ++ 10 ∷ behind) × Lacks 10 text }
     ensures none { result ≡ false → Lacks 10 bytes.now }
 {

@@ -6,6 +6,7 @@
 //!   comes before a gap, and a gap before the first event at fault, in the order in which a world finds faults.
 //! - [`PiecesAudit`] judges a journal in pieces, or in one, while they are read, each once: its verdict is one on the text that they spell
 //!   together.
+//! - [`PairAudit`] tells of two journals in pieces whether they are judged yes while they are read, each once: it says of which one it wants more.
 //! - [`report`] writes the line that tells what is found of a journal, or of two that are merged, and answers the exit status.
 //! - [`explain`] writes, of a journal that is judged yes, the run of the at-most-once queue that its clients saw of each stream; of
 //!   other bytes it answers the verdict, which [`tell`] writes. [`explain_both`] does so of two journals. What may still be got is not lost
@@ -19,11 +20,11 @@
 //!   in both lists, or no interleaving is honest.
 //! - [`laws`]: there is one preferred interleaving, wherever any is honest.
 //!
-//! An audit keeps a world, which holds no event, and two numbers; it reads each line once and keeps no line. Of two journals it reads
-//! each line twice, and keeps one event of each and a world, which knows what was emitted. Only where an event is at fault does it begin
+//! An audit keeps a world, which holds no event, and two numbers; it reads each line once and keeps no line. Of two journals it keeps one event
+//! of each and a world, which knows what was emitted; where both are there whole it reads each line twice. Only where an event is at fault does it begin
 //! anew, with what a merge keeps of the sides: a world does not go on past that. An explanation is made whole, once its events are given up.
 //!
-//! One loop merges, whatever the events come from, a list or a journal, and whatever takes them. A merge of lists reads each list twice, and
+//! One loop merges what is there whole, whatever the events come from, a list or a journal, and whatever takes them. A merge of lists reads each list twice, and
 //! keeps what it took and, of each side, its automaton and a set of what it emitted.
 //!
 //! What a journal is stands in the crate `amo_journal`. Verdicts stand in `specs/Audit.antt`, what is found of two files in
@@ -36,8 +37,10 @@ mod auditing;
 mod auditor;
 mod both;
 mod coming;
+mod event_reader;
 mod explaining;
 mod hosts;
+mod journal_reader;
 mod judged_lines;
 mod judgement;
 mod judging;
@@ -50,6 +53,7 @@ mod marking;
 mod merge_fault;
 mod merging;
 mod outcomes;
+mod pair_audit;
 mod pieces_audit;
 mod reach;
 mod reading;
@@ -75,6 +79,7 @@ pub use judgement::Judgement;
 pub use merge_fault::MergeFault;
 pub use merging::merge;
 pub use outcomes::{PutOutcomes, outcomes_of};
+pub use pair_audit::{PairAudit, Progress, Which};
 pub use pieces_audit::PiecesAudit;
 pub use reach::Reach;
 pub use reporting::{report, tell, tell_judgement};

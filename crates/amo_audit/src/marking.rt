@@ -26,7 +26,7 @@ pub(crate) struct SideSet {
 
 impl SideSet {
     /// No side.
-    fn new() -> SideSet
+    pub(crate) fn new() -> SideSet
         ensures { MarksAll result.has [] }
     {
         SideSet {
@@ -47,7 +47,7 @@ impl SideSet {
     }
 
     /// Adds the side of an event.
-    fn add(&mut self, event: &Event)
+    pub(crate) fn add(&mut self, event: &Event)
         requires { IsStream event.now.stream }
         ensures { (past : List Event) → MarksAll self.old.has past → MarksAll self.new.has (past ++ event.now ∷ []) }
     {

@@ -15,10 +15,10 @@ use std::io;
 use std::io::{ErrorKind, Read};
 
 /// How many bytes of a piece are read at once.
-const BLOCK: usize = 64 * 1024;
+pub(crate) const BLOCK: usize = 64 * 1024;
 
 /// How many bytes tell whether a piece begins with a heading.
-const HEADING: usize = 6;
+pub(crate) const HEADING: usize = 6;
 
 /// An audit of a journal in pieces, which come one after another. Each is read once, a block at a time; beside that it keeps what judging later
 /// events needs, and a line that has not come whole.
@@ -76,7 +76,7 @@ impl PiecesAudit {
 }
 
 /// How many bytes of a piece that begins so are left out behind a text of this version: those of its heading. None where it is of another version.
-fn left_out(version: Option<Version>, begun: &[u8]) -> Option<usize>
+pub(crate) fn left_out(version: Option<Version>, begun: &[u8]) -> Option<usize>
     ensures leaves { LeavesOut version begun.now result }
     ensures within { IfSome result (λ count. count ≤ length begun.now) }
     ensures some { IfNone result (0 < length begun.now) }
@@ -111,7 +111,11 @@ fn take_rest<R: Read>(text: &mut TextAudit, reader: &mut R, room: &mut [u8]) -> 
 }
 
 /// The first bytes that a reader has left: as many as a heading has, or more, or all.
-fn beginning<R: Read>(alloc: Global, reader: &mut R, room: &mut [u8]) -> io::Result<Vec<u8>>
+pub(crate) fn beginning<R: Read>(
+    alloc: Global,
+    reader: &mut R,
+    room: &mut [u8],
+) -> io::Result<Vec<u8>>
     requires { 0 < length room.old }
     ensures bytes { IfOk result (λ begun. Consumes (R.remaining reader.old) (R.remaining reader.new) begun.items) }
     ensures end { IfOk result (λ begun. length begun.items < 6 → IsAtEnd (R.remaining reader.new)) }
@@ -131,7 +135,7 @@ fn beginning<R: Read>(alloc: Global, reader: &mut R, room: &mut [u8]) -> io::Res
 }
 
 /// The next bytes that a reader has left, which come into the room. Answers how many; at its end, none.
-fn read_part<R: Read>(reader: &mut R, room: &mut [u8]) -> io::Result<usize>
+pub(crate) fn read_part<R: Read>(reader: &mut R, room: &mut [u8]) -> io::Result<usize>
     requires { 0 < length room.old }
     ensures within { IfOk result (λ count. count ≤ length room.new) }
     ensures bytes { IfOk result (λ count. Consumes (R.remaining reader.old) (R.remaining reader.new) (take count room.new)) }

@@ -112,14 +112,14 @@ fn lines_in(version: Option<Version>, text: &[u8]) -> Lines<'_>
 }
 
 /// Whether each line of the text has its end.
-fn is_whole(text: &[u8]) -> bool
+pub(crate) fn is_whole(text: &[u8]) -> bool
     ensures { IsTrue result ↔ IsWhole text.now }
 {
     matches!(text, [] | [.., b'\n'])
 }
 
 /// Keeps the last bytes of these, so many.
-fn keep_last(bytes: &mut Vec<u8>, count: usize)
+pub(crate) fn keep_last(bytes: &mut Vec<u8>, count: usize)
     requires { count ≤ length bytes.old.items }
     ensures { bytes.new.items ≡ drop (length bytes.old.items - count) bytes.old.items }
 {
