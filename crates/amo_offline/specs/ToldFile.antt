@@ -16,8 +16,8 @@ fields_in None = []
 fields_in (Some fields) = 32 ∷ fields.now
 
 -- the first line: how many lines are told, each stream in doubt behind a space, and a line feed
-abbrev pub told_line : ℕ → List ℕ → List ℕ
-told_line lines streams = codes "amo told " ++ (decimal lines ++ (flat_map stream_field streams ++ 10 ∷ []))
+abbrev pub opening_line : ℕ → List ℕ → List ℕ
+opening_line lines streams = codes "amo told " ++ (decimal lines ++ (flat_map stream_field streams ++ 10 ∷ []))
 
 -- these lines as a journal of this version, or nothing where there are none
 abbrev pub listed : Version → List ℕ → List ℕ

@@ -2,7 +2,7 @@
 //! to be unknown.
 ghost use Rattle.std.specs.Prelude.{◌≡◌, ◌∷◌, ◌++◌, codes, IfOk, IfSome, OnOk};
 ghost use Rattle.std.specs.List.{flat_map};
-ghost use Rattle.amo_offline.specs.ToldFile.{fields_in, stream_field, told_line};
+ghost use Rattle.amo_offline.specs.ToldFile.{fields_in, opening_line, stream_field};
 
 use crate::fault::OfflineFault;
 use amo_disk::{Cause, put_in_place, write_beside};
@@ -309,7 +309,7 @@ fn is_seal_of(alloc: Global, front: &[u8], seal: &[u8]) -> Result<bool, AllocErr
 
 /// Appends what the file says in front of its list: `amo told LINES`, each stream behind a space, and a line feed.
 pub fn push_told(text: &mut Vec<u8>, lines: u64, in_doubt: &[u32]) -> Result<(), AllocError>
-    ensures { OnOk result (text.new.items ≡ text.old.items ++ told_line lines in_doubt.now) }
+    ensures { OnOk result (text.new.items ≡ text.old.items ++ opening_line lines in_doubt.now) }
 {
     text.extend_from_slice(FRONT)?;
     push_decimal(text, lines)?;
@@ -330,7 +330,7 @@ fn push_streams(text: &mut Vec<u8>, streams: &[u32]) -> Result<(), AllocError>
 
 /// How many lines these bytes say, and which streams, in their order; and what stands behind that line. None where they begin with no such line.
 fn read_told(alloc: Global, bytes: &[u8]) -> Result<Option<(u64, Vec<u32>, &[u8])>, AllocError>
-    ensures { IfOk result (λ found. IfSome found (λ told. bytes.now ≡ told_line told.0 told.1.items ++ told.2.now)) }
+    ensures { IfOk result (λ found. IfSome found (λ told. bytes.now ≡ opening_line told.0 told.1.items ++ told.2.now)) }
 {
     let Some((numbers, list)) = numbers_in(bytes) else {
         return Ok(None);

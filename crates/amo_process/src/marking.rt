@@ -2,7 +2,7 @@
 ghost use Rattle.std.specs.Prelude.{◌≡◌, ◌++◌, IfOk};
 ghost use Rattle.amo_live.specs.Host.{IsNoted, open_text_of};
 ghost use Rattle.amo_live.specs.Service.{doubtful};
-ghost use Rattle.amo_offline.specs.ToldFile.{listed, told_line};
+ghost use Rattle.amo_offline.specs.ToldFile.{listed, opening_line};
 
 use crate::stopping::{Identity, identity_in};
 use amo_desk::{Keeper, ServeFault};
@@ -135,7 +135,7 @@ fn told_by<L: Link, S: Sink, W: Lineage>(
     service: &Service<L, S, W>,
     beyond: &[u32],
 ) -> Result<Vec<u8>, AllocError>
-    ensures { IfOk result (λ text. IsNoted S.written service.now.host → text.items ≡ told_line service.now.host.journal.next (doubtful service.now ++ beyond.now)
+    ensures { IfOk result (λ text. IsNoted S.written service.now.host → text.items ≡ opening_line service.now.host.journal.next (doubtful service.now ++ beyond.now)
         ++ listed service.now.host.journal.version (open_text_of service.now.host)) }
 {
     let mut text = Vec::new(alloc);

@@ -15,7 +15,7 @@
 //! - [`LineItem`] is what one line of a file spells. [`item_in_front`] reads one of them, [`read_items`] a whole file, and
 //!   [`first_malformed`] finds the first line that spells none.
 //! - [`Sink`] is a place that takes bytes, [`write_all`] fills it, and [`Out`] makes one of any writer of
-//!   the standard library. Contracts see what a sink was written, where it tells that, and how many of its
+//!   the standard library, which is a [`Device`]: a sink fails only by an answer of that. Contracts see what a sink was written, where it tells that, and how many of its
 //!   calls failed: [`Failures`] is that count, here and for whatever else has a device behind it.
 //! - [`laws`]: a number, some bytes and a line of fields have one spelling each. So a grammar of such lines
 //!   is unambiguous as soon as no two of its items have the same fields, and one line of what it does not spell
