@@ -118,12 +118,14 @@ pub(crate) fn is_whole(text: &[u8]) -> bool
     matches!(text, [] | [.., b'\n'])
 }
 
-/// Keeps the last bytes of these, so many.
+/// Keeps the last bytes of these, so many. It moves none where those are all, as of a line that goes on from block to block.
 pub(crate) fn keep_last(bytes: &mut Vec<u8>, count: usize)
     requires { count ≤ length bytes.old.items }
     ensures { bytes.new.items ≡ drop (length bytes.old.items - count) bytes.old.items }
 {
     let length = bytes.len();
-    bytes.copy_within(length - count..length, 0);
-    bytes.truncate(count);
+    if count < length {
+        bytes.copy_within(length - count..length, 0);
+        bytes.truncate(count);
+    }
 }

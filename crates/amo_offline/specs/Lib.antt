@@ -1,3 +1,4 @@
 pub mod Fault
+pub mod Pair
 pub mod Statuses
 pub mod ToldFile

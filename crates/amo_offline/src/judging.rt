@@ -7,6 +7,7 @@ ghost use Rattle.amo_offline.specs.Statuses.{IsOfAnswer, IsOfJudgement};
 
 use crate::fault::OfflineFault;
 use crate::names::{Names, open_piece};
+use crate::pair::Pair;
 use crate::pieces::Journal;
 use crate::watched::Watched;
 use amo_audit::{
@@ -34,17 +35,40 @@ pub fn audit_files<R: AllocGlobal + Eprint + Files<File = File> + Print>(
     ensures { IfOk result IsOfAnswer }
 {
     let names = Names::find(rt, file)?;
-    if second.is_none() && names.can_be_read_again(rt) {
-        return audit_streamed(rt, file, names);
-    }
-    let first = Journal::read_of(rt, names)?;
     match second {
-        Some(file) => {
-            let second = Journal::read(rt, file)?;
-            audit_read(rt, &first, Some(&second))
-        }
-        None => audit_read(rt, &first, None),
+        Some(second) => audit_two(rt, file, names, second),
+        None if names.can_be_read_again(rt) => audit_streamed(rt, file, names),
+        None => audit_read(rt, &Journal::read_of(rt, names)?, None),
     }
+}
+
+/// Audits the journal of this name in these files, and the one of a second name. Where none of their files is a pipe or a device, both are read a block at a
+/// time, and nothing of them is kept. Only where they are not judged yes they are read once more, whole, for what is found of them and at which line.
+fn audit_two<R: AllocGlobal + Eprint + Files<File = File> + Print>(
+    rt: &R,
+    file: &str,
+    names: Names,
+    second: &str,
+) -> Result<u8, OfflineFault>
+    ensures { IfOk result IsOfAnswer }
+{
+    if !names.are_files(rt) {
+        let first = Journal::read_of(rt, names)?;
+        return audit_read(rt, &first, Some(&Journal::read(rt, second)?));
+    }
+    let others = Names::find(rt, second)?;
+    if !others.are_files(rt) {
+        let first = Journal::read_of(rt, names)?;
+        return audit_read(rt, &first, Some(&Journal::read_of(rt, others)?));
+    }
+    let mut pair = Pair::new(names, others);
+    if pair.is_judged_yes(rt)? {
+        let status = write_verdict::<R, Brand>(rt, Verdict::Yes, Blank::new(1))?;
+        pair.tell_missing(rt);
+        return Ok(status);
+    }
+    let first = Journal::read(rt, file)?;
+    audit_read(rt, &first, Some(&Journal::read(rt, second)?))
 }
 
 /// Audits a journal that was read, or two, tells the verdict, and answers the status to end with.

@@ -20,6 +20,7 @@ mod identity;
 mod judging;
 mod line_place;
 mod names;
+mod pair;
 mod pieces;
 mod progress;
 mod replaying;
