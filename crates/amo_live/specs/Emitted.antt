@@ -25,6 +25,11 @@ abbrev pub keeping : Bool → List ℕ → RecentState → RecentState
 keeping true packet r = record r { answer = Some packet }
 keeping false packet r = record r { of_mode = Some packet }
 
+-- the one of the two that such a packet takes the place of
+abbrev pub kept_as : Bool → RecentState → Option (List ℕ)
+kept_as true r = r.answer
+kept_as false r = r.of_mode
+
 -- these bytes are one of the two
 abbrev pub IsRecent : RecentState → List ℕ → Type 0
 IsRecent r bytes = (r.of_mode ≡ Some bytes) ⊎ (r.answer ≡ Some bytes)

@@ -10,12 +10,20 @@ use amo_packet::MAX_PACKET;
 use std::alloc::{AllocError, Global};
 use std::marker::Model;
 
+/// How many packets that are kept no more wait for others: as many as a turn of all streams lets leave.
+const MOST_SPARE: usize = 256;
+
+/// The most bytes for which one has room that waits. So none that was long keeps its room.
+const MOST_ROOM: usize = 256;
+
 /// The packets that are to leave, in their order, and for each place those that its side emitted of late. Contracts see the bytes of each.
 #[derive(Drop)]
 pub struct Outbox {
     alloc: Global,
     parcels: Vec<Parcel>,
     recent: Vec<Recent>,
+    // Packets that are kept no more, whose room waits for others.
+    spare: Vec<Parcel>,
 }
 
 impl Model for Outbox {
@@ -41,6 +49,7 @@ impl Outbox {
             alloc,
             parcels: Vec::new(alloc),
             recent,
+            spare: Vec::new(alloc),
         })
     }
 
@@ -61,9 +70,11 @@ impl Outbox {
         let Some(count) = count else {
             return Ok(());
         };
-        let kept = Parcel::copy(self.alloc, buffer, count)?;
+        let kept = Parcel::copy(self.alloc, self.spare.pop(), buffer, count)?;
         self.add(buffer, count)?;
-        self.recent[place].keep(is_answer, kept);
+        if let Some(parcel) = self.recent[place].keep(is_answer, kept) {
+            give_back(&mut self.spare, parcel);
+        }
         Ok(())
     }
 
@@ -95,7 +106,7 @@ impl Outbox {
         ensures recent { self.new.recent ≡ self.old.recent }
         ensures unchanged { OnErr result (self.new ≡ self.old) }
     {
-        let parcel = Parcel::copy(self.alloc, buffer, count)?;
+        let parcel = Parcel::copy(self.alloc, self.spare.pop(), buffer, count)?;
         self.parcels.push(parcel)?;
         Ok(())
     }
@@ -119,7 +130,26 @@ impl Outbox {
                 failed += 1;
             }
         }
-        self.parcels.clear();
+        give_back_all(&mut self.spare, &mut self.parcels);
         failed as u64
+    }
+}
+
+/// None of these packets is kept any more.
+fn give_back_all(spare: &mut Vec<Parcel>, parcels: &mut Vec<Parcel>)
+    ensures { parcels.new.items ≡ [] }
+{
+    'parcels: for _parcel in 0..parcels.len() {
+        if let Some(parcel) = parcels.pop() {
+            give_back(spare, parcel);
+        }
+    }
+    parcels.clear();
+}
+
+/// The room of a packet that is kept no more waits for another one, unless it is large, or enough do.
+fn give_back(spare: &mut Vec<Parcel>, parcel: Parcel) {
+    if spare.len() < MOST_SPARE && parcel.room() <= MOST_ROOM {
+        let _ = spare.push(parcel);
     }
 }

@@ -1,6 +1,6 @@
 //! What a stream's side emitted of late.
 ghost use Rattle.std.specs.Prelude.{◌≡◌, IsTrue, ◌↔◌};
-ghost use Rattle.amo_live.specs.Emitted.{IsRecent, keeping, nothing_recent};
+ghost use Rattle.amo_live.specs.Emitted.{IsRecent, keeping, kept_as, nothing_recent};
 
 use crate::parcel::Parcel;
 use std::marker::Model;
@@ -39,14 +39,15 @@ impl Recent {
         is_packet(&self.of_mode, bytes) || is_packet(&self.answer, bytes)
     }
 
-    /// This packet was emitted: as an answer, or as a packet of the mode.
-    pub fn keep(&mut self, is_answer: bool, packet: Parcel)
-        ensures { self.new ≡ keeping is_answer packet self.old }
+    /// This packet was emitted: as an answer, or as a packet of the mode. The one that it takes the place of comes back.
+    pub fn keep(&mut self, is_answer: bool, packet: Parcel) -> Option<Parcel>
+        ensures kept { self.new ≡ keeping is_answer packet self.old }
+        ensures back { result ≡ kept_as is_answer self.old }
     {
         if is_answer {
-            self.answer = Some(packet);
+            self.answer.replace(packet)
         } else {
-            self.of_mode = Some(packet);
+            self.of_mode.replace(packet)
         }
     }
 }
