@@ -50,7 +50,7 @@ impl Pair {
         let Ok(mut audit) = PairAudit::new(rt.alloc()) else {
             return Err(OfflineFault::NoMemory);
         };
-        'blocks: for _block in 0..u64::MAX {
+        'rounds: for _round in 0..u64::MAX {
             match audit.go_on()? {
                 Progress::Wants(which) => {
                     if !self.journal(which).read_on(rt, &mut audit, which)? {
