@@ -139,12 +139,9 @@ impl Outbox {
 fn give_back_all(spare: &mut Vec<Parcel>, parcels: &mut Vec<Parcel>)
     ensures { parcels.new.items ≡ [] }
 {
-    'parcels: for _parcel in 0..parcels.len() {
-        if let Some(parcel) = parcels.pop() {
-            give_back(spare, parcel);
-        }
+    'parcels: while let Some(parcel) = parcels.pop() {
+        give_back(spare, parcel);
     }
-    parcels.clear();
 }
 
 /// The room of a packet that is kept no more waits for another one, unless it is large, or enough do.
