@@ -4,7 +4,7 @@ use Rattle.std.specs.Fmt.{decimal}
 use Rattle.std.proofs.lemmas.Fmt.{decimal_injective}
 use Rattle.clap.specs.Words.{Row, Text}
 use Rattle.amo_arguments.specs.Arguments.{BlamesIf, FindsNone, RefusesIf}
-use Rattle.amo_arguments.specs.Chosen.{HasAddress, HasCeiling, HasFlag, HasHost, HasNumberIn, HasNumberOrNoneIn, HasDoorCall, HasSend, HasServe, HasServedHost, HasSide, HasStream, HasText, HasValuesOf, IsKept, SendsOrReceives, call_name, link_name, shell_name}
+use Rattle.amo_arguments.specs.Chosen.{HasAddress, HasCeiling, HasFlag, HasHost, HasNoMore, HasNumberIn, HasNumberOrNoneIn, HasDoorCall, HasSend, HasServe, HasServedHost, HasSide, HasStream, HasText, HasValuesOf, IsKept, SendsOrReceives, call_name, link_name, shell_name}
 use Rattle.amo_arguments.specs.declared.refusal.Unfit.{Unfit}
 use Rattle.amo_arguments.proofs.Matched.{same_text}
 use Rattle.amo_arguments.proofs.Refused.{blames, refuses}
@@ -128,11 +128,15 @@ call_of rows (call.Done stream file) h = ((stream, string_bytes file), h)
 call_of rows (call.Status stream) h = (stream, h)
 call_of rows (call.Watch after) h = (after, h)
 
-pub no_call : (rows : List Row) (name target : Text) → HasText rows (codes "CALL") name → name ≡ target → (CallOf rows target → ⊥) → (call : DoorCall) → ¬ (HasDoorCall rows call)
-no_call rows name target has is none call h = none (subst (CallOf rows) (same_text _ _ _ h.0 has ∙ is) (call_of rows call h.1))
+pub no_call : (rows : List Row) (name target : Text) → name ≡ target → (CallOf rows target → ⊥) → (call : DoorCall) → ¬ ((name ≡ call_name call) × HasValuesOf rows call)
+no_call rows name target is none call h = none (subst (CallOf rows) (sym h.0 ∙ is) (call_of rows call h.1))
 
-pub no_such_call : (rows : List Row) (name : Text) → HasText rows (codes "CALL") name → ((call : DoorCall) → name ≢ call_name call) → (call : DoorCall) → ¬ (HasDoorCall rows call)
-no_such_call rows name has other call h = other call (same_text _ _ _ has h.0)
+-- what the call of a name has not, no call has
+pub no_values : (rows : List Row) (name : Text) (u : Unfit) → HasText rows (codes "CALL") name → FindsNone (λ (call : DoorCall). (name ≡ call_name call) × HasValuesOf rows call) u → FindsNone (HasDoorCall rows) u
+no_values rows name u has = refuses u (λ none call h. none call (same_text _ _ _ has h.0, h.1))
+
+pub more_than_used : (rows : List Row) (name : Text) (u : Unfit) → HasText rows (codes "CALL") name → RefusesIf (¬ (HasNoMore rows name)) u → FindsNone (HasDoorCall rows) u
+more_than_used rows name u has = refuses u (λ not call h. not (subst (HasNoMore rows) (same_text _ _ _ h.0 has) h.2))
 
 -- the side of a host with a door
 flag_of_side : (rows : List Row) (s : ServedSide) → HasSide rows s → (flag : Bool) × HasFlag rows (codes "batch") flag

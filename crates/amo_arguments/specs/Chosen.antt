@@ -1,5 +1,5 @@
 -- What the program's arguments choose.
-use Rattle.std.specs.Prelude.{◌≡◌, ◌≢◌, ℕ, ◌≤◌, Bool, false, not, ◌&&◌, ◌||◌, if◌then◌else◌, List, [], ◌∷◌, ◌++◌, Option, Some, None, IfSome, codes, length, option_map, string_bytes}
+use Rattle.std.specs.Prelude.{◌≡◌, ◌≢◌, ◌⊎◌, ℕ, ◌≤◌, Bool, false, not, ◌&&◌, ◌||◌, if◌then◌else◌, List, [], ◌∷◌, ◌++◌, Option, Some, None, IfSome, codes, length, option_map, string_bytes}
 use Rattle.hex.specs.Hex.{IsBytes}
 use Rattle.std.specs.Fmt.{decimal}
 use Rattle.clap.specs.Words.{Row, Text, first_of, one_of, subcommand_of, subcommand_rows_of}
@@ -204,9 +204,16 @@ HasValuesOf rows (call.Done stream file) = IsKept rows (stream, string_bytes fil
 HasValuesOf rows (call.Status stream) = HasStream rows stream
 HasValuesOf rows (call.Watch after) = HasNumberOrNoneIn rows (codes "after") 0 18446744073709551615 after
 
+-- the matches of `call` have nothing that a call of this name has no use for
+pub record HasNoMore (rows : List Row) (name : Text) : Type 0 where
+  pub message : name ≢ codes "put" → HasTextOrNone rows (codes "MESSAGE") None
+  pub after : name ≢ codes "watch" → HasTextOrNone rows (codes "after") None
+  pub stream : name ≡ codes "watch" → HasTextOrNone rows (codes "stream") None
+  pub state : (name ≡ codes "watch") ⊎ (name ≡ codes "status") → HasTextOrNone rows (codes "state") None
+
 -- the matches of `call` have this call
 abbrev pub HasDoorCall : List Row → DoorCall → Type 0
-HasDoorCall rows call = HasText rows (codes "CALL") (call_name call) × HasValuesOf rows call
+HasDoorCall rows call = HasText rows (codes "CALL") (call_name call) × HasValuesOf rows call × HasNoMore rows (call_name call)
 
 -- the matches of `call` have these values
 pub record HasCall (rows : List Row) (settings : CallSettings) : Type 0 where

@@ -4,7 +4,7 @@ ghost use Rattle.clap.specs.Words.{first_of, found_of, rows_of, subcommand_rows_
 ghost use Rattle.amo_text.specs.Hexadecimal.{hex};
 ghost use Rattle.amo_settings.specs.Limits.{IsWithin};
 ghost use Rattle.amo_arguments.specs.Arguments.{AreTaken, Finds, FindsNone, IsRefusalOf, IsToldOf, RefusesIf};
-ghost use Rattle.amo_arguments.specs.Chosen.{Chooses, ChoosesBy, HasAddress, HasCall, HasDoorCall, HasFlag, HasGot, HasHost, HasJournal, HasNoSeed, HasCeiling, HasNumberIn, HasNumberOrNoneIn, HasOutcomes, HasReceive, HasRun, HasSend, HasServe, HasServedHost, HasSide, HasState, HasStream, HasText, HasTextOrNone, IsKept, LacksSeed, Matches, MeetsSeedless, SendsOrReceives, Suits, SuitsNone, link_name, shell_name};
+ghost use Rattle.amo_arguments.specs.Chosen.{Chooses, ChoosesBy, HasAddress, HasCall, HasDoorCall, HasFlag, HasGot, HasHost, HasJournal, HasNoMore, HasNoSeed, HasCeiling, HasNumberIn, HasNumberOrNoneIn, HasOutcomes, HasReceive, HasRun, HasSend, HasServe, HasServedHost, HasSide, HasState, HasStream, HasText, HasTextOrNone, HasValuesOf, IsKept, LacksSeed, Matches, MeetsSeedless, SendsOrReceives, Suits, SuitsNone, call_name, link_name, shell_name};
 
 use crate::ArgumentsFault;
 use crate::commands::{
@@ -310,9 +310,18 @@ fn parse_call(alloc: Global, matches: &ArgMatches<'_>) -> Result<Settings, Unfit
 fn parse_door_call(alloc: Global, matches: &ArgMatches<'_>) -> Result<DoorCall, Unfit>
     ensures { Finds result (HasDoorCall (rows_of (found_of matches.now))) }
 {
-    let Some(call) = value_of(matches, "CALL") else {
+    let Some(name) = value_of(matches, "CALL") else {
         return Err(Unfit::Absent);
     };
+    let call = door_call_of(alloc, matches, name)?;
+    check_no_more(alloc, matches, name)?;
+    Ok(call)
+}
+
+/// The call of a door of this name.
+fn door_call_of(alloc: Global, matches: &ArgMatches<'_>, call: &str) -> Result<DoorCall, Unfit>
+    ensures { Finds result (λ found. (call.now ≡ call_name found) × HasValuesOf (rows_of (found_of matches.now)) found) }
+{
     match call {
         "put" => {
             let (stream, state) = kept_of(alloc, matches)?;
@@ -341,6 +350,41 @@ fn parse_door_call(alloc: Global, matches: &ArgMatches<'_>) -> Result<DoorCall, 
         }
         _ => Err(blamed(format!(in alloc; "call {call}: give put, get, done, status or watch"))),
     }
+}
+
+/// That nothing is there which a call of this name has no use for.
+fn check_no_more(alloc: Global, matches: &ArgMatches<'_>, call: &str) -> Result<(), Unfit>
+    ensures fits { OnOk result (HasNoMore (rows_of (found_of matches.now)) call.now) }
+    ensures refused { IfErr result (RefusesIf (¬ (HasNoMore (rows_of (found_of matches.now)) call.now))) }
+{
+    check_unused(alloc, matches, call, "MESSAGE", call == "put")?;
+    check_unused(alloc, matches, call, "after", call == "watch")?;
+    check_unused(alloc, matches, call, "stream", call != "watch")?;
+    check_unused(
+        alloc,
+        matches,
+        call,
+        "state",
+        call != "watch" && call != "status",
+    )
+}
+
+/// That an argument is not there, unless the call of this name uses it.
+fn check_unused(
+    alloc: Global,
+    matches: &ArgMatches<'_>,
+    call: &str,
+    name: &str,
+    is_used: bool,
+) -> Result<(), Unfit>
+    ensures fits { OnOk result (is_used ≡ false → HasTextOrNone (rows_of (found_of matches.now)) name.now None) }
+    ensures refused { IfErr result (RefusesIf ((is_used ≡ false) × ¬ (HasTextOrNone (rows_of (found_of matches.now)) name.now None))) }
+{
+    if is_used || value_of(matches, name).is_none() {
+        return Ok(());
+    }
+    let dashes = if name == "MESSAGE" { "" } else { "--" };
+    Err(blamed(format!(in alloc; "call {call} takes no {dashes}{name}")))
 }
 
 /// The stream of a call that a file keeps, and that file's name.
@@ -373,9 +417,13 @@ fn state_of<'a>(alloc: Global, matches: &ArgMatches<'a>) -> Result<&'a str, Unfi
 {
     match value_of(matches, "state") {
         Some(file) if !file.is_empty() => Ok(file),
-        _ => Err(blamed(String::from_str(
+        Some(_) => Err(blamed(String::from_str(
             alloc,
             "--state has no text: give the name of a file that keeps the call",
+        ))),
+        None => Err(blamed(String::from_str(
+            alloc,
+            "--state is not there: give the name of a file that keeps the call",
         ))),
     }
 }

@@ -147,12 +147,14 @@ impl Refusal {
             Refusal::OtherSide => "that is asked of the host on the other side",
             Refusal::Method(_) => "this place takes other methods",
             Refusal::Slow => "the request did not come in time",
-            Refusal::Conflict => "another number of this stream is next",
+            Refusal::Conflict =>
+                "another number of this stream is next, or the last one is another caller's or has other bytes",
             Refusal::OtherLife => "the host lives another life now",
             Refusal::UnknownLife => "the host knows of no such life",
             Refusal::UnknownLine =>
                 "the host's journal has no such line: it is not the one of which that was a line",
-            Refusal::TooLong => "the body is too long: a message has 1024 bytes at most",
+            Refusal::TooLong =>
+                "the body is too long: a message has 1024 bytes at most, and only a put has one",
             Refusal::LongTarget => "the target is too long",
             Refusal::Host => "the request is for another host",
             Refusal::LongHead => "the head is too long",
