@@ -1,3 +1,4 @@
 pub mod Served
+pub mod Sides
 pub mod Told
 pub mod Replied

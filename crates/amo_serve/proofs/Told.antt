@@ -5,12 +5,12 @@ use Rattle.std.specs.List.{AllByRecursion}
 use Rattle.std.proofs.lemmas.Bool.{eqb-true}
 use Rattle.std.proofs.lemmas.List.{append_cancel_right}
 use Rattle.std.proofs.lemmas.Option.{same_Some}
+use Rattle.amo_object.specs.declared.step.End.{End}
 use Rattle.amo_object.specs.declared.step.End.TheVariants.{Receiver, Sender}
 use Rattle.amo_core.specs.declared.act.Act.TheVariants as act
 use Rattle.amo_core.specs.declared.reply.Reply.TheVariants as event_reply
-use Rattle.amo_world.specs.History.{Extends}
 use Rattle.amo_book.specs.Pass.{PassState, mine}
-use Rattle.amo_live.specs.Callers.{GetsNone, HappensAt, IsSameLife, gets_in}
+use Rattle.amo_live.specs.Callers.{GetsNone, gets_in}
 use Rattle.amo_live.specs.Host.{puts_in}
 use Rattle.amo_live.specs.Noted.{JournalState}
 use Rattle.amo_live.specs.Service.{PutsNone}
@@ -27,14 +27,9 @@ use Rattle.amo_door.specs.Answer.{put_body, status_of_put}
 use Rattle.amo_door.specs.Numbers.{Table, decision}
 use Rattle.amo_door.specs.Refusal.{status_of}
 use Rattle.amo_door.specs.Turns.{Answer, Answers, Claimed, Fresh, Gone, Keeps, NotNow, Repeated, Stands, Turn, Unclaimed, all_made, fresh, in_front, last_made, newest}
-use Rattle.amo_serve.specs.Serving.{AnswersPut, AnswersTake, AnswersUnclaimed, Happened, HasServed, IsFull, IsPut, IsTurn, SpellsPut, SpellsTaken, Takes, TellsPut, TellsTake, WasGot, WasMade, WasPut, got_by_turn, got_by_turns, put_by_turn, put_by_turns}
+use Rattle.amo_serve.specs.Serving.{AnswersPut, AnswersTake, AnswersUnclaimed, Happened, HasServed, IsFull, IsPut, IsTurn, SpellsPut, SpellsTaken, Takes, TellsPut, TellsTake, WasGot, WasPut, got_by_turn, got_by_turns, put_by_turn, put_by_turns}
 use Rattle.amo_serve.specs.declared.responder.taking.Taken.{Taken}
 use Rattle.amo_serve.specs.declared.responder.taking.Taken.TheVariants as taken
-
--- what was made stands there also when more has happened
-made_until : {S : Type 0} (u v w : PassState) (j k : JournalState S) (stream : ℕ) (made : Made) → Extends w.seen v.seen → IsSameLife v w j k → WasMade u v j stream made → WasMade u w k stream made
-made_until u v w j k stream made more life (inl put) = inl (happens_until u v w j k Sender stream (act.Put made.message) event_reply.Ok made.place.position made.place.line more life put)
-made_until u v w j k stream made more life (inr got) = inr (happens_until u v w j k Receiver stream act.Get (event_reply.Got made.message) made.place.position made.place.line more life got)
 
 -- what was made last was made by the newest turn, or before
 made_last : (b : Bool) (now : Option Made) (all : List Made) (made : Made) → newest (in_front (if b then now else None) all) ≡ Some made → ((b ≡ true) × (now ≡ Some made)) ⊎ (newest all ≡ Some made)
@@ -70,12 +65,8 @@ fresh_so Q P (Stands number) made so here is = cc
 fresh_so Q P Gone made so here is = cc
 fresh_so Q P NotNow made so here is = cc
 
--- a message that a turn of a claim made happened where it says: it was put where the turn got nothing, and got where it put nothing
+-- a message that a turn of a claim made was put where it says, if the turn got nothing, and got there if it put nothing
 module _ {S : Type 0} (u v : PassState) (j : JournalState S) (claim : Claim) where
-  made_now : (brings : Option (List ℕ)) (m : Made) → Happened u v j (Claimed claim brings (Fresh m)) → WasMade u v j claim.stream m
-  made_now (Some brought) m at = inl at
-  made_now None m at = inr at
-
   put_now : (brings : Option (List ℕ)) (m : Made) → Happened u v j (Claimed claim brings (Fresh m)) × (got_by_turn (Claimed claim brings (Fresh m)) ≡ []) → WasPut u v j claim.stream m
   put_now (Some brought) m (at, none) = at
   put_now None m (at, none) = cc
@@ -83,9 +74,6 @@ module _ {S : Type 0} (u v : PassState) (j : JournalState S) (claim : Claim) whe
   got_now : (brings : Option (List ℕ)) (m : Made) → Happened u v j (Claimed claim brings (Fresh m)) × (put_by_turn (Claimed claim brings (Fresh m)) ≡ []) → WasGot u v j claim.stream m
   got_now (Some brought) m (at, none) = cc
   got_now None m (at, none) = at
-
-  claimed_made : (brings : Option (List ℕ)) (answer : Answer) (made : Made) → Happened u v j (Claimed claim brings answer) → fresh answer ≡ Some made → WasMade u v j claim.stream made
-  claimed_made brings answer made so is = fresh_so (λ (a : Answer). Happened u v j (Claimed claim brings a)) (WasMade u v j claim.stream) answer made (made_now brings) so is
 
   claimed_put : (brings : Option (List ℕ)) (answer : Answer) (made : Made) → Happened u v j (Claimed claim brings answer) × (got_by_turn (Claimed claim brings answer) ≡ []) → fresh answer ≡ Some made → WasPut u v j claim.stream made
   claimed_put brings answer made so is =
@@ -120,7 +108,7 @@ again_last Conflict last claim brings made none = absurd none
 again_last OtherLife last claim brings made none = absurd none
 
 -- so what turns made last on its stream is what it is answered again
-module _ {S : Type 0} (u v : PassState) (j : JournalState S) (s t : Table) (claim : Claim) (brings : Option (List ℕ)) (made : Made) (served : HasServed u v j s) (keeps : (past : List Turn) → Keeps past s → Keeps (Claimed claim brings (Repeated made) ∷ past) t) where
+module _ {S : Type 0} (side : End) (u v : PassState) (j : JournalState S) (s t : Table) (claim : Claim) (brings : Option (List ℕ)) (made : Made) (served : HasServed side u v j s) (keeps : (past : List Turn) → Keeps past s → Keeps (Claimed claim brings (Repeated made) ∷ past) t) where
   repeated_last : last_made claim.stream served.serves.turns ≡ Some made
   repeated_last =
       let turns = served.serves.turns in
@@ -128,18 +116,14 @@ module _ {S : Type 0} (u v : PassState) (j : JournalState S) (s t : Table) (clai
       let right = (keeps turns kept).right in
       again_last (decision t.life (last_made claim.stream turns) claim brings) (last_made claim.stream turns) claim brings made right.0
 
-  -- and it happened, where it says
-  repeated_made : WasMade u v j claim.stream made
-  repeated_made = last_so (WasMade u v j) (Happened u v j) (claimed_made u v j) (λ of m at. inl at) served.serves.turns claim.stream made served.serves.happened repeated_last
-
-  -- by a put, where nothing was got
+  -- it was put, where nothing was got
   repeated_put : GetsNone u v → WasPut u v j claim.stream made
   repeated_put none =
       let turns = served.serves.turns in
       last_so (WasPut u v j) (λ (turn : Turn). Happened u v j turn × (got_by_turn turn ≡ [])) (claimed_put u v j) (λ of m so. so.0) turns claim.stream made
       (none_got u v j turns served.serves.happened (append_cancel_right (got_by_turns turns) [] (gets_in (mine u)) (sym served.serves.gets ∙ none))) repeated_last
 
-  -- and by a get, where nothing was put
+  -- and got, where nothing was put
   repeated_got : PutsNone u v → WasGot u v j claim.stream made
   repeated_got none =
       let turns = served.serves.turns in
@@ -151,53 +135,48 @@ not_put : (refused status : ℕ) (when : When) → status ≡ refused → 400 �
 not_put refused status Now is far put = let told : status ≡ 201 = put in omega (arith, is, far, told)
 not_put refused status Before is far put = let told : status ≡ 200 = put in omega (arith, is, far, told)
 
-put_told : {S : Type 0} (s t : Table) (u v w : PassState) (j k : JournalState S) (claim : Claim) (message : List ℕ) (answer : DoorAnswer) (told : Answer) → HasServed u v j s → IsTurn s t v w j k (Claimed claim (Some message) told) → SpellsPut s.life claim.stream told answer
+put_told : {S : Type 0} (s t : Table) (u v w : PassState) (j k : JournalState S) (claim : Claim) (message : List ℕ) (answer : DoorAnswer) (told : Answer) → HasServed Sender u v j s → IsTurn s t v w j k (Claimed claim (Some message) told) → SpellsPut s.life claim.stream told answer
     → TellsPut u w k s.life claim.stream answer
 put_told s t u v w j k claim message answer (Fresh made) served turn spelt = λ when status.
-    let put = happens_since u v w k Sender claim.stream (act.Put made.message) event_reply.Ok made.place.position made.place.line served.serves.extends turn.happened in
-    (made, spelt.1, inl put, λ none. put)
+    (made, spelt.1, happens_since u v w k Sender claim.stream (act.Put made.message) event_reply.Ok made.place.position made.place.line served.serves.extends turn.happened)
 put_told s t u v w j k claim message answer (Repeated made) served turn spelt = λ when status. (
   made,
   spelt.1,
-  made_until u v w j k claim.stream made turn.extends turn.goes_on (repeated_made u v j s t claim (Some message) made served turn.keeps),
-  λ none. happens_until u v w j k Sender claim.stream (act.Put made.message) event_reply.Ok made.place.position made.place.line turn.extends turn.goes_on
-      (repeated_put u v j s t claim (Some message) made served turn.keeps (sym turn.gets ∙ none)),
+  happens_until u v w j k Sender claim.stream (act.Put made.message) event_reply.Ok made.place.position made.place.line turn.extends turn.goes_on
+      (repeated_put Sender u v j s t claim (Some message) made served turn.keeps served.alone),
 )
 put_told s t u v w j k claim message answer (Stands number) served turn spelt = λ when status. absurd (not_put 409 answer.status when spelt (omega arith) status)
 put_told s t u v w j k claim message answer Gone served turn spelt = λ when status. absurd (not_put 410 answer.status when spelt (omega arith) status)
 put_told s t u v w j k claim message answer NotNow served turn spelt = λ when status. absurd (not_put 503 answer.status when spelt (omega arith) status)
 
 -- what an answer to a claim to put says was put stands where it says
-pub tells_put : {S : Type 0} (s t : Table) (u v w : PassState) (j k : JournalState S) (claim : Claim) (message : List ℕ) (answer : DoorAnswer) → HasServed u v j s → AnswersPut s t v w j k claim message answer → TellsPut u w k s.life claim.stream answer
+pub tells_put : {S : Type 0} (s t : Table) (u v w : PassState) (j k : JournalState S) (claim : Claim) (message : List ℕ) (answer : DoorAnswer) → HasServed Sender u v j s → AnswersPut s t v w j k claim message answer → TellsPut u w k s.life claim.stream answer
 tells_put s t u v w j k claim message answer served answers = put_told s t u v w j k claim message answer answers.told served answers.turn answers.spelt
 
 -- so does one to what is put without a number
-pub tells_unclaimed : {S : Type 0} (s t : Table) (u v w : PassState) (j k : JournalState S) (stream : ℕ) (message : List ℕ) (answer : DoorAnswer) → HasServed u v j s → AnswersUnclaimed s t v w j k stream message answer → TellsPut u w k s.life stream answer
+pub tells_unclaimed : {S : Type 0} (s t : Table) (u v w : PassState) (j k : JournalState S) (stream : ℕ) (message : List ℕ) (answer : DoorAnswer) → HasServed Sender u v j s → AnswersUnclaimed s t v w j k stream message answer → TellsPut u w k s.life stream answer
 tells_unclaimed s t u v w j k stream message answer served (IsPut made turn bears status body) = λ when again.
-    let put = happens_since u v w k Sender stream (act.Put made.message) event_reply.Ok made.place.position made.place.line served.serves.extends turn.happened in
-    (made, body, inl put, λ none. put)
+    (made, body, happens_since u v w k Sender stream (act.Put made.message) event_reply.Ok made.place.position made.place.line served.serves.extends turn.happened)
 tells_unclaimed s t u v w j k stream message answer served (IsFull same none full) = λ when status. absurd (not_put 503 answer.status when full (omega arith) status)
 
 not_taken : (other status : ℕ) → status ≡ other → 201 ≤ other → status ≡ 200 → ⊥
 not_taken other status is far took = omega (arith, is, far, took)
 
-take_told : {S : Type 0} (s t : Table) (u v w : PassState) (j k : JournalState S) (claim : Claim) (answer : DoorAnswer) (told : Answer) → HasServed u v j s → IsTurn s t v w j k (Claimed claim None told) → SpellsTaken claim.stream told answer
+take_told : {S : Type 0} (s t : Table) (u v w : PassState) (j k : JournalState S) (claim : Claim) (answer : DoorAnswer) (told : Answer) → HasServed Receiver u v j s → IsTurn s t v w j k (Claimed claim None told) → SpellsTaken claim.stream told answer
     → TellsTake u w k claim.stream (taken.Answer answer)
 take_told s t u v w j k claim answer (Fresh made) served turn spelt = λ status.
-    let got = happens_since u v w k Receiver claim.stream act.Get (event_reply.Got made.message) made.place.position made.place.line served.serves.extends turn.happened in
-    (made, spelt, inr got, λ none. got)
+    (made, spelt, happens_since u v w k Receiver claim.stream act.Get (event_reply.Got made.message) made.place.position made.place.line served.serves.extends turn.happened)
 take_told s t u v w j k claim answer (Repeated made) served turn spelt = λ status. (
   made,
   spelt,
-  made_until u v w j k claim.stream made turn.extends turn.goes_on (repeated_made u v j s t claim None made served turn.keeps),
-  λ none. happens_until u v w j k Receiver claim.stream act.Get (event_reply.Got made.message) made.place.position made.place.line turn.extends turn.goes_on
-      (repeated_got u v j s t claim None made served turn.keeps (sym turn.puts ∙ none)),
+  happens_until u v w j k Receiver claim.stream act.Get (event_reply.Got made.message) made.place.position made.place.line turn.extends turn.goes_on
+      (repeated_got Receiver u v j s t claim None made served turn.keeps served.alone),
 )
 take_told s t u v w j k claim answer (Stands number) served turn spelt = λ status. absurd (not_taken 409 answer.status spelt (omega arith) status)
 take_told s t u v w j k claim answer Gone served turn spelt = λ status. absurd (not_taken 410 answer.status spelt (omega arith) status)
 take_told s t u v w j k claim answer NotNow served turn spelt = λ status. absurd (not_taken 204 answer.status spelt (omega arith) status)
 
 -- and so does an answer to a claim to take
-pub tells_take : {S : Type 0} (s t : Table) (u v w : PassState) (j k : JournalState S) (claim : Claim) (took : Taken) → HasServed u v j s → Takes s t v w j k claim took → TellsTake u w k claim.stream took
+pub tells_take : {S : Type 0} (s t : Table) (u v w : PassState) (j k : JournalState S) (claim : Claim) (took : Taken) → HasServed Receiver u v j s → Takes s t v w j k claim took → TellsTake u w k claim.stream took
 tells_take s t u v w j k claim (taken.Answer answer) served answers = take_told s t u v w j k claim answer answers.told served answers.turn answers.spelt
 tells_take s t u v w j k claim (taken.NotYet back) served waits = tt

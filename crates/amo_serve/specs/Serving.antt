@@ -1,6 +1,7 @@
 -- What a host does for those who ask at its door.
-use Rattle.std.specs.Prelude.{◌≡◌, ℕ, ◌⊎◌, Some, None, List, [], ◌∷◌, ◌++◌}
+use Rattle.std.specs.Prelude.{◌≡◌, ℕ, Some, None, List, [], ◌∷◌, ◌++◌}
 use Rattle.std.specs.List.{AllByRecursion}
+use Rattle.amo_object.specs.declared.step.End.{End}
 use Rattle.amo_object.specs.declared.step.End.TheVariants.{Receiver, Sender}
 use Rattle.amo_core.specs.declared.act.Act.TheVariants as act
 use Rattle.amo_core.specs.declared.reply.Reply.TheVariants as event_reply
@@ -94,16 +95,18 @@ WasPut u w k stream made = HappensAt u w k Sender stream (act.Put made.message) 
 abbrev pub WasGot : {S : Type 0} → PassState → PassState → JournalState S → ℕ → Made → Type 0
 WasGot u w k stream made = HappensAt u w k Receiver stream act.Get (event_reply.Got made.message) made.place.position made.place.line
 
--- what was made on a stream happened since that moment, where it says: a put of its message, or a get
-abbrev pub WasMade : {S : Type 0} → PassState → PassState → JournalState S → ℕ → Made → Type 0
-WasMade u w k stream made = WasPut u w k stream made ⊎ WasGot u w k stream made
+-- between two moments messages moved as at a host of this side: a sender's got none, and a receiver's put none
+abbrev pub MovesAs : End → PassState → PassState → Type 0
+MovesAs Sender v w = GetsNone v w
+MovesAs Receiver v w = PutsNone v w
 
--- since that moment, at which nothing was made for callers, a host served them, and what is kept came of that
-pub record HasServed {S : Type 0} (u v : PassState) (j : JournalState S) (s : Table) : Type 0 where
+-- since that moment, at which nothing was made for callers, a host of this side served them, and what is kept came of that; a sender's got nothing meanwhile, and a receiver's put nothing
+pub record HasServed {S : Type 0} (side : End) (u v : PassState) (j : JournalState S) (s : Table) : Type 0 where
   pub first : Table
   pub opened : JournalState S
   pub none : Keeps [] first
   pub serves : Serves first s u v opened j
+  pub alone : MovesAs side u v
 
 -- what the turn of a claim to put was answered is spelt so: what was made, with 201 now and 200 before; or why nothing was
 abbrev pub SpellsPut : List ℕ → ℕ → Answer → DoorAnswer → Type 0
@@ -155,13 +158,12 @@ abbrev pub IsNotYet : Taken → Type 0
 IsNotYet (taken.Answer answer) = ⊥
 IsNotYet (taken.NotYet back) = Unit {0}
 
--- An answer to a claim to put that says what was put, now or before, says it of what was made for that since the host began to serve: so its event stands where it says. It is a
--- put where the host got none meanwhile.
+-- An answer to a claim to put that says what was put, now or before, says it of what was put for that since the host began to serve: so its put stands where it says.
 abbrev pub TellsPut : {S : Type 0} → PassState → PassState → JournalState S → List ℕ → ℕ → DoorAnswer → Type 0
 TellsPut u w k life stream answer =
-    (when : When) → answer.status ≡ status_of_put when → (made : Made) × (answer.body.items ≡ put_body life stream made) × WasMade u w k stream made × (GetsNone u w → WasPut u w k stream made)
+    (when : When) → answer.status ≡ status_of_put when → (made : Made) × (answer.body.items ≡ put_body life stream made) × WasPut u w k stream made
 
--- So does an answer to a claim to take that says what was taken. It is a get where the host put none meanwhile.
+-- So does an answer to a claim to take that says what was taken, of what was got for that.
 abbrev pub TellsTake : {S : Type 0} → PassState → PassState → JournalState S → ℕ → Taken → Type 0
-TellsTake u w k stream (taken.Answer answer) = answer.status ≡ 200 → (made : Made) × CarriesMade stream made answer × WasMade u w k stream made × (PutsNone u w → WasGot u w k stream made)
+TellsTake u w k stream (taken.Answer answer) = answer.status ≡ 200 → (made : Made) × CarriesMade stream made answer × WasGot u w k stream made
 TellsTake u w k stream (taken.NotYet back) = Unit {0}

@@ -6,8 +6,8 @@ ghost use Rattle.amo_live.specs.Service.{words_of};
 ghost use Rattle.amo_live.specs.Words.{BearsNew};
 ghost use Rattle.amo_door.specs.Numbers.{HasStream};
 ghost use Rattle.amo_door.specs.Turns.{Keeps};
-ghost use Rattle.amo_serve.specs.Calls.{AnswersCall};
-ghost use Rattle.amo_serve.specs.Serving.{IsAtOnce, Serves};
+ghost use Rattle.amo_serve.specs.Calls.{AnswersCall, IsFor};
+ghost use Rattle.amo_serve.specs.Serving.{IsAtOnce, MovesAs, Serves};
 ghost use Rattle.amo_serve.specs.States.{IsJournalLine, IsQuestion, IsRefused, TellsCall};
 ghost use Rattle.amo_door.specs.declared.refusal.Refusal.TheVariants.{UnknownLine};
 ghost use Rattle.amo_serve.specs.declared.responder.Reply.TheVariants.{Got};
@@ -23,6 +23,7 @@ use amo_archive::Handshakes;
 use amo_door::{About, Answer, Call, Claim, Happening, Kind, Numbers, Refusal, Word};
 use amo_live::{Lineage, LiveFault, Service};
 use amo_net::Link;
+use amo_object::End;
 use amo_packet::Message;
 use amo_text::Sink;
 use std::alloc::{AllocError, Global};
@@ -47,6 +48,8 @@ pub struct Responder<L, S, W> {
     /// What was made for callers.
     pub numbers: Numbers,
     pub(crate) alloc: Global,
+    /// The side of its host: at a sender's it puts, and at a receiver's it takes.
+    pub(crate) side: End,
     pub(crate) identity: Identity,
     /// How many streams it has.
     pub(crate) streams: u32,
@@ -104,15 +107,18 @@ impl<L: Link + Drop, S: Sink + Drop, W: Lineage + Drop> Responder<L, S, W> {
         lines: u64,
     ) -> Result<Responder<L, S, W>, AllocError>
         ensures service { IfOk result (λ responder. responder.service ≡ service) }
+        ensures side { IfOk result (λ responder. responder.side ≡ service.host.side) }
         // Nothing was made yet for a caller, in this life.
         ensures made { IfOk result (λ responder. Keeps [] responder.numbers) }
         ensures life { IfOk result (λ responder. responder.numbers.life ≡ life) }
     {
         let (numbers, handshakes, news) = nothing_made(alloc, life, streams, lines)?;
+        let side = service.host.side();
         Ok(Responder {
             service,
             numbers,
             alloc,
+            side,
             identity,
             streams,
             handshakes,
@@ -145,20 +151,26 @@ fn nothing_made(
 
 impl<L: Link, S: Sink, W: Lineage> Responder<L, S, W> {
     /// What comes of this call of a client, with the message that its request brought.
-    #[tactic(auto, using(crate::proofs::Served::serves_still, crate::proofs::Served::each_serves))]
+    #[tactic(auto, using(crate::proofs::Served::serves_still, crate::proofs::Served::each_serves, crate::proofs::Sides::each_moves))]
     pub fn respond(&mut self, call: Call, message: Message, now: u64) -> Result<Reply, LiveFault>
         requires { IsNoted S.written self.old.service.host }
         ensures noted { OnOk result (IsNoted S.written self.new.service.host) }
         ensures serves { OnOk result (Serves self.old.numbers self.new.numbers self.old.service.host.pass self.new.service.host.pass self.old.service.host.journal self.new.service.host.journal) }
         ensures words { OnOk result (BearsNew W.is_drawn (words_of self.old.service) (words_of self.new.service) self.old.service.host.pass self.new.service.host.pass) }
+        ensures side { self.new.side ≡ self.old.side }
+        // At a sender's host nothing is got for it, and at a receiver's nothing is put.
+        ensures alone { OnOk result (MovesAs self.old.side self.old.service.host.pass self.new.service.host.pass) }
         // A question is answered by the host as it is, or waits, or goes to the journal.
         ensures told { IfOk result (TellsCall self.old call) }
-        // A call to put or to take is answered as its own turn was, or its own claim waits.
+        // A call to put or to take is answered as its own turn was, or its own claim waits; one of the other side is refused.
         ensures answered { IfOk result (AnswersCall self.old self.new call message) }
         // Nothing happens at the host for it.
         ensures quiet { IsQuestion call → live.HasLooked self.old.service self.new.service }
     {
         self.counts.requests = self.counts.requests.saturating_add(1);
+        if !self.does(&call) {
+            return self.refuse(Refusal::OtherSide);
+        }
         match call {
             Call::Put(claim) => self.respond_to_put(claim, message, now),
             Call::PutNext { stream } => self.respond_to_next(stream, message, now),
@@ -175,6 +187,17 @@ impl<L: Link, S: Sink, W: Lineage> Responder<L, S, W> {
             Call::Health => self.respond_of_health(),
             Call::Page => self.respond_with_page(),
             Call::Got { stream, after } => self.respond_to_got(stream, after),
+        }
+    }
+
+    /// Whether a call is for hosts of its side: one to put for a sender's, one to take for a receiver's, and any other for both.
+    fn does(&self, call: &Call) -> bool
+        ensures { IsTrue result ↔ IsFor self.now.side call.now }
+    {
+        match call {
+            Call::Put(_) | Call::PutNext { .. } => self.side == End::Sender,
+            Call::Take { .. } => self.side == End::Receiver,
+            _ => true,
         }
     }
 

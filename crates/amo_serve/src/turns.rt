@@ -4,7 +4,7 @@ ghost use Rattle.amo_live.specs.Callers.{IsSameLife};
 ghost use Rattle.amo_live.specs.Host.{IsNoted};
 ghost use Rattle.amo_live.specs.Service.{words_of};
 ghost use Rattle.amo_live.specs.Words.{BearsNew};
-ghost use Rattle.amo_serve.specs.Serving.{Serves};
+ghost use Rattle.amo_serve.specs.Serving.{MovesAs, Serves};
 
 use crate::DoorFault;
 use crate::client::Client;
@@ -43,6 +43,9 @@ pub fn serve_door<C: Clock + Eprint + Files<File = File>, L: Link, S: Durable, W
     ensures serves { OnOk result (Serves responder.old.numbers responder.new.numbers responder.old.service.host.pass responder.new.service.host.pass responder.old.service.host.journal responder.new.service.host.journal) }
     // Each word that an event bears was drawn meanwhile, and none is borne twice.
     ensures words { OnOk result (BearsNew W.is_drawn (words_of responder.old.service) (words_of responder.new.service) responder.old.service.host.pass responder.new.service.host.pass) }
+    ensures side { responder.new.side ≡ responder.old.side }
+    // At a sender's host no message was got meanwhile, and at a receiver's none was put.
+    ensures alone { OnOk result (MovesAs responder.old.side responder.old.service.host.pass responder.new.service.host.pass) }
 {
     let start = started(rt)?;
     let errors = Aside::new(rt);
@@ -95,6 +98,8 @@ fn turn_or_tell<C: Files<File = File>, L: Link, S: Durable, W: Lineage>(
     ensures noted { OnOk result (IsNoted S.written responder.new.service.host) }
     ensures serves { OnOk result (Serves responder.old.numbers responder.new.numbers responder.old.service.host.pass responder.new.service.host.pass responder.old.service.host.journal responder.new.service.host.journal) }
     ensures words { OnOk result (BearsNew W.is_drawn (words_of responder.old.service) (words_of responder.new.service) responder.old.service.host.pass responder.new.service.host.pass) }
+    ensures side { responder.new.side ≡ responder.old.side }
+    ensures alone { OnOk result (MovesAs responder.old.side responder.old.service.host.pass responder.new.service.host.pass) }
 {
     match turn(rt, responder, door, archive, sync, now) {
         Ok(()) => Ok(()),
@@ -118,6 +123,8 @@ fn turn<C: Files<File = File>, L: Link, S: Durable, W: Lineage>(
     ensures noted { OnOk result (IsNoted S.written responder.new.service.host) }
     ensures serves { OnOk result (Serves responder.old.numbers responder.new.numbers responder.old.service.host.pass responder.new.service.host.pass responder.old.service.host.journal responder.new.service.host.journal) }
     ensures words { OnOk result (BearsNew W.is_drawn (words_of responder.old.service) (words_of responder.new.service) responder.old.service.host.pass responder.new.service.host.pass) }
+    ensures side { responder.new.side ≡ responder.old.side }
+    ensures alone { OnOk result (MovesAs responder.old.side responder.old.service.host.pass responder.new.service.host.pass) }
 {
     let datagrams = door.datagrams(responder.service.has_come());
     responder.hear(datagrams, now)?;
@@ -145,6 +152,7 @@ fn let_go<C: Files<File = File>, L: Link, S: Durable, W: Lineage>(
     ensures journal { responder.new.service.host.journal ≡ responder.old.service.host.journal }
     ensures numbers { responder.new.numbers ≡ responder.old.numbers }
     ensures words { words_of responder.new.service ≡ words_of responder.old.service }
+    ensures side { responder.new.side ≡ responder.old.side }
 {
     if responder.is_waited_for() {
         responder.leave();
@@ -240,6 +248,8 @@ impl<L: Link, S: Durable, W: Lineage> Responder<L, S, W> {
         ensures noted { OnOk result (IsNoted S.written self.new.service.host) }
         ensures serves { OnOk result (Serves self.old.numbers self.new.numbers self.old.service.host.pass self.new.service.host.pass self.old.service.host.journal self.new.service.host.journal) }
         ensures words { OnOk result (BearsNew W.is_drawn (words_of self.old.service) (words_of self.new.service) self.old.service.host.pass self.new.service.host.pass) }
+        ensures side { self.new.side ≡ self.old.side }
+        ensures alone { OnOk result (MovesAs self.old.side self.old.service.host.pass self.new.service.host.pass) }
     {
         self.service.hear(now, NO_ROOM, datagrams, self.ends)?;
         self.service.resend(now)?;
@@ -252,6 +262,7 @@ impl<L: Link, S: Durable, W: Lineage> Responder<L, S, W> {
     fn tell_peer(&mut self, now: u64) -> Result<(), LiveFault>
         ensures service { self.new.service ≡ self.old.service }
         ensures numbers { self.new.numbers ≡ self.old.numbers }
+        ensures side { self.new.side ≡ self.old.side }
     {
         if !self.service.has_heard() {
             return Ok(());
@@ -271,6 +282,7 @@ impl<L: Link, S: Durable, W: Lineage> Responder<L, S, W> {
     fn tell_settled(&mut self) -> Result<(), LiveFault>
         ensures service { self.new.service ≡ self.old.service }
         ensures numbers { self.new.numbers ≡ self.old.numbers }
+        ensures side { self.new.side ≡ self.old.side }
     {
         for settled in self.service.settled() {
             self.handshakes
@@ -298,6 +310,7 @@ impl<L: Link, S: Durable, W: Lineage> Responder<L, S, W> {
         ensures life { IsSameLife self.old.service.host.pass self.new.service.host.pass self.old.service.host.journal self.new.service.host.journal }
         ensures numbers { self.new.numbers ≡ self.old.numbers }
         ensures words { words_of self.new.service ≡ words_of self.old.service }
+        ensures side { self.new.side ≡ self.old.side }
     {
         self.service.host.write_down(sync)
     }
@@ -316,6 +329,7 @@ impl<L: Link, S: Durable, W: Lineage> Responder<L, S, W> {
         ensures pass { self.new.service.host.pass ≡ self.old.service.host.pass }
         ensures numbers { self.new.numbers ≡ self.old.numbers }
         ensures words { words_of self.new.service ≡ words_of self.old.service }
+        ensures side { self.new.side ≡ self.old.side }
     {
         self.service.clear_shown();
         self.service.host.send();

@@ -3,7 +3,7 @@ ghost use Rattle.std.specs.Prelude.{◌≡◌, IfOk, IsTrue, OnOk, false};
 ghost use Rattle.amo_live.specs.Host.{IsNoted};
 ghost use Rattle.amo_live.specs.Service.{words_of};
 ghost use Rattle.amo_live.specs.Words.{BearsNew};
-ghost use Rattle.amo_serve.specs.Serving.{Serves};
+ghost use Rattle.amo_serve.specs.Serving.{MovesAs, Serves};
 ghost use Rattle.amo_serve.specs.States.{HasLooked};
 ghost use Rattle.amo_serve.specs.Waiting.{IsNext, MayWait};
 
@@ -13,6 +13,7 @@ use crate::responder::{Reply, Responder, Taken};
 use amo_door::{Answer, Claim, Decision, Reader, Step};
 use amo_live::{Durable, Lineage, LiveFault};
 use amo_net::Link;
+use amo_object::End;
 use std::alloc::{AllocError, AllocFailed};
 use std::collections::VecDeque;
 
@@ -108,12 +109,14 @@ fn push_waiter(waiters: &mut VecDeque<Waiter>, waiter: Waiter) -> Result<(), All
 
 impl<L: Link, S: Durable, W: Lineage> Responder<L, S, W> {
     /// Answers the clients whose wait is over, in the order in which they came.
-    #[tactic(auto, using(crate::proofs::Served::serves_still))]
+    #[tactic(auto, using(crate::proofs::Served::serves_still, crate::proofs::Sides::moves_still))]
     pub(crate) fn serve_waiters(&mut self, door: &mut Door, now: u64) -> Result<(), LiveFault>
         requires { IsNoted S.written self.old.service.host }
         ensures noted { OnOk result (IsNoted S.written self.new.service.host) }
         ensures serves { OnOk result (Serves self.old.numbers self.new.numbers self.old.service.host.pass self.new.service.host.pass self.old.service.host.journal self.new.service.host.journal) }
         ensures words { OnOk result (BearsNew W.is_drawn (words_of self.old.service) (words_of self.new.service) self.old.service.host.pass self.new.service.host.pass) }
+        ensures side { self.new.side ≡ self.old.side }
+        ensures alone { OnOk result (MovesAs self.old.side self.old.service.host.pass self.new.service.host.pass) }
     {
         let count = door.waiters.len();
         if count == 0 {
@@ -131,7 +134,7 @@ impl<L: Link, S: Durable, W: Lineage> Responder<L, S, W> {
     }
 
     /// Answers a client whose wait is over: what it waits for is so, its time is over, or it has hung up. Else it waits on.
-    #[tactic(auto, using(crate::proofs::Served::serves_still, crate::proofs::Served::each_serves))]
+    #[tactic(auto, using(crate::proofs::Served::serves_still, crate::proofs::Served::each_serves, crate::proofs::Sides::moves_still, crate::proofs::Sides::each_moves))]
     fn serve_waiter(
         &mut self,
         door: &mut Door,
@@ -143,6 +146,8 @@ impl<L: Link, S: Durable, W: Lineage> Responder<L, S, W> {
         ensures noted { OnOk result (IsNoted S.written self.new.service.host) }
         ensures serves { OnOk result (Serves self.old.numbers self.new.numbers self.old.service.host.pass self.new.service.host.pass self.old.service.host.journal self.new.service.host.journal) }
         ensures words { OnOk result (BearsNew W.is_drawn (words_of self.old.service) (words_of self.new.service) self.old.service.host.pass self.new.service.host.pass) }
+        ensures side { self.new.side ≡ self.old.side }
+        ensures alone { OnOk result (MovesAs self.old.side self.old.service.host.pass self.new.service.host.pass) }
     {
         let Waiter {
             client,
@@ -194,7 +199,7 @@ impl<L: Link, S: Durable, W: Lineage> Responder<L, S, W> {
     }
 
     /// What comes of a wait now, whose client is there or not, and whose time is over or not. Who has hung up takes nothing.
-    #[tactic(auto, using(crate::proofs::Served::serves_still, crate::proofs::Served::each_serves))]
+    #[tactic(auto, using(crate::proofs::Served::serves_still, crate::proofs::Served::each_serves, crate::proofs::Sides::moves_still, crate::proofs::Sides::each_moves))]
     fn look_at_wait(
         &mut self,
         presence: Presence,
@@ -206,6 +211,8 @@ impl<L: Link, S: Durable, W: Lineage> Responder<L, S, W> {
         ensures noted { OnOk result (IsNoted S.written self.new.service.host) }
         ensures serves { OnOk result (Serves self.old.numbers self.new.numbers self.old.service.host.pass self.new.service.host.pass self.old.service.host.journal self.new.service.host.journal) }
         ensures words { OnOk result (BearsNew W.is_drawn (words_of self.old.service) (words_of self.new.service) self.old.service.host.pass self.new.service.host.pass) }
+        ensures side { self.new.side ≡ self.old.side }
+        ensures alone { OnOk result (MovesAs self.old.side self.old.service.host.pass self.new.service.host.pass) }
     {
         if presence != Presence::There {
             return Ok(Waited::Answer(Answer::nothing(self.alloc)));
@@ -231,14 +238,16 @@ impl<L: Link, S: Durable, W: Lineage> Responder<L, S, W> {
     }
 
     /// What comes now of a wait for a message.
-    #[tactic(auto, using(crate::proofs::Served::take_serves, crate::proofs::Served::serves_still, crate::proofs::Served::each_serves))]
+    #[tactic(auto, using(crate::proofs::Served::take_serves, crate::proofs::Served::serves_still, crate::proofs::Served::each_serves, crate::proofs::Sides::moves_still, crate::proofs::Sides::each_moves))]
     fn look_at_take(&mut self, claim: Claim, is_late: bool, now: u64) -> Result<Waited, LiveFault>
         requires { IsNoted S.written self.old.service.host }
         ensures noted { OnOk result (IsNoted S.written self.new.service.host) }
         ensures serves { OnOk result (Serves self.old.numbers self.new.numbers self.old.service.host.pass self.new.service.host.pass self.old.service.host.journal self.new.service.host.journal) }
         ensures words { OnOk result (BearsNew W.is_drawn (words_of self.old.service) (words_of self.new.service) self.old.service.host.pass self.new.service.host.pass) }
+        ensures side { self.new.side ≡ self.old.side }
+        ensures alone { OnOk result (MovesAs self.old.side self.old.service.host.pass self.new.service.host.pass) }
     {
-        if !self.has_stream(claim.stream) {
+        if self.side == End::Sender || !self.has_stream(claim.stream) {
             return Ok(Waited::Answer(Answer::nothing(self.alloc)));
         }
         match self.take(claim, now)? {
@@ -254,6 +263,8 @@ impl<L: Link, S: Durable, W: Lineage> Responder<L, S, W> {
         ensures noted { OnOk result (IsNoted S.written self.new.service.host) }
         ensures serves { OnOk result (Serves self.old.numbers self.new.numbers self.old.service.host.pass self.new.service.host.pass self.old.service.host.journal self.new.service.host.journal) }
         ensures words { OnOk result (BearsNew W.is_drawn (words_of self.old.service) (words_of self.new.service) self.old.service.host.pass self.new.service.host.pass) }
+        ensures side { self.new.side ≡ self.old.side }
+        ensures alone { OnOk result (MovesAs self.old.side self.old.service.host.pass self.new.service.host.pass) }
     {
         self.counts.accepted = door.accepted;
         self.counts.crowded = door.crowded;
@@ -272,7 +283,7 @@ impl<L: Link, S: Durable, W: Lineage> Responder<L, S, W> {
     }
 
     /// Takes a client's next request, if there is the client and that has come whole, and does what it asks.
-    #[tactic(auto, using(crate::proofs::Served::serves_still, crate::proofs::Served::each_serves))]
+    #[tactic(auto, using(crate::proofs::Served::serves_still, crate::proofs::Served::each_serves, crate::proofs::Sides::moves_still, crate::proofs::Sides::each_moves))]
     fn ask(
         &mut self,
         client: Option<&mut Client>,
@@ -284,6 +295,8 @@ impl<L: Link, S: Durable, W: Lineage> Responder<L, S, W> {
         ensures noted { OnOk result (IsNoted S.written self.new.service.host) }
         ensures serves { OnOk result (Serves self.old.numbers self.new.numbers self.old.service.host.pass self.new.service.host.pass self.old.service.host.journal self.new.service.host.journal) }
         ensures words { OnOk result (BearsNew W.is_drawn (words_of self.old.service) (words_of self.new.service) self.old.service.host.pass self.new.service.host.pass) }
+        ensures side { self.new.side ≡ self.old.side }
+        ensures alone { OnOk result (MovesAs self.old.side self.old.service.host.pass self.new.service.host.pass) }
     {
         let Some(client) = client else {
             return Ok(());

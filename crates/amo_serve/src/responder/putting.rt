@@ -35,6 +35,8 @@ impl<L: Link, S: Sink, W: Lineage> Responder<L, S, W> {
         ensures noted { OnOk result (IsNoted S.written self.new.service.host) }
         ensures serves { OnOk result (Serves self.old.numbers self.new.numbers self.old.service.host.pass self.new.service.host.pass self.old.service.host.journal self.new.service.host.journal) }
         ensures words { OnOk result (BearsNew W.is_drawn (words_of self.old.service) (words_of self.new.service) self.old.service.host.pass self.new.service.host.pass) }
+        ensures side { self.new.side ≡ self.old.side }
+        ensures none_got { OnOk result (GetsNone self.old.service.host.pass self.new.service.host.pass) }
         // The answer is that of its own turn, which tells of its own event.
         ensures replies { HasStream self.old.numbers claim.stream → IfOk result (RepliesToPut self.old self.new claim message) }
         ensures no_stream { ¬ (HasStream self.old.numbers claim.stream) → IfOk result (WasRefused NoStream self.old self.new) }
@@ -57,6 +59,8 @@ impl<L: Link, S: Sink, W: Lineage> Responder<L, S, W> {
         ensures noted { OnOk result (IsNoted S.written self.new.service.host) }
         ensures serves { OnOk result (Serves self.old.numbers self.new.numbers self.old.service.host.pass self.new.service.host.pass self.old.service.host.journal self.new.service.host.journal) }
         ensures words { OnOk result (BearsNew W.is_drawn (words_of self.old.service) (words_of self.new.service) self.old.service.host.pass self.new.service.host.pass) }
+        ensures side { self.new.side ≡ self.old.side }
+        ensures none_got { OnOk result (GetsNone self.old.service.host.pass self.new.service.host.pass) }
         ensures replies { HasStream self.old.numbers stream → HasNext self.old.numbers stream → IfOk result (RepliesToNext self.old self.new stream message) }
         ensures used_up { HasStream self.old.numbers stream → ¬ (HasNext self.old.numbers stream) → IfOk result (WasRefused Full self.old self.new) }
         ensures no_stream { ¬ (HasStream self.old.numbers stream) → IfOk result (WasRefused NoStream self.old self.new) }
@@ -80,8 +84,9 @@ impl<L: Link, S: Sink, W: Lineage> Responder<L, S, W> {
         ensures full { IfOk result (λ answer. answer.status ≡ status_of Full → Refuses self.old claim.stream) }
         ensures why { IfOk result (TellsWhy Sender self.old claim.stream) }
         ensures words { OnOk result (BearsNew W.is_drawn (words_of self.old.service) (words_of self.new.service) self.old.service.host.pass self.new.service.host.pass) }
+        ensures side { self.new.side ≡ self.old.side }
         // Now or again, it is told where the event stands that was made for it.
-        ensures told { (u : PassState) → HasServed u self.old.service.host.pass self.old.service.host.journal self.old.numbers
+        ensures told { (u : PassState) → HasServed Sender u self.old.service.host.pass self.old.service.host.journal self.old.numbers
             → IfOk result (TellsPut u self.new.service.host.pass self.new.service.host.journal self.old.numbers.life claim.stream) }
     {
         self.put_once(claim, message, now)
@@ -96,6 +101,7 @@ impl<L: Link, S: Sink, W: Lineage> Responder<L, S, W> {
         ensures full { IfOk result (λ answer. answer.status ≡ status_of Full → Refuses self.old claim.stream) }
         ensures why { IfOk result (TellsWhy Sender self.old claim.stream) }
         ensures words { OnOk result (BearsNew W.is_drawn (words_of self.old.service) (words_of self.new.service) self.old.service.host.pass self.new.service.host.pass) }
+        ensures side { self.new.side ≡ self.old.side }
     {
         let stream = claim.stream;
         match self.numbers.decide_put(&claim, message.bytes()) {
@@ -116,6 +122,7 @@ impl<L: Link, S: Sink, W: Lineage> Responder<L, S, W> {
         ensures full { IfOk result (λ answer. answer.status ≡ status_of Full → Refuses self.old claim.stream) }
         ensures why { IfOk result (TellsWhy Sender self.old claim.stream) }
         ensures words { OnOk result (BearsNew W.is_drawn (words_of self.old.service) (words_of self.new.service) self.old.service.host.pass self.new.service.host.pass) }
+        ensures side { self.new.side ≡ self.old.side }
     {
         let stream = claim.stream;
         let copy = message.clone()?;
@@ -142,6 +149,7 @@ impl<L: Link, S: Sink, W: Lineage> Responder<L, S, W> {
         ensures full { IfOk result (λ answer. answer.status ≡ status_of Full → Refuses self.old stream) }
         ensures why { IfOk result (TellsWhy Sender self.old stream) }
         ensures words { OnOk result (BearsNew W.is_drawn (words_of self.old.service) (words_of self.new.service) self.old.service.host.pass self.new.service.host.pass) }
+        ensures side { self.new.side ≡ self.old.side }
     {
         let copy = message.clone()?;
         let Some(at) = self.put_on(stream, copy, now)? else {
@@ -181,6 +189,7 @@ impl<L: Link, S: Sink, W: Lineage> Responder<L, S, W> {
         ensures told { IfOk result (λ answer. IfSome (last_of self.old.numbers stream) (λ made. (answer.status ≡ status_of_put when) × (answer.body.items ≡ put_body self.old.numbers.life stream made))) }
         ensures numbers { self.new.numbers ≡ self.old.numbers }
         ensures service { self.new.service ≡ self.old.service }
+        ensures side { self.new.side ≡ self.old.side }
     {
         let life = self.numbers.life();
         let Some(made) = self.numbers.last(stream) else {

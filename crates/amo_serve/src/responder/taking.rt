@@ -3,7 +3,7 @@ ghost use Rattle.std.specs.Prelude.{◌≡◌, ◌++◌, IfOk, IfSome, IsSome, N
 ghost use Rattle.amo_object.specs.declared.step.End.TheVariants.{Receiver};
 ghost use Rattle.amo_book.specs.Pass.{PassState};
 ghost use Rattle.amo_live.specs.Host.{IsNoted};
-ghost use Rattle.amo_live.specs.Service.{CannotGet, HasLooked, words_of};
+ghost use Rattle.amo_live.specs.Service.{CannotGet, HasLooked, PutsNone, words_of};
 ghost use Rattle.amo_live.specs.Words.{BearsNew};
 ghost use Rattle.amo_door.specs.declared.claim.Decision.TheVariants as AnyDecision;
 ghost use Rattle.amo_door.specs.declared.refusal.Refusal.TheVariants.{Conflict, NoStream};
@@ -43,6 +43,8 @@ impl<L: Link, S: Sink, W: Lineage> Responder<L, S, W> {
         ensures noted { OnOk result (IsNoted S.written self.new.service.host) }
         ensures serves { OnOk result (Serves self.old.numbers self.new.numbers self.old.service.host.pass self.new.service.host.pass self.old.service.host.journal self.new.service.host.journal) }
         ensures words { OnOk result (BearsNew W.is_drawn (words_of self.old.service) (words_of self.new.service) self.old.service.host.pass self.new.service.host.pass) }
+        ensures side { self.new.side ≡ self.old.side }
+        ensures none_put { OnOk result (PutsNone self.old.service.host.pass self.new.service.host.pass) }
         ensures ends { self.new.ends ≡ true → IfOk result IsAtOnce }
         // The answer is that of its own turn, which tells of its own event; or its own claim waits.
         ensures replies { HasStream self.old.numbers claim.stream → IfOk result (RepliesToTake self.old self.new claim wait) }
@@ -70,8 +72,10 @@ impl<L: Link, S: Sink, W: Lineage> Responder<L, S, W> {
         ensures none { IfOk result (λ taken. IsNotYet taken → CannotGet self.old.service claim.stream) }
         ensures why { IfOk result (TellsWhyNot self.old claim.stream) }
         ensures words { OnOk result (BearsNew W.is_drawn (words_of self.old.service) (words_of self.new.service) self.old.service.host.pass self.new.service.host.pass) }
+        ensures side { self.new.side ≡ self.old.side }
+        ensures none_put { OnOk result (PutsNone self.old.service.host.pass self.new.service.host.pass) }
         // Now or again, it is told where the event stands that was made for it.
-        ensures told { (u : PassState) → HasServed u self.old.service.host.pass self.old.service.host.journal self.old.numbers
+        ensures told { (u : PassState) → HasServed Receiver u self.old.service.host.pass self.old.service.host.journal self.old.numbers
             → IfOk result (TellsTake u self.new.service.host.pass self.new.service.host.journal claim.stream) }
     {
         self.take_once(claim, now)
@@ -86,6 +90,7 @@ impl<L: Link, S: Sink, W: Lineage> Responder<L, S, W> {
         ensures none { IfOk result (λ taken. IsNotYet taken → CannotGet self.old.service claim.stream) }
         ensures why { IfOk result (TellsWhyNot self.old claim.stream) }
         ensures words { OnOk result (BearsNew W.is_drawn (words_of self.old.service) (words_of self.new.service) self.old.service.host.pass self.new.service.host.pass) }
+        ensures side { self.new.side ≡ self.old.side }
     {
         let stream = claim.stream;
         match self.numbers.decide_take(&claim) {
@@ -112,6 +117,7 @@ impl<L: Link, S: Sink, W: Lineage> Responder<L, S, W> {
         ensures none { IfOk result (λ taken. IsNotYet taken → CannotGet self.old.service claim.stream) }
         ensures why { IfOk result (TellsWhyNot self.old claim.stream) }
         ensures words { OnOk result (BearsNew W.is_drawn (words_of self.old.service) (words_of self.new.service) self.old.service.host.pass self.new.service.host.pass) }
+        ensures side { self.new.side ≡ self.old.side }
     {
         let stream = claim.stream;
         let Some((message, at)) = self.service.get_for_caller(stream, now)? else {

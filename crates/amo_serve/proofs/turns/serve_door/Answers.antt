@@ -1,8 +1,9 @@
-use Rattle.std.proofs.Common.{◌≡◌, ap, refl, rules, sym}
+use Rattle.std.proofs.Common.{◌≡◌, ◌∙◌, ap, refl, rules, sym}
 use Rattle.amo_live.specs.Host.{HostState}
 use Rattle.amo_live.specs.Service.{words_of}
 use Rattle.amo_live.proofs.Fresh.{bears_as, bears_none, bears_on}
 use Rattle.amo_serve.proofs.Served.{serves_as, serves_on, serves_still}
+use Rattle.amo_serve.proofs.Sides.{moves_as, moves_on, moves_still}
 use Rattle.amo_serve.proofs.turns.serve_door.Goals as goal
 
 pub turns-init : goal.turns-init
@@ -12,6 +13,8 @@ turns-init g c =
       noted = search rules;
       serves = serves_still first.numbers first.service.host.pass first.service.host.journal;
       words = bears_none (words_of first.service) (words_of first.service) first.service.host.pass first.service.host.pass refl refl;
+      side = refl;
+      alone = moves_still first.side first.service.host.pass;
     }
 
 pub turns-preserved : goal.turns-preserved
@@ -27,4 +30,7 @@ turns-preserved g c =
           (serves_as before.numbers after.numbers before.numbers after.numbers waited.host.pass after.service.host.pass before.service.host.pass after.service.host.pass waited.host.journal k j k refl refl (sym pass) refl (sym journal) refl c.in_ok-turn_or_tell.ensures.serves);
       words = bears_on (words_of first.service) (words_of before.service) (words_of after.service) first.service.host.pass before.service.host.pass after.service.host.pass c.turns.invariant.words
           (bears_as (words_of waited) (words_of after.service) (words_of before.service) (words_of after.service) waited.host.pass after.service.host.pass before.service.host.pass after.service.host.pass (sym c.wait.ensures.4) refl (sym pass) refl c.in_ok-turn_or_tell.ensures.words);
+      side = c.turn_or_tell.ensures.side ∙ c.turns.invariant.side;
+      alone = moves_on first.side before.side first.service.host.pass before.service.host.pass after.service.host.pass c.turns.invariant.side c.turns.invariant.alone
+          (moves_as before.side waited.host.pass after.service.host.pass before.service.host.pass after.service.host.pass (sym pass) refl c.in_ok-turn_or_tell.ensures.alone);
     }

@@ -1,6 +1,7 @@
 use Rattle.std.proofs.Common.{◌≡◌, ◌∙◌, refl, rules}
 use Rattle.amo_world.proofs.Extensions.{further}
 use Rattle.amo_serve.proofs.Served.{serves_none, still_to}
+use Rattle.amo_serve.proofs.Sides.{moves_as, moves_none}
 use Rattle.amo_live.specs.Service.{words_of}
 use Rattle.amo_live.proofs.Fresh.{bears_on}
 use Rattle.amo_live.proofs.Lined.{life_on}
@@ -25,3 +26,10 @@ returns-clause-serves g c =
       further c.resend.new.self.host.pass.seen c.hear.new.self.host.pass.seen first.service.host.pass.seen c.in_ok-resend.ensures.shown.extends c.in_ok-hear.ensures.shown.extends,
       life_on first.service.host.pass c.hear.new.self.host.pass c.resend.new.self.host.pass i c.hear.new.self.host.journal again c.hear.ensures.life c.resend.ensures.life,
     ))
+
+pub returns-clause-alone : goal.returns-clause-alone
+returns-clause-alone g c =
+    let first = c.args.self.now in let heard = c.tell_settled.new.self in let again = c.resend.new.self in
+    let pass : heard.service.host.pass ≡ again.host.pass = search rules in
+    moves_as first.side first.service.host.pass again.host.pass first.service.host.pass heard.service.host.pass refl pass
+    (moves_none first.side first.service.host.pass again.host.pass (c.in_ok-resend.ensures.none_put ∙ c.in_ok-hear.ensures.none_put, c.in_ok-resend.ensures.none_got ∙ c.in_ok-hear.ensures.none_got refl))
