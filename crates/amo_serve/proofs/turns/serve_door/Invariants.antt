@@ -1,3 +1,4 @@
+use Rattle.std.specs.Prelude.{◌≡◌}
 use Rattle.amo_live.specs.Host.{IsNoted}
 use Rattle.amo_live.specs.Service.{words_of}
 use Rattle.amo_live.specs.Words.{BearsNew}

@@ -1,5 +1,5 @@
 use Rattle.std.proofs.lemmas.Result.{IfOk-weaker}
-use Rattle.amo_audit.specs.Pair.{grown}
+use Rattle.amo_audit.specs.Reader.{grown}
 use Rattle.amo_offline.proofs.GoneOn.{one_goes_on, twice_gone_on}
 use Rattle.amo_offline.proofs.pair.Reading.read_file.Goals as goal
 
