@@ -1,4 +1,4 @@
-use Rattle.std.proofs.Common.{◌∷◌, []}
+use Rattle.std.proofs.Common.{◌∷◌}
 use Rattle.amo_offline.proofs.judging.audit_pieces.Goals as goal
 
 pub loop-place-preserved : goal.loop-place-preserved

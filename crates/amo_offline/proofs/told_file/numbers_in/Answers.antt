@@ -1,4 +1,4 @@
-use Rattle.std.proofs.Common.{◌≡◌, ◌∙◌, ◌∷◌, ◌++◌, Some, codes, List, ℕ, ap}
+use Rattle.std.proofs.Common.{◌∙◌, ◌∷◌, ◌++◌, Some, codes, List, ℕ, ap}
 use Rattle.std.proofs.lemmas.Bool.Decides.{Decides-eqb}
 use Rattle.std.proofs.lemmas.Slice.Eq.{strip_prefix_is}
 use Rattle.amo_offline.proofs.told_file.numbers_in.Goals as goal
