@@ -35,6 +35,10 @@ pub(crate) const LINGER: u64 = 1_000_000;
 /// How many bytes of messages are shown in a turn at most: what a pipe that says that it takes more takes without a wait.
 const ROOM: usize = 4096;
 
+/// How many datagrams a turn takes at most where its lines are not put on the disk. Its packets leave at its end, and with more of them the peer, which waits
+/// for those, would have nothing to do meanwhile.
+const DATAGRAMS: u32 = 16;
+
 /// The number of what is not waited for.
 const NOTHING: i32 = -1;
 
@@ -208,7 +212,8 @@ fn turn<C: Clock + Eprint, L: Link, S: Durable, W: Lineage, I: Read, O: Write>(
     ensures puts { desk.new.puts ≡ desk.old.puts }
     ensures unread { OnOk result (desk.old.puts ≡ false → desk.new.reader ≡ desk.old.reader) }
 {
-    let datagrams = desk.wait(rt, service, limit)?;
+    let ready = desk.wait(rt, service, limit)?;
+    let datagrams = datagrams_in(&ready, sync);
     let now = microseconds(rt, start)?;
     let room = desk.room();
     service.hear(now, room, datagrams, desk.bell.was_rung())?;
@@ -351,6 +356,10 @@ fn put_first<L: Link, S: Durable, W: Lineage>(
     ensures words { OnOk result (BearsNew W.is_drawn (words_of service.old) (words_of service.new) service.old.host.pass service.new.host.pass) }
     ensures spells { spelling_of service.new ≡ spelling_of service.old }
 {
+    // Most streams take none in most turns, and a message that is taken out and put back costs more than a look.
+    if !service.takes(stream) {
+        return Ok(false);
+    }
     let Some(named) = kept.take(stream) else {
         return Ok(false);
     };
@@ -563,13 +572,13 @@ impl<I: Read, O: Write> Desk<I, O> {
 
     /// Waits, also until what waits to be shown can be, and reads lines once where some have come, unless as many messages wait to be put as may. Where answers
     /// wait to be shown it looks for the end of lines alone. A host that puts none reads nothing, and ends where nobody reads its messages any more. Answers
-    /// how many datagrams are to be taken.
+    /// what there was.
     fn wait<C: Clock, L: Link, S: Sink, W: Lineage>(
         &mut self,
         rt: &C,
         service: &mut Service<L, S, W>,
         limit: i32,
-    ) -> Result<u32, ServeFault>
+    ) -> Result<Ready, ServeFault>
         ensures listened { Listened service.old service.new }
         ensures unread { OnOk result (self.old.puts ≡ false → self.new.reader ≡ self.old.reader) }
         ensures waits { OnOk result ((bytes : List ℕ) × Consumes (I.remaining self.old.reader) (I.remaining self.new.reader) bytes × Waits self.old.input self.new.input bytes) }
@@ -580,7 +589,6 @@ impl<I: Read, O: Write> Desk<I, O> {
         let reads = self.reads();
         let what = self.waited(reads, has_answers, service.has_unread());
         let ready = wait(rt, service, what, limit);
-        let datagrams = datagrams_in(&ready);
         if ready.is_gone && !self.puts {
             return Err(ServeFault::Gone);
         }
@@ -590,7 +598,7 @@ impl<I: Read, O: Write> Desk<I, O> {
         if ready.lines && reads {
             self.read(has_answers, ready.is_last)?;
         }
-        Ok(datagrams)
+        Ok(ready)
     }
 
     /// How many milliseconds it waits, where it would so many: not at all where a byte was read as answers waited, which wait no longer. It may be the end of a
@@ -781,11 +789,12 @@ fn end_of_lines(bytes: &[u8]) -> usize
 }
 
 /// How many datagrams a turn takes that began so. The first one that a host waited for is mostly alone, and to ask for another costs a call of the system:
-/// one that came all the same begins the next turn.
-fn datagrams_in(ready: &Ready) -> u32 {
+/// one that came all the same begins the next turn. A turn that ends on the disk takes as many as there are: what it waits for there costs more than they do.
+fn datagrams_in(ready: &Ready, sync: bool) -> u32 {
     match (ready.socket, ready.at_once) {
         (false, _) => 0,
         (true, false) => 1,
-        (true, true) => MOST_DATAGRAMS,
+        (true, true) if sync => MOST_DATAGRAMS,
+        (true, true) => DATAGRAMS,
     }
 }

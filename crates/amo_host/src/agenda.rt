@@ -110,8 +110,20 @@ impl Agenda {
         })
     }
 
-    /// The place of the charge of this stream.
+    /// The place of the charge of this stream. Most hosts have the streams from 1 on, each in the place before its number, so it looks there first.
     pub fn place_of(&self, stream: u32) -> Option<usize>
+        ensures found { IfSome result (λ place. slice_get (streams_of self.now.modes) place ≡ Some stream) }
+        ensures absent { IfNone result (¬ (Contains (streams_of self.now.modes) stream)) }
+    {
+        let usual = (stream as usize).saturating_sub(1);
+        match self.modes.get(usual) {
+            Some(known) if known.stream == stream => Some(usual),
+            _ => self.search(stream),
+        }
+    }
+
+    /// The same, by a search.
+    fn search(&self, stream: u32) -> Option<usize>
         ensures found { IfSome result (λ place. slice_get (streams_of self.now.modes) place ≡ Some stream) }
         ensures absent { IfNone result (¬ (Contains (streams_of self.now.modes) stream)) }
     {

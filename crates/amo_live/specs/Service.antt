@@ -1,5 +1,5 @@
 -- A host at work.
-use Rattle.std.specs.Prelude.{◌≡◌, ℕ, zero, suc, Bool, true, false, if◌then◌else◌, Option, Some, List, [], ◌∷◌, ◌++◌, get_or, slice_get, ◌⊎◌, ◌&&◌, nat_lt, is_some, None, length, map}
+use Rattle.std.specs.Prelude.{◌≡◌, ℕ, zero, suc, Bool, true, false, if◌then◌else◌, Option, Some, List, [], ◌∷◌, ◌++◌, get_or, slice_get, ◌⊎◌, ◌&&◌, nat_lt, not, is_some, None, length, map}
 use Rattle.amo_object.specs.declared.step.End.{End}
 use Rattle.amo_object.specs.declared.step.End.TheVariants.{Sender, Receiver}
 use Rattle.amo_core.specs.declared.act.Act.{Act}
@@ -68,6 +68,15 @@ lane_at lanes (suc place) = slice_get lanes place
 
 abbrev pub lane_of : {L S W : Type 0} → Service L S W → ℕ → Option Lane
 lane_of service stream = lane_at service.lanes.items stream
+
+-- Whether a stream takes a message, by what is known of it: it is there, fewer wait on it than a sender holds, and its last message has its answer where
+-- each waits for that.
+abbrev pub takes_in : Bool → Option Lane → Bool
+takes_in each None = false
+takes_in each (Some lane) = not (each && lane.owed) && nat_lt lane.waiting max_waiting
+
+abbrev pub takes_one : {L S W : Type 0} → Service L S W → ℕ → Bool
+takes_one service stream = takes_in service.setup.each (lane_of service stream)
 
 -- how the host's side of a stream stands by the tables, after all that happened at the host
 abbrev pub summary_on : {L S W : Type 0} → Service L S W → ℕ → Summary

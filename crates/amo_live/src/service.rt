@@ -1,5 +1,5 @@
 //! What a live host does with datagrams, times and its clients' messages.
-ghost use Rattle.std.specs.Prelude.{◌≡◌, ◌≢◌, ◌≤◌, ◌↔◌, ℕ, [], Some, false, true, IfNone, IfOk, IfSome, IsTrue, OnOk, is_some, length, take};
+ghost use Rattle.std.specs.Prelude.{◌≡◌, ◌≢◌, ◌≤◌, ◌↔◌, ℕ, [], Some, Ok, false, true, IfNone, IfOk, IfSome, IsTrue, OnOk, is_some, length, take};
 ghost use Rattle.amo_core.specs.declared.mode.Mode.TheVariants.{Quiet, Send};
 ghost use Rattle.amo_packet.specs.Packet.{body_of, packet_of};
 ghost use Rattle.amo_packet.specs.Grammar.{Spells, messages_of};
@@ -7,7 +7,7 @@ ghost use Rattle.amo_journal.specs.Version.{newest};
 ghost use Rattle.amo_live.specs.Callers.{IsSameLife, MovesNone, MovesWithin};
 ghost use Rattle.amo_live.specs.Client.{PutsNamed, has};
 ghost use Rattle.amo_live.specs.Host.{Delivered, Did, IsNoted};
-ghost use Rattle.amo_live.specs.Service.{IsAtRest, got_by, is_in_doubt, lane_of, new_version, nothing_known, settled_by, shown_by, spelling_of, start_of, starts_batches, streams_of, words_of};
+ghost use Rattle.amo_live.specs.Service.{IsAtRest, got_by, is_in_doubt, lane_of, new_version, nothing_known, settled_by, shown_by, spelling_of, start_of, starts_batches, streams_of, takes_one, words_of};
 ghost use Rattle.amo_live.specs.Shown.{BeginsWithPut, ShowsMore, behind, told_in};
 ghost use Rattle.amo_live.specs.Words.{BearsNew, IsNew, StaysDrawn};
 
@@ -322,6 +322,17 @@ impl<L: Link, S: Sink, W: Lineage> Service<L, S, W> {
         self.lanes.get(place).copied()
     }
 
+    /// Whether a stream takes a message now, as far as is known here: it is there, fewer wait on it than a sender holds, and its last one has its answer
+    /// where each waits for that. Where it does not, [`Service::put`] gives a message back.
+    pub fn takes(&self, stream: u32) -> bool
+        ensures { result ≡ takes_one self.now stream }
+    {
+        match self.lane(stream) {
+            Some(lane) => !(self.setup.each && lane.owed) && lane.waiting < MAX_WAITING as u64,
+            None => false,
+        }
+    }
+
     /// From now on this is known of a stream.
     fn set_lane(&mut self, stream: u32, lane: Lane)
         ensures host { self.new.host ≡ self.old.host }
@@ -349,6 +360,7 @@ impl<L: Link, S: Sink, W: Lineage> Service<L, S, W> {
     ) -> Result<Option<NamedMessage>, LiveFault>
         requires { IsNoted S.written self.old.host }
         ensures noted { OnOk result (IsNoted S.written self.new.host) }
+        ensures full { takes_one self.old stream ≡ false → (result ≡ Ok (Some named)) × (self.new ≡ self.old) }
         ensures put { IfOk result (PutsNamed self.old.host.pass self.new.host.pass stream named) }
         ensures told { IfOk result (λ back. IfNone back (BeginsWithPut (spelling_of self.old) stream named.id self.old.host.journal.next (shown_by self.old) (shown_by self.new))) }
         ensures streams { streams_of self.new ≡ streams_of self.old }
@@ -356,12 +368,12 @@ impl<L: Link, S: Sink, W: Lineage> Service<L, S, W> {
         ensures spelling { spelling_of self.new ≡ spelling_of self.old }
         ensures words { OnOk result (BearsNew W.is_drawn (words_of self.old) (words_of self.new) self.old.host.pass self.new.host.pass) }
     {
+        if !self.takes(stream) {
+            return Ok(Some(named));
+        }
         let Some(lane) = self.lane(stream) else {
             return Ok(Some(named));
         };
-        if (self.setup.each && lane.owed) || lane.waiting >= MAX_WAITING as u64 {
-            return Ok(Some(named));
-        }
         let NamedMessage { message, id } = named;
         let line = self.host.next_line();
         match self.host.put(stream, message)? {

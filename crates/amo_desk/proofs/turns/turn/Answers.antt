@@ -13,7 +13,7 @@ use Rattle.amo_desk.proofs.turns.turn.Goals as goal
 
 pub returns-clause-serves : goal.returns-clause-serves
 returns-clause-serves g c =
-    let waits = c.in_ok-datagrams.ensures.waits in
+    let waits = c.in_ok-ready.ensures.waits in
     let synced : c.write_down.new.self.pass ≡ c.take_lines.new.service.host.pass = ap (λ (t : HostState g.row.L.Denot g.row.S.Denot). t.pass) c.in_ok-write_down.ensures.same in
     let cleared : c.hand_out.new.service.host.pass ≡ c.write_down.new.self.pass = search rules in
     let spelling : c.room-room.new.self.spelling ≡ c.args.desk.now.spelling = search rules in
@@ -76,4 +76,4 @@ returns-clause-words g c =
 pub returns-clause-unread : goal.returns-clause-unread
 returns-clause-unread g c =
     let reader : c.hand_out.new.desk.reader ≡ c.wait.new.self.reader = search rules in
-    λ shut. reader ∙ c.in_ok-datagrams.ensures.unread shut
+    λ shut. reader ∙ c.in_ok-ready.ensures.unread shut
