@@ -130,9 +130,17 @@ fn push_packet(text: &mut Vec<u8>, packet: &OwnedPacket) -> Result<(), AllocErro
     ensures { OnOk result (text.new.items ≡ text.old.items ++ hex (spelling packet.now)) }
 {
     let mut short = [0; MAX_PACKET_1];
-    if let Ok(length) = write(&packet.as_packet(), &mut short) {
-        return push_hex(text, &short[..length]);
+    match write(&packet.as_packet(), &mut short) {
+        Ok(length) => push_hex(text, &short[..length]),
+        Err(_) => push_long_packet(text, packet),
     }
+}
+
+/// The same, where it may be long. Its room stays out of the callers, which would make it for each line.
+#[inline(never)]
+fn push_long_packet(text: &mut Vec<u8>, packet: &OwnedPacket) -> Result<(), AllocError>
+    ensures { OnOk result (text.new.items ≡ text.old.items ++ hex (spelling packet.now)) }
+{
     let mut long = [0; MAX_PACKET];
     let Ok(length) = write(&packet.as_packet(), &mut long) else {
         unreachable!()
