@@ -8,7 +8,7 @@
 //! - [`read_journal`] reads the events that bytes spell; [`read_events`] those of the lines behind a heading;
 //!   [`read_into`] has them taken one by one, by whatever a [`TakeEvents`] is.
 //! - [`write_journal`] and [`write_journal_2`] write the one spelling of events in their version.
-//! - [`write_line`] writes the line of one event, and [`read_line`] reads one, for a journal that goes on while things happen;
+//! - [`push_line`] appends the line of one event, and [`read_line`] reads one, for a journal that goes on while things happen;
 //!   [`line_in_front`] reads the first of several.
 //! - [`can_spell`] and [`can_spell_2`] tell which events have a line. Reading asks the same of each line, so one table says which acts a side
 //!   has and which replies an act has.
@@ -25,6 +25,7 @@ pub mod laws;
 mod line_reader;
 mod lines;
 mod numbered;
+mod prepended;
 mod reading;
 mod reply_reader;
 mod spelling;
@@ -34,10 +35,10 @@ mod writing;
 
 pub use amo_text::{Out, Sink};
 pub use fault::JournalFault;
-pub use lines::{Lines, line_in_front, open, read_line, write_line};
+pub use lines::{Lines, line_in_front, open, read_line};
 pub use numbered::Numbered;
 pub use reading::{read_events, read_into, read_journal};
 pub use spelling::{can_spell, can_spell_2};
 pub use taking::TakeEvents;
 pub use version::Version;
-pub use writing::{write_journal, write_journal_2};
+pub use writing::{push_line, write_journal, write_journal_2};

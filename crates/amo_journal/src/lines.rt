@@ -1,16 +1,12 @@
 //! The lines of a journal, one at a time: for one that goes on while things happen, and for one that is read in pieces.
-ghost use Rattle.std.specs.Prelude.{◌≡◌, ◌≢◌, ◌<◌, ◌↔◌, ◌⊎◌, ◌++◌, ℕ, List, IfOk, IfSome, IfNone, OnOk, OnErr, IfErr, IsErrOf, IsTrue};
-ghost use Rattle.std.specs.Io.KnownBytes.{Appends};
-ghost use Rattle.amo_text.specs.Sink.{AppendsFront};
+ghost use Rattle.std.specs.Prelude.{◌≡◌, ◌≢◌, ◌++◌, ℕ, List, IfOk, IfSome, IfNone};
 ghost use Rattle.amo_journal.specs.declared.numbered.Numbered.{Numbered};
 ghost use Rattle.amo_journal.specs.Version.{Opens};
-ghost use Rattle.amo_journal.specs.Journal.{CanSpell, InRange, ReadsAsLine, line_text};
+ghost use Rattle.amo_journal.specs.Journal.{InRange, ReadsAsLine, line_text};
 
 use crate::spelling::keeps_line;
-use crate::writing::push_line;
-use crate::{JournalFault, Numbered, Version};
-use amo_text::{LineItem, Sink, item_in_front, next_line, write_all};
-use amo_world::Event;
+use crate::{Numbered, Version};
+use amo_text::{LineItem, item_in_front, next_line};
 use std::alloc::{AllocError, Global};
 
 /// The first line of a journal of version 2, without its end.
@@ -45,28 +41,6 @@ pub fn open(bytes: &[u8]) -> Lines<'_>
     } else {
         version_1
     }
-}
-
-/// Appends the line of the event of this number, which has one in a journal of this version. It is made whole in the room, and then written.
-///
-/// Where memory or the sink fails, a beginning of the line was appended.
-pub fn write_line<W: Sink>(
-    room: &mut Vec<u8>,
-    version: Version,
-    number: u64,
-    event: &Event,
-    sink: &mut W,
-) -> Result<(), JournalFault>
-    requires { CanSpell version event.now }
-    ensures written { OnOk result (Appends (W.written sink.old) (W.written sink.new) (line_text (record { number = number; event = event.now }))) }
-    ensures begun { OnErr result (AppendsFront (W.written sink.old) (W.written sink.new) (line_text (record { number = number; event = event.now }))) }
-    ensures faults { IfErr result (λ fault. (fault ≡ JournalFault.NoMemory) ⊎ (fault ≡ JournalFault.Device)) }
-    ensures device { IsErrOf result JournalFault.Device ↔ (W.failures sink.old < W.failures sink.new) }
-{
-    room.clear();
-    push_line(room, number, event)?;
-    write_all(sink, room.as_slice())?;
-    Ok(())
 }
 
 /// The line of a journal of this version of which this is the text, without the line's end; none where it is the line of no event.

@@ -5,24 +5,19 @@ ghost use Rattle.amo_journal.specs.Journal.{CanSpell, line_text};
 ghost use Rattle.amo_live.specs.Noted.{Adds, AddsFront, Holds, IsSameJournal, beginning, going_on};
 
 use crate::{Durable, LiveFault};
-use amo_journal::{Version, write_line};
-use amo_text::{Out, Sink, write_all};
+use amo_journal::{Version, push_line};
+use amo_text::{Sink, write_all};
 use amo_world::Event;
 use std::alloc::Global;
-use std::marker::{Brand, Model};
-use std::mem::replace;
+use std::marker::Model;
 use std::snapshot::Snapshot;
-use std::sync::ledger::{Blank, Ledger};
 
 /// A journal that goes on. Contracts see its version, its sink, the number of its next line, of how many of the next events the lines stand, and the line of
 /// the last event; and of when it was opened its sink, the number of the first line to come, what was to stand in front of that, and of how many events the lines stood.
 #[derive(Drop)]
 pub struct Journal<S> {
-    alloc: Global,
     version: Version,
     sink: S,
-    // A line is spelt here.
-    room: Vec<u8>,
     /// The line of the last event, whole before it is written.
     line: Vec<u8>,
     next: u64,
@@ -66,10 +61,8 @@ impl<S: Sink + Drop> Journal<S> {
             return Err(LiveFault::Journal);
         };
         Ok(Journal {
-            alloc,
             version,
             sink,
-            room: Vec::new(alloc),
             line: Vec::new(alloc),
             next: 0,
             left: 0,
@@ -95,10 +88,8 @@ impl<S: Sink> Journal<S> {
         let is_new = Snapshot::of(&false);
         let standing = Snapshot::of(&standing);
         Journal {
-            alloc,
             version,
             sink,
-            room: Vec::new(alloc),
             line: Vec::new(alloc),
             next: lines,
             left,
@@ -179,41 +170,11 @@ impl<S: Sink> Journal<S> {
         ensures memory { IfErr result (λ fault. fault ≡ LiveFault.NoMemory) }
     {
         let number = self.next.saturating_sub(self.left);
-        let text = replace(&mut self.line, Vec::new(self.alloc));
-        self.line = made_line::<Brand>(
-            &mut self.room,
-            text,
-            self.version,
-            number,
-            event,
-            Blank::new(1),
-        )?;
-        Ok(())
-    }
-}
-
-/// The line of the event of this number, in this buffer; it is spelt in the room. The blank becomes the ledger in which contracts count failures.
-fn made_line<L: Ledger>(
-    room: &mut Vec<u8>,
-    buffer: Vec<u8>,
-    version: Version,
-    number: u64,
-    event: &Event,
-    blank: Blank,
-) -> Result<Vec<u8>, LiveFault>
-    requires spelt { CanSpell version event.now }
-    requires name { blank.name ≡ L.name }
-    requires parts { blank.parts ≡ L.parts }
-    requires some { 0 < L.parts }
-    ensures made { IfOk result (λ line. line.items ≡ line_text (record { number = number; event = event.now })) }
-    ensures memory { IfErr result (λ fault. fault ≡ LiveFault.NoMemory) }
-{
-    let mut buffer = buffer;
-    buffer.clear();
-    let mut line: Out<Vec<u8>, L> = Out::new(buffer, blank);
-    match write_line(room, version, number, event, &mut line) {
-        Ok(()) => Ok(line.into_inner()),
-        Err(_) => Err(LiveFault::NoMemory),
+        self.line.clear();
+        match push_line(&mut self.line, number, event) {
+            Ok(()) => Ok(()),
+            Err(_) => Err(LiveFault::NoMemory),
+        }
     }
 }
 

@@ -1,7 +1,7 @@
 use Rattle.std.proofs.Common.{ℕ, List, [], ◌∷◌, ◌++◌, ◌∙◌, sym, ap}
 use Rattle.amo_journal.specs.declared.numbered.Numbered.{Numbered}
 use Rattle.amo_journal.proofs.Fields.{pushed_line, text_of_line}
-use Rattle.amo_journal.proofs.writing.push_line.Goals as goal
+use Rattle.amo_journal.proofs.writing.push_long_line.Goals as goal
 
 pub returns : goal.returns
 returns c =
