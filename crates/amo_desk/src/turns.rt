@@ -35,9 +35,12 @@ pub(crate) const LINGER: u64 = 1_000_000;
 /// How many bytes of messages are shown in a turn at most: what a pipe that says that it takes more takes without a wait.
 const ROOM: usize = 4096;
 
-/// How many datagrams a turn takes at most where its lines are not put on the disk. Its packets leave at its end, and with more of them the peer, which waits
-/// for those, would have nothing to do meanwhile.
-const DATAGRAMS: u32 = 16;
+/// How many datagrams a sender's turn takes at most where its lines are not put on the disk. Its packets leave at its end, and with more of them the peer, which
+/// waits for those, would have nothing to do meanwhile.
+const SENDER_DATAGRAMS: u32 = 40;
+
+/// How many a receiver's takes. It has less to do for each, and what it sends early is there when the sender's next turn begins.
+const RECEIVER_DATAGRAMS: u32 = 16;
 
 /// The number of what is not waited for.
 const NOTHING: i32 = -1;
@@ -150,10 +153,7 @@ pub fn serve<
         let is_over = limits.count.is_some_and(|count| count <= service.got());
         since = (is_over || desk.takes_none(has_answers)).then_some(since.unwrap_or(now));
         let end = end_of(limits, has_answers, since);
-        let is_shown = service.shown().is_empty() && !service.has_unread();
-        let is_at_rest = service.is_at_rest() && is_shown && desk.keeps_none();
-        let holds = desk.bell.was_rung() && service.figures().held > 0;
-        if let Some(ended) = ending(limits, since.is_some() && is_at_rest, holds, end, now) {
+        if let Some(ended) = ending_now(service, desk, limits, since.is_some(), end, now) {
             tell_end(rt, service, desk, ended);
             stats.tell_last(rt, service, now);
             return Ok(desk.ended(ended));
@@ -213,7 +213,7 @@ fn turn<C: Clock + Eprint, L: Link, S: Durable, W: Lineage, I: Read, O: Write>(
     ensures unread { OnOk result (desk.old.puts ≡ false → desk.new.reader ≡ desk.old.reader) }
 {
     let ready = desk.wait(rt, service, limit)?;
-    let datagrams = datagrams_in(&ready, sync);
+    let datagrams = datagrams_in(&ready, sync, desk.puts);
     let now = microseconds(rt, start)?;
     let room = desk.room();
     service.hear(now, room, datagrams, desk.bell.was_rung())?;
@@ -473,6 +473,21 @@ fn end_of(limits: Limits, has_answers: bool, since: Option<u64>) -> Option<u64> 
         None => return None,
     };
     Some(since?.saturating_add(limit))
+}
+
+/// How the host ends, if it does now, where it takes no line any more or still does, and ends then at the latest, if it does.
+fn ending_now<L: Link, S: Durable, W: Lineage, I: Read, O: Write>(
+    service: &Service<L, S, W>,
+    desk: &Desk<I, O>,
+    limits: Limits,
+    takes_none: bool,
+    end: Option<u64>,
+    now: u64,
+) -> Option<Ended> {
+    let is_shown = service.shown().is_empty() && !service.has_unread();
+    let is_at_rest = service.is_at_rest() && is_shown && desk.keeps_none();
+    let holds = desk.bell.was_rung() && service.figures().held > 0;
+    ending(limits, takes_none && is_at_rest, holds, end, now)
 }
 
 /// How the host ends, if it does now: it takes no line any more and is at rest, or this is when it ends at the latest. One that was asked to come to its
@@ -788,13 +803,15 @@ fn end_of_lines(bytes: &[u8]) -> usize
     }
 }
 
-/// How many datagrams a turn takes that began so. The first one that a host waited for is mostly alone, and to ask for another costs a call of the system:
-/// one that came all the same begins the next turn. A turn that ends on the disk takes as many as there are: what it waits for there costs more than they do.
-fn datagrams_in(ready: &Ready, sync: bool) -> u32 {
+/// How many datagrams a turn takes that began so, at a sender or a receiver. The first one that a host waited for is mostly alone, and to ask for another costs
+/// a call of the system: one that came all the same begins the next turn. A turn that ends on the disk takes as many as there are: what it waits for there costs
+/// more than they do.
+fn datagrams_in(ready: &Ready, sync: bool, sends: bool) -> u32 {
     match (ready.socket, ready.at_once) {
         (false, _) => 0,
         (true, false) => 1,
         (true, true) if sync => MOST_DATAGRAMS,
-        (true, true) => DATAGRAMS,
+        (true, true) if sends => SENDER_DATAGRAMS,
+        (true, true) => RECEIVER_DATAGRAMS,
     }
 }

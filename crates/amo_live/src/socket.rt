@@ -1,5 +1,5 @@
 //! The socket of a live host. Whatever it says, the host goes on.
-ghost use Rattle.std.specs.Prelude.{◌≡◌, ◌+◌, ◌<◌, IfOk};
+ghost use Rattle.std.specs.Prelude.{◌≡◌, ◌+◌, ◌<◌, ◌≤◌, IfOk, IfSome};
 
 use crate::{Cause, SocketFault};
 use amo_net::{Link, LinkFault, MAX_DATAGRAM};
@@ -17,6 +17,8 @@ use std::sync::ledger::{Blank, Ledger};
 pub struct Socket<L: Ledger> {
     socket: UdpSocket,
     peer: SocketAddr,
+    /// What others sent before it was connected may wait in it.
+    has_others: bool,
     failures: Failures<L>,
 }
 
@@ -55,8 +57,22 @@ impl<L: Ledger> Socket<L> {
         Ok(Socket {
             socket,
             peer,
+            has_others: true,
             failures: Failures::new(blank),
         })
+    }
+
+    /// The length of the datagram that has come, if it is the peer's. Until none was left once, what others sent may stand in front: there are as many at
+    /// most as the system keeps for a socket.
+    fn take(&mut self, buffer: &mut [u8; MAX_DATAGRAM]) -> io::Result<Option<usize>>
+        ensures length { IfOk result (λ taken. IfSome taken (λ n. n ≤ MAX_DATAGRAM)) }
+        ensures same { self.new ≡ self.old }
+    {
+        if !self.has_others {
+            return Ok(Some(self.socket.recv(buffer.as_mut_slice())?));
+        }
+        let (length, sender) = self.socket.recv_from(buffer.as_mut_slice())?;
+        Ok(is_same(sender, self.peer).then_some(length))
     }
 
     /// Counts a call that failed.
@@ -94,11 +110,12 @@ impl<L: Ledger> Link for Socket<L> {
     }
 
     fn receive(&mut self, buffer: &mut [u8; MAX_DATAGRAM]) -> Result<Option<usize>, LinkFault> {
-        match self.socket.recv_from(buffer.as_mut_slice()) {
-            Ok((length, sender)) if is_same(sender, self.peer) => Ok(Some(length)),
-            // It came before the socket was connected. Others may stand behind it: there are as many at most as the system keeps for a socket.
-            Ok(_) => Ok(None),
-            Err(error) if error.kind() == ErrorKind::WouldBlock => Ok(None),
+        match self.take(buffer) {
+            Ok(length) => Ok(length),
+            Err(error) if error.kind() == ErrorKind::WouldBlock => {
+                self.has_others = false;
+                Ok(None)
+            }
             Err(_) => Err(self.failed()),
         }
     }

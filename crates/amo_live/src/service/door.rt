@@ -60,24 +60,34 @@ impl<L: Link, S: Sink, W: Lineage> Service<L, S, W> {
         ensures told { IfOk result (λ end. told_in end ≢ 0 → IsWhole self.old.host.pass × (told_in end ≡ told_at (summary_on self.old packet.now.stream))) }
         ensures looked { HasLooked self.old self.new }
     {
-        let line = self.host.next_line();
-        let Body::Ack(_, was_got) = packet.body else {
-            return Ok(Settled {
-                stream: packet.stream,
-                was_got: false,
-                messages: 0,
-                is_last: false,
-                line,
-            });
-        };
-        let summary = self.host.look(packet.stream)?;
-        Ok(Settled {
+        let mut end = Settled {
             stream: packet.stream,
-            was_got,
-            messages: summary.held as u64,
-            is_last: summary.waiting == 0,
-            line,
-        })
+            was_got: false,
+            messages: 0,
+            is_last: false,
+            line: self.host.next_line(),
+        };
+        let Body::Ack(_, was_got) = packet.body else {
+            return Ok(end);
+        };
+        end.was_got = was_got;
+        if self.ends_with_one(packet.stream) {
+            end.messages = 1;
+            end.is_last = true;
+            return Ok(end);
+        }
+        let summary = self.host.look(packet.stream)?;
+        end.messages = summary.held as u64;
+        end.is_last = summary.waiting == 0;
+        Ok(end)
+    }
+
+    /// Whether a stream's handshake carries its last message alone, as is known without a look: none waits behind it, and none travel together.
+    fn ends_with_one(&self, stream: u32) -> bool {
+        match self.lane(stream) {
+            Some(lane) => lane.waiting == 0 && !self.batches(),
+            None => false,
+        }
     }
 
     /// A handshake ended so.
