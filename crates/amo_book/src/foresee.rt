@@ -5,14 +5,14 @@ ghost use Rattle.amo_book.specs.Charge.{IsChargeOf};
 ghost use Rattle.amo_book.specs.Foresee.{Foresees};
 
 use crate::{Book, Charge, DriveFault, Pass};
-use amo_core::Act;
+use amo_core::{Act, Summary};
 use amo_packet::MAX_PACKET;
 
 /// What an act would do.
 #[derive(Clone, Copy, Debug, PartialEq, Eq)]
 pub enum Foreseen {
-    /// It would leave the side in another state.
-    Changes,
+    /// It would leave the side in another state than now, where it stands so.
+    Changes(Summary),
     /// It would leave the side as it is, and emit the packet that is so many bytes at the front of the buffer; or nothing.
     Keeps(Option<usize>),
 }

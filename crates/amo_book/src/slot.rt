@@ -61,7 +61,7 @@ impl Housed {
         ensures { Tells (row self.now act.now) self.now buffer.old buffer.new result }
     {
         if self.automaton.is_changed_by(act) {
-            Foreseen::Changes
+            Foreseen::Changes(self.automaton.summary())
         } else {
             Foreseen::Keeps(self.automaton.write_emission(act, buffer))
         }

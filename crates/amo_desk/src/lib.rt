@@ -15,9 +15,11 @@
 
 mod ahead;
 mod clock;
+mod ending;
 mod fault;
 mod keeper;
 mod process;
+mod putting;
 mod ready;
 mod stats;
 mod telling;

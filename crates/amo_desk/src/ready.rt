@@ -53,6 +53,18 @@ pub struct Ready {
     pub bell: bool,
 }
 
+impl Ready {
+    /// A datagram has come. What else has was not asked.
+    pub const OF_DATAGRAMS: Ready = Ready {
+        lines: false,
+        is_last: false,
+        socket: true,
+        at_once: true,
+        is_gone: false,
+        bell: false,
+    };
+}
+
 /// Waits until something has come or the output is gone, or for so many milliseconds; without a limit where that is negative. For a while the service
 /// listens itself: it hears a datagram sooner than the system tells that there is one.
 pub fn wait<C: Clock, L: Link, S: Sink, W: Lineage>(

@@ -2,7 +2,7 @@
 ghost use Rattle.std.specs.Prelude.{◌≡◌, ◌≤◌, IfOk, IfSome, length};
 
 use crate::clock::{microseconds, milliseconds, started};
-use crate::turns::LINGER;
+use crate::ending::LINGER;
 use crate::{Desk, ServeFault};
 use std::io::{self, ErrorKind, Read, Write};
 use std::rt::Clock;

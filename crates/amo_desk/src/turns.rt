@@ -1,22 +1,24 @@
 //! A live host's turns: it waits for its socket and its clients' lines, and does what has come.
-ghost use Rattle.std.specs.Prelude.{◌≡◌, ◌≢◌, ◌≤◌, ◌↔◌, ℕ, List, [], ◌∷◌, None, true, false, IfOk, OnOk, length, take};
+ghost use Rattle.std.specs.Prelude.{◌≡◌, ◌≢◌, ◌≤◌, ◌↔◌, ℕ, List, [], None, true, false, IfOk, OnOk, length, take};
 ghost use Rattle.std.specs.Io.KnownBytes.{Appends, Consumes};
 ghost use Rattle.amo_lines.specs.Backlog.{kept_on};
 ghost use Rattle.amo_lines.specs.Input.{Waits, is_torn};
-ghost use Rattle.amo_desk.specs.Serving.{Moves, Serves, message_of, moment};
+ghost use Rattle.amo_desk.specs.Serving.{Serves, moment};
 ghost use Rattle.amo_live.specs.Host.{IsNoted};
 ghost use Rattle.amo_live.specs.Service.{Listened, shown_by, spelling_of, streams_of, words_of};
-ghost use Rattle.amo_live.specs.Shown.{IsRefusing, IsShown, ShowsMore, behind};
+ghost use Rattle.amo_live.specs.Shown.{IsShown, behind};
 ghost use Rattle.amo_live.specs.Words.{BearsNew};
 ghost use Rattle.amo_live.specs.declared.limits.Ended.TheVariants.{AtRest};
 ghost use Rattle.amo_object.specs.declared.step.End.TheVariants.{Sender};
 
 use crate::ahead::{Ahead, read_byte};
 use crate::clock::{microseconds, milliseconds, started};
+use crate::ending::{end_of, ending_now, until};
+use crate::putting::{Giving, take_lines};
 use crate::ready::{Ready, Waited, takes_more, wait, wait_alone};
 use crate::stats::Stats;
 use crate::{Keeper, ServeFault};
-use amo_lines::{Backlog, Id, Input, Line, LineFault, NamedMessage, Spelling};
+use amo_lines::{Backlog, Input, LineFault, Spelling};
 use amo_live::{
     Bell, Durable, Ended, Figures, Limits, Lineage, MOST_DATAGRAMS, Notices, Service, Setup,
 };
@@ -29,9 +31,6 @@ use std::os::fd::AsRawFd;
 use std::rt::Clock;
 use std::time::Instant;
 
-/// How long a receiver waits at its end for what is still on its way, in microseconds, where it was not told; and a sender, at least, for who reads.
-pub(crate) const LINGER: u64 = 1_000_000;
-
 /// How many bytes of messages are shown in a turn at most: what a pipe that says that it takes more takes without a wait.
 const ROOM: usize = 4096;
 
@@ -41,6 +40,10 @@ const SENDER_DATAGRAMS: u32 = 40;
 
 /// How many a receiver's takes. It has less to do for each, and what it sends early is there when the sender's next turn begins.
 const RECEIVER_DATAGRAMS: u32 = 16;
+
+/// How many of a sender's turns in a row begin with a look at its socket alone, where the last one took as many datagrams as it might. To ask the system what
+/// else has come costs it as much as a datagram.
+const MOST_UNASKED: u32 = 8;
 
 /// The number of what is not waited for.
 const NOTHING: i32 = -1;
@@ -72,6 +75,8 @@ pub struct Desk<I, O> {
     pub kept: Backlog,
     /// Where the host is asked to come to its end.
     pub bell: Bell,
+    /// How many turns more may begin with a look at the host's socket alone.
+    pub unasked: u32,
 }
 
 impl<I: Read + AsRawFd + Drop, O: Write + AsRawFd + Drop> Desk<I, O> {
@@ -105,6 +110,7 @@ impl<I: Read + AsRawFd + Drop, O: Write + AsRawFd + Drop> Desk<I, O> {
             puts: setup.side == End::Sender,
             kept: Backlog::new(alloc, setup.streams)?,
             bell,
+            unasked: 0,
         })
     }
 }
@@ -159,14 +165,8 @@ pub fn serve<
             return Ok(desk.ended(ended));
         }
         let until = stats.until(until(service.next_due(), end));
-        let shown = turn(
-            rt,
-            service,
-            desk,
-            &start,
-            limits.sync,
-            milliseconds(until, now),
-        )?;
+        let limit = milliseconds(until, now);
+        let shown = turn(rt, service, desk, &start, limits.sync, limit)?;
         // Somebody reads answers that waited, and is given as long again.
         if has_answers && shown > 0 && !desk.bell.was_rung() {
             since = None;
@@ -217,10 +217,15 @@ fn turn<C: Clock + Eprint, L: Link, S: Durable, W: Lineage, I: Read, O: Write>(
     let now = microseconds(rt, start)?;
     let room = desk.room();
     service.hear(now, room, datagrams, desk.bell.was_rung())?;
+    desk.expect_more(ready.at_once && service.took_all());
     service.resend(now)?;
     let text_first = !desk.puts || !service.shown().is_empty();
     // After the datagrams: what they made room for is put before the host waits again.
-    take_lines(rt, service, desk, now)?;
+    let at = Giving {
+        now,
+        flows: ready.socket && service.has_waiting_on_each(),
+    };
+    take_lines(rt, service, desk, at)?;
     service.host.write_down(sync)?;
     let count = hand_out(service, desk, text_first)?;
     Ok(count)
@@ -260,267 +265,6 @@ fn hand_out<L: Link, S: Durable, W: Lineage, I: Read, O: Write>(
     Ok(count)
 }
 
-/// Puts what came: first what waits, stream after stream, and then each line, until as many messages wait as may.
-fn take_lines<C: Eprint, L: Link, S: Durable, W: Lineage, I: Read, O: Write>(
-    rt: &C,
-    service: &mut Service<L, S, W>,
-    desk: &mut Desk<I, O>,
-    now: u64,
-) -> Result<(), ServeFault>
-    requires { IsNoted S.written service.old.host }
-    ensures noted { OnOk result (IsNoted S.written service.new.host) }
-    ensures serves { OnOk result (Serves desk.old.spelling desk.old.puts (streams_of service.old) []
-        (moment desk.old.input desk.old.kept service.old.host.pass) (moment desk.new.input desk.new.kept service.new.host.pass)) }
-    ensures streams { streams_of service.new ≡ streams_of service.old }
-    ensures shown { OnOk result (ShowsMore (spelling_of service.old) service.old.host.pass service.new.host.pass (shown_by service.old) (shown_by service.new)) }
-    ensures words { OnOk result (BearsNew W.is_drawn (words_of service.old) (words_of service.new) service.old.host.pass service.new.host.pass) }
-    ensures spells { spelling_of service.new ≡ spelling_of service.old }
-    ensures same { desk.new ≡ record desk.old { input = desk.new.input; kept = desk.new.kept } }
-{
-    if desk.bell.was_rung() {
-        return Ok(());
-    }
-    put_kept(service, &mut desk.kept, now)?;
-    'lines: for _line in 0..u64::MAX {
-        if desk.kept.is_full() {
-            break;
-        }
-        let Some(line) = desk.input.next(desk.spelling)? else {
-            break;
-        };
-        put_line(rt, service, desk, line, now)?;
-    }
-    Ok(())
-}
-
-/// Puts the messages that wait, stream after stream, each as far as it takes them.
-fn put_kept<L: Link, S: Durable, W: Lineage>(
-    service: &mut Service<L, S, W>,
-    kept: &mut Backlog,
-    now: u64,
-) -> Result<(), ServeFault>
-    requires { IsNoted S.written service.old.host }
-    ensures noted { OnOk result (IsNoted S.written service.new.host) }
-    ensures moves { OnOk result (Moves [] kept.old kept.new service.old.host.pass service.new.host.pass) }
-    ensures streams { streams_of service.new ≡ streams_of service.old }
-    ensures shown { OnOk result (ShowsMore (spelling_of service.old) service.old.host.pass service.new.host.pass (shown_by service.old) (shown_by service.new)) }
-    ensures words { OnOk result (BearsNew W.is_drawn (words_of service.old) (words_of service.new) service.old.host.pass service.new.host.pass) }
-    ensures spells { spelling_of service.new ≡ spelling_of service.old }
-{
-    if kept.is_empty() {
-        return Ok(());
-    }
-    let streams = kept.streams();
-    'streams: for place in 0..streams {
-        put_kept_on(service, kept, place.saturating_add(1), now)?;
-    }
-    Ok(())
-}
-
-/// Puts the messages that wait on a stream, until it takes no more.
-fn put_kept_on<L: Link, S: Durable, W: Lineage>(
-    service: &mut Service<L, S, W>,
-    kept: &mut Backlog,
-    stream: u32,
-    now: u64,
-) -> Result<(), ServeFault>
-    requires { IsNoted S.written service.old.host }
-    ensures noted { OnOk result (IsNoted S.written service.new.host) }
-    ensures moves { OnOk result (Moves [] kept.old kept.new service.old.host.pass service.new.host.pass) }
-    ensures streams { streams_of service.new ≡ streams_of service.old }
-    ensures shown { OnOk result (ShowsMore (spelling_of service.old) service.old.host.pass service.new.host.pass (shown_by service.old) (shown_by service.new)) }
-    ensures words { OnOk result (BearsNew W.is_drawn (words_of service.old) (words_of service.new) service.old.host.pass service.new.host.pass) }
-    ensures spells { spelling_of service.new ≡ spelling_of service.old }
-{
-    'messages: for _message in 0..u64::MAX {
-        if !put_first(service, kept, stream, now)? {
-            break;
-        }
-    }
-    Ok(())
-}
-
-/// Puts the first message that waits on a stream. Answers whether it was taken.
-#[tactic(auto, using(amo_live::proofs::Fresh::bears_none))]
-fn put_first<L: Link, S: Durable, W: Lineage>(
-    service: &mut Service<L, S, W>,
-    kept: &mut Backlog,
-    stream: u32,
-    now: u64,
-) -> Result<bool, ServeFault>
-    requires { IsNoted S.written service.old.host }
-    ensures noted { OnOk result (IsNoted S.written service.new.host) }
-    ensures moves { OnOk result (Moves [] kept.old kept.new service.old.host.pass service.new.host.pass) }
-    ensures streams { streams_of service.new ≡ streams_of service.old }
-    ensures shown { OnOk result (ShowsMore (spelling_of service.old) service.old.host.pass service.new.host.pass (shown_by service.old) (shown_by service.new)) }
-    ensures words { OnOk result (BearsNew W.is_drawn (words_of service.old) (words_of service.new) service.old.host.pass service.new.host.pass) }
-    ensures spells { spelling_of service.new ≡ spelling_of service.old }
-{
-    // Most streams take none in most turns, and a message that is taken out and put back costs more than a look.
-    if !service.takes(stream) {
-        return Ok(false);
-    }
-    let Some(named) = kept.take(stream) else {
-        return Ok(false);
-    };
-    match service.put(stream, named, now)? {
-        Some(named) => {
-            kept.put_back(stream, named)?;
-            Ok(false)
-        }
-        None => Ok(true),
-    }
-}
-
-/// Puts the message of a line, if it is one for a stream of this host.
-#[tactic(auto, using(amo_live::proofs::Fresh::bears_none))]
-fn put_line<C: Eprint, L: Link, S: Durable, W: Lineage, I: Read, O: Write>(
-    rt: &C,
-    service: &mut Service<L, S, W>,
-    desk: &mut Desk<I, O>,
-    line: Line,
-    now: u64,
-) -> Result<(), ServeFault>
-    requires { IsNoted S.written service.old.host }
-    ensures noted { OnOk result (IsNoted S.written service.new.host) }
-    ensures moves { OnOk result (Moves (message_of desk.old.puts (streams_of service.old) line) desk.old.kept desk.new.kept service.old.host.pass service.new.host.pass) }
-    ensures streams { streams_of service.new ≡ streams_of service.old }
-    ensures shown { OnOk result (ShowsMore (spelling_of service.old) service.old.host.pass service.new.host.pass (shown_by service.old) (shown_by service.new)) }
-    ensures words { OnOk result (BearsNew W.is_drawn (words_of service.old) (words_of service.new) service.old.host.pass service.new.host.pass) }
-    ensures spells { spelling_of service.new ≡ spelling_of service.old }
-    ensures same { desk.new ≡ record desk.old { kept = desk.new.kept } }
-{
-    match line {
-        Line::Put(stream, named) if desk.puts && service.has(stream) => {
-            put_or_keep(service, &mut desk.kept, stream, named, now)?;
-        }
-        Line::Put(stream, named) => {
-            let fault = LineFault::Stream(u64::from(stream));
-            refuse(rt, service, desk, fault, &named.id)?;
-        }
-        Line::Unread(fault, id) => refuse(rt, service, desk, fault, &id)?,
-    }
-    Ok(())
-}
-
-/// Puts a message, unless others wait on its stream. One that is not taken waits behind them.
-#[tactic(auto, using(amo_live::proofs::Fresh::bears_none))]
-fn put_or_keep<L: Link, S: Durable, W: Lineage>(
-    service: &mut Service<L, S, W>,
-    kept: &mut Backlog,
-    stream: u32,
-    named: NamedMessage,
-    now: u64,
-) -> Result<(), ServeFault>
-    requires { IsNoted S.written service.old.host }
-    ensures noted { OnOk result (IsNoted S.written service.new.host) }
-    ensures moves { OnOk result (Moves ((stream, named) ∷ []) kept.old kept.new service.old.host.pass service.new.host.pass) }
-    ensures streams { streams_of service.new ≡ streams_of service.old }
-    ensures shown { OnOk result (ShowsMore (spelling_of service.old) service.old.host.pass service.new.host.pass (shown_by service.old) (shown_by service.new)) }
-    ensures words { OnOk result (BearsNew W.is_drawn (words_of service.old) (words_of service.new) service.old.host.pass service.new.host.pass) }
-    ensures spells { spelling_of service.new ≡ spelling_of service.old }
-{
-    if kept.has(stream) {
-        kept.keep(stream, named)?;
-        return Ok(());
-    }
-    if let Some(named) = service.put(stream, named, now)? {
-        kept.keep(stream, named)?;
-    }
-    Ok(())
-}
-
-/// Tells why the line that was taken last is none: where lines are objects its client, and else the operator.
-fn refuse<C: Eprint, L: Link, S: Durable, W: Lineage, I: Read, O: Write>(
-    rt: &C,
-    service: &mut Service<L, S, W>,
-    desk: &Desk<I, O>,
-    fault: LineFault,
-    id: &Id,
-) -> Result<(), ServeFault>
-    ensures host { service.new.host ≡ service.old.host }
-    ensures streams { streams_of service.new ≡ streams_of service.old }
-    ensures words { words_of service.new ≡ words_of service.old }
-    ensures spells { spelling_of service.new ≡ spelling_of service.old }
-    ensures told { OnOk result (IsRefusing (shown_by service.old) (shown_by service.new)) }
-{
-    if !desk.puts {
-        return Ok(());
-    }
-    if desk.spelling.json {
-        let reason = reason_of(desk.input.alloc(), fault, service.streams())?;
-        service.tell_refused(id, desk.input.lines(), reason.as_str())?;
-    } else {
-        desk.tell_refused(rt, fault, service.streams());
-    }
-    Ok(())
-}
-
-/// Why a line is none, in words, at a host of so many streams.
-fn reason_of(alloc: Global, fault: LineFault, streams: usize) -> Result<String, AllocError> {
-    match fault {
-        LineFault::Stream(stream) => format!(in alloc; "stream {stream} of {streams}"),
-        _ => format!(in alloc; "{fault}"),
-    }
-}
-
-/// When the host ends at the latest, if it does. Since a time it takes no line, if so. Who reads its answers is given a moment at least.
-fn end_of(limits: Limits, has_answers: bool, since: Option<u64>) -> Option<u64> {
-    let limit = match limits.wait {
-        Some(wait) if has_answers => wait.max(LINGER),
-        Some(wait) => wait,
-        None if limits.lingers => LINGER,
-        None => return None,
-    };
-    Some(since?.saturating_add(limit))
-}
-
-/// How the host ends, if it does now, where it takes no line any more or still does, and ends then at the latest, if it does.
-fn ending_now<L: Link, S: Durable, W: Lineage, I: Read, O: Write>(
-    service: &Service<L, S, W>,
-    desk: &Desk<I, O>,
-    limits: Limits,
-    takes_none: bool,
-    end: Option<u64>,
-    now: u64,
-) -> Option<Ended> {
-    let is_shown = service.shown().is_empty() && !service.has_unread();
-    let is_at_rest = service.is_at_rest() && is_shown && desk.keeps_none();
-    let holds = desk.bell.was_rung() && service.figures().held > 0;
-    ending(limits, takes_none && is_at_rest, holds, end, now)
-}
-
-/// How the host ends, if it does now: it takes no line any more and is at rest, or this is when it ends at the latest. One that was asked to come to its
-/// end and holds messages which were not got does not end at rest.
-fn ending(
-    limits: Limits,
-    is_at_rest: bool,
-    holds: bool,
-    end: Option<u64>,
-    now: u64,
-) -> Option<Ended> {
-    if is_at_rest {
-        return Some(Ended::AtRest);
-    }
-    if now < end? {
-        return None;
-    }
-    if holds || limits.wait.is_some() {
-        Some(Ended::OnItsWay)
-    } else {
-        Some(Ended::AtRest)
-    }
-}
-
-/// When it looks up at the latest: where something is to be sent again, or where it ends.
-fn until(due: Option<u64>, end: Option<u64>) -> Option<u64> {
-    match (due, end) {
-        (Some(due), Some(end)) => Some(due.min(end)),
-        (due, None) => due,
-        (None, end) => end,
-    }
-}
-
 impl<I: Read, O: Write> Desk<I, O> {
     /// Whether no line is taken any more; or none before who reads has answers that wait, and nobody writes more of them.
     pub(crate) fn takes_none(&self, has_answers: bool) -> bool {
@@ -530,7 +274,7 @@ impl<I: Read, O: Write> Desk<I, O> {
     }
 
     /// Whether no message waits to be put: none was refused, or the host comes to its end before.
-    fn keeps_none(&self) -> bool {
+    pub(crate) fn keeps_none(&self) -> bool {
         self.bell.was_rung() || self.kept.is_empty()
     }
 
@@ -585,9 +329,7 @@ impl<I: Read, O: Write> Desk<I, O> {
         }
     }
 
-    /// Waits, also until what waits to be shown can be, and reads lines once where some have come, unless as many messages wait to be put as may. Where answers
-    /// wait to be shown it looks for the end of lines alone. A host that puts none reads nothing, and ends where nobody reads its messages any more. Answers
-    /// what there was.
+    /// Waits, and answers what there was. Where the last turn took as many datagrams as it might, it looks for more of them alone.
     fn wait<C: Clock, L: Link, S: Sink, W: Lineage>(
         &mut self,
         rt: &C,
@@ -597,9 +339,30 @@ impl<I: Read, O: Write> Desk<I, O> {
         ensures listened { Listened service.old service.new }
         ensures unread { OnOk result (self.old.puts ≡ false → self.new.reader ≡ self.old.reader) }
         ensures waits { OnOk result ((bytes : List ℕ) × Consumes (I.remaining self.old.reader) (I.remaining self.new.reader) bytes × Waits self.old.input self.new.input bytes) }
-        ensures same { self.new ≡ record self.old { reader = self.new.reader; input = self.new.input; ahead = self.new.ahead; bell = self.new.bell } }
+        ensures same { self.new ≡ record self.old { reader = self.new.reader; input = self.new.input; ahead = self.new.ahead; bell = self.new.bell; unasked = self.new.unasked } }
     {
         let has_answers = self.puts && !service.shown().is_empty();
+        if self.has_datagram(service, has_answers) {
+            return Ok(Ready::OF_DATAGRAMS);
+        }
+        self.ask(rt, service, has_answers, limit)
+    }
+
+    /// Waits, also until what waits to be shown can be, and reads lines once where some have come, unless as many messages wait to be put as may. Where answers
+    /// wait to be shown it looks for the end of lines alone. A host that puts none reads nothing, and ends where nobody reads its messages any more. Answers
+    /// what there was.
+    fn ask<C: Clock, L: Link, S: Sink, W: Lineage>(
+        &mut self,
+        rt: &C,
+        service: &mut Service<L, S, W>,
+        has_answers: bool,
+        limit: i32,
+    ) -> Result<Ready, ServeFault>
+        ensures listened { Listened service.old service.new }
+        ensures unread { OnOk result (self.old.puts ≡ false → self.new.reader ≡ self.old.reader) }
+        ensures waits { OnOk result ((bytes : List ℕ) × Consumes (I.remaining self.old.reader) (I.remaining self.new.reader) bytes × Waits self.old.input self.new.input bytes) }
+        ensures same { self.new ≡ record self.old { reader = self.new.reader; input = self.new.input; ahead = self.new.ahead; bell = self.new.bell } }
+    {
         let limit = self.limit(has_answers, limit);
         let reads = self.reads();
         let what = self.waited(reads, has_answers, service.has_unread());
@@ -614,6 +377,32 @@ impl<I: Read, O: Write> Desk<I, O> {
             self.read(has_answers, ready.is_last)?;
         }
         Ok(ready)
+    }
+
+    /// Whether a datagram has come, where the turn may begin with that look alone: no answers wait to be shown. Otherwise the system is to be asked.
+    fn has_datagram<L: Link, S: Sink, W: Lineage>(
+        &mut self,
+        service: &mut Service<L, S, W>,
+        has_answers: bool,
+    ) -> bool
+        ensures listened { Listened service.old service.new }
+        ensures same { self.new ≡ record self.old { unasked = self.new.unasked } }
+    {
+        if !has_answers && self.unasked > 0 && service.listen(1) {
+            self.unasked -= 1;
+            return true;
+        }
+        self.unasked = MOST_UNASKED;
+        false
+    }
+
+    /// More datagrams may have come than a turn took, or they may not: then the next one begins with a look at all that may have come.
+    fn expect_more(&mut self, more: bool)
+        ensures { self.new ≡ record self.old { unasked = self.new.unasked } }
+    {
+        if !self.puts || !more {
+            self.unasked = 0;
+        }
     }
 
     /// How many milliseconds it waits, where it would so many: not at all where a byte was read as answers waited, which wait no longer. It may be the end of a
@@ -782,7 +571,7 @@ impl<I: Read, O: Write> Desk<I, O> {
     }
 
     /// Tells why the line that was taken last is none, at a host of so many streams.
-    fn tell_refused<C: Eprint>(&self, rt: &C, fault: LineFault, streams: usize) {
+    pub(crate) fn tell_refused<C: Eprint>(&self, rt: &C, fault: LineFault, streams: usize) {
         let line = self.input.lines();
         let _ = match fault {
             LineFault::Stream(stream) => {

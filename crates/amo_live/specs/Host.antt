@@ -14,6 +14,7 @@ use Rattle.amo_core.specs.declared.reply.Reply.{Reply}
 use Rattle.amo_core.specs.declared.reply.Reply.TheVariants as reply
 use Rattle.amo_core.specs.declared.reply.Reply.TheVariants.{Done, Got}
 use Rattle.amo_core.specs.Automaton.{mode_of, Writes}
+use Rattle.amo_core.specs.Summary.{summary_of}
 use Rattle.amo_world.specs.declared.event.Event.{Event}
 use Rattle.amo_world.specs.Stream.{emission_of}
 use Rattle.amo_world.specs.History.{IsRight, stream_after}
@@ -109,6 +110,10 @@ pub record Happens {L S : Type 0} (h g : HostState L S) (side : End) (stream : �
 pub record IsWhole (v : PassState) : Type 0 where
   pub own : v.seen ≡ mine v
   pub right : IsRight v.seen
+
+-- how many messages are of the handshake that is open on a stream, after all that the pass has seen
+abbrev pub held_on : {L S : Type 0} → HostState L S → ℕ → ℕ
+held_on h stream = (summary_of (automaton_after h.side stream h.pass.seen)).held
 
 -- nothing happened
 abbrev pub IsIdle : {L S : Type 0} → HostState L S → HostState L S → Type 0

@@ -2,6 +2,7 @@
 use Rattle.std.specs.Prelude.{◌≡◌, ℕ, zero, suc, Bool, true, false, if◌then◌else◌, Option, Some, List, [], ◌∷◌, ◌++◌, get_or, slice_get, ◌⊎◌, ◌&&◌, nat_lt, not, is_some, None, length, map}
 use Rattle.amo_object.specs.declared.step.End.{End}
 use Rattle.amo_object.specs.declared.step.End.TheVariants.{Sender, Receiver}
+use Rattle.amo_packet.specs.Batch.{max_batch}
 use Rattle.amo_core.specs.declared.act.Act.{Act}
 use Rattle.amo_core.specs.declared.act.Act.TheVariants as act
 use Rattle.amo_core.specs.declared.mode.Mode.{Mode}
@@ -69,14 +70,19 @@ lane_at lanes (suc place) = slice_get lanes place
 abbrev pub lane_of : {L S W : Type 0} → Service L S W → ℕ → Option Lane
 lane_of service stream = lane_at service.lanes.items stream
 
--- Whether a stream takes a message, by what is known of it: it is there, fewer wait on it than a sender holds, and its last message has its answer where
--- each waits for that.
-abbrev pub takes_in : Bool → Option Lane → Bool
-takes_in each None = false
-takes_in each (Some lane) = not (each && lane.owed) && nat_lt lane.waiting max_waiting
+-- Whether a stream takes a message while fewer than so many wait on it, by what is known of it: it is there, fewer do, and its last message has its answer
+-- where each waits for that.
+abbrev pub takes_in : Bool → ℕ → Option Lane → Bool
+takes_in each most None = false
+takes_in each most (Some lane) = not (each && lane.owed) && nat_lt lane.waiting most
 
+-- whether it takes one, as a sender holds no more
 abbrev pub takes_one : {L S W : Type 0} → Service L S W → ℕ → Bool
-takes_one service stream = takes_in service.setup.each (lane_of service stream)
+takes_one service stream = takes_in service.setup.each max_waiting (lane_of service stream)
+
+-- and whether it lacks one, as fewer wait than travel together at most
+abbrev pub lacks_one : {L S W : Type 0} → Service L S W → ℕ → Bool
+lacks_one service stream = takes_in service.setup.each max_batch (lane_of service stream)
 
 -- how the host's side of a stream stands by the tables, after all that happened at the host
 abbrev pub summary_on : {L S W : Type 0} → Service L S W → ℕ → Summary

@@ -5,16 +5,15 @@ ghost use Rattle.amo_core.specs.declared.act.Act.TheVariants as act;
 ghost use Rattle.amo_core.specs.declared.act.Act.TheVariants.{Resend};
 ghost use Rattle.amo_core.specs.declared.mode.Mode.TheVariants.{Send};
 ghost use Rattle.amo_core.specs.declared.reply.Reply.TheVariants as reply;
-ghost use Rattle.amo_core.specs.Summary.{summary_of};
 ghost use Rattle.amo_journal.specs.declared.version.Version.TheVariants.{Two};
 ghost use Rattle.amo_journal.specs.Version.{HasBatches};
-ghost use Rattle.amo_book.specs.Pass.{automaton_after, event, mine};
+ghost use Rattle.amo_book.specs.Pass.{event, mine};
 ghost use Rattle.amo_host.specs.AtStream.{HasMode, hastened};
 ghost use Rattle.amo_host.specs.Host.{streams_of};
 ghost use Rattle.amo_host.specs.Station.{BelongTogether, IsStation};
 ghost use Rattle.amo_live.specs.Due.{Resent, repeated_if};
 ghost use Rattle.amo_live.specs.Unanswered.{step_of, stepped};
-ghost use Rattle.amo_live.specs.Host.{Delivered, Did, Drives, HasLines, IsBegun, IsNoted, IsWhole, Looks, MayNotBegin, MayNotStart, NotedLast, Stays, Suits, Tried, comes_back, done, done_of, is_start, word_for};
+ghost use Rattle.amo_live.specs.Host.{Delivered, Did, Drives, HasLines, IsBegun, IsNoted, IsWhole, Looks, MayNotBegin, MayNotStart, NotedLast, Stays, Suits, Tried, comes_back, done, done_of, held_on, is_start, word_for};
 
 use crate::noting::note_answer;
 use crate::unanswered::{Step, step_of};
@@ -31,6 +30,15 @@ use std::alloc::AllocError;
 /// The time of an event that sets no timer.
 const NO_TIME: u64 = 0;
 
+/// What a look ahead at an act tells.
+#[derive(Clone, Copy)]
+struct Outlook {
+    /// The act would change nothing, and emit nothing or only a packet that was emitted of late.
+    is_repetition: bool,
+    /// How many messages are of the stream's handshake now, where the act would change something.
+    held: Option<u64>,
+}
+
 impl<L: Link, S: Sink> Host<L, S> {
     /// Begins a handshake on a stream under this word, if its sender is at rest, a message waits and no more handshakes are open than may be. Answers
     /// the kind of its mode then.
@@ -44,7 +52,7 @@ impl<L: Link, S: Sink> Host<L, S> {
         ensures stays { Stays self.old self.new }
     {
         if self.side == End::Sender {
-            self.perform(stream, Act::Start(word), now)
+            self.perform(stream, Act::Start(word), now, None)
         } else {
             Ok(None)
         }
@@ -67,7 +75,7 @@ impl<L: Link, S: Sink> Host<L, S> {
         ensures stays { Stays self.old self.new }
     {
         if self.side == End::Sender {
-            self.perform(stream, Act::Batch(word), now)
+            self.perform(stream, Act::Batch(word), now, None)
         } else {
             Ok(None)
         }
@@ -82,7 +90,7 @@ impl<L: Link, S: Sink> Host<L, S> {
         ensures noted { IsNoted S.written self.new }
         ensures stays { Stays self.old self.new }
     {
-        let is_repeated = self.is_repetition(stream, &Act::Resend)?;
+        let is_repeated = self.look_ahead(stream, &Act::Resend)?.is_repetition;
         if is_repeated {
             self.pump.repeat(stream, now);
             self.traffic.again = self.traffic.again.saturating_add(1);
@@ -100,7 +108,7 @@ impl<L: Link, S: Sink> Host<L, S> {
         ensures begun { OnErr result (IsBegun S.written self.new) }
         ensures stays { Stays self.old self.new }
     {
-        self.perform(stream, Act::Resend, now)
+        self.perform(stream, Act::Resend, now, None)
     }
 
     /// A stream's side goes down, and forgets everything.
@@ -112,7 +120,7 @@ impl<L: Link, S: Sink> Host<L, S> {
         ensures begun { OnErr result (IsBegun S.written self.new) }
         ensures stays { Stays self.old self.new }
     {
-        self.perform(stream, Act::Crash, NO_TIME)
+        self.perform(stream, Act::Crash, NO_TIME, None)
     }
 
     /// A stream's side is up again.
@@ -124,7 +132,7 @@ impl<L: Link, S: Sink> Host<L, S> {
         ensures begun { OnErr result (IsBegun S.written self.new) }
         ensures stays { Stays self.old self.new }
     {
-        self.perform(stream, Act::Recover, NO_TIME)
+        self.perform(stream, Act::Recover, NO_TIME, None)
     }
 
     /// Delivers the packet that a datagram is, a needuid with this word for an accept, if it is one for a side of this host, and the journal has a line
@@ -194,7 +202,7 @@ impl<L: Link, S: Sink> Host<L, S> {
         ensures begun { OnErr result (IsBegun S.written self.new) }
         ensures stays { Stays self.old self.new }
     {
-        match self.perform(stream, act, NO_TIME)? {
+        match self.perform(stream, act, NO_TIME, None)? {
             Some(_) => Ok(()),
             None => Err(LiveFault::Busy),
         }
@@ -209,44 +217,72 @@ impl<L: Link, S: Sink> Host<L, S> {
         ensures begun { OnErr result (IsBegun S.written self.new) }
         ensures stays { Stays self.old self.new }
     {
-        match self.is_repetition(stream, &act) {
-            Ok(false) => self.perform(stream, act, now),
-            Ok(true) => Ok(None),
-            Err(fault) => Err(fault),
+        let outlook = match self.look_ahead(stream, &act) {
+            Ok(outlook) => outlook,
+            Err(fault) => return Err(fault),
+        };
+        if outlook.is_repetition {
+            return Ok(None);
         }
+        self.meet();
+        self.perform(stream, act, now, outlook.held)
     }
 
-    /// Whether this act at a stream would change nothing, and emit nothing or only a packet that was emitted of late. That packet is to leave again
-    /// then.
-    fn is_repetition(&mut self, stream: u32, act: &Act) -> Result<bool, LiveFault>
+    /// Looks ahead at this act at a stream. The packet of a repetition is to leave again then.
+    fn look_ahead(&mut self, stream: u32, act: &Act) -> Result<Outlook, LiveFault>
         requires { IsNoted S.written self.old }
-        ensures looks { IfOk result (Looks self.old self.new stream act.now) }
+        ensures looks { IfOk result (λ outlook. Looks self.old self.new stream act.now outlook.is_repetition) }
+        ensures held { IfOk result (λ outlook. IfSome outlook.held (λ held. held ≡ held_on self.new stream)) }
         ensures noted { IsNoted S.written self.new }
         ensures stays { Stays self.old self.new }
         ensures pump { self.new.pump ≡ self.old.pump }
     {
         let Some(place) = self.place_of(stream) else {
-            return Ok(false);
+            return Ok(Outlook {
+                is_repetition: false,
+                held: None,
+            });
         };
         match self
             .pump
             .foresee(&self.book, &mut self.pass, stream, act, &mut self.room)
         {
-            Ok(Some(Foreseen::Keeps(None))) => Ok(true),
+            Ok(Some(Foreseen::Keeps(None))) => Ok(Outlook {
+                is_repetition: true,
+                held: None,
+            }),
             Ok(Some(Foreseen::Keeps(Some(count)))) => {
                 let Ok(known) = self.outbox.repeat(place, &self.room, count) else {
                     return Err(LiveFault::NoMemory);
                 };
-                Ok(known)
+                Ok(Outlook {
+                    is_repetition: known,
+                    held: None,
+                })
             }
-            Ok(Some(Foreseen::Changes) | None) | Err(_) => Ok(false),
+            Ok(Some(Foreseen::Changes(summary))) => Ok(Outlook {
+                is_repetition: false,
+                held: Some(summary.held as u64),
+            }),
+            Ok(None) | Err(_) => Ok(Outlook {
+                is_repetition: false,
+                held: None,
+            }),
         }
     }
 
-    /// Does this act at a stream, notes it, keeps what it emitted for [`Host::send`], and of a sender the lines that still matter.
+    /// Does this act at a stream, notes it, keeps what it emitted for [`Host::send`], and of a sender the lines that still matter. Where it is known by a look
+    /// ahead how many messages are of the stream's handshake, there is no other look.
     #[tactic(auto, using(crate::proofs::NotedLines::begins_noted))]
-    fn perform(&mut self, stream: u32, act: Act, now: u64) -> Result<Option<Mode>, LiveFault>
+    fn perform(
+        &mut self,
+        stream: u32,
+        act: Act,
+        now: u64,
+        held: Option<u64>,
+    ) -> Result<Option<Mode>, LiveFault>
         requires noted { IsNoted S.written self.old }
+        requires held { IfSome held (λ n. (n ≡ held_on self.old stream) × IsWhole self.old.pass) }
         requires suits { Suits self.old.journal.version self.old.side stream act }
         ensures did { IfOk result (Did self.old self.new stream act) }
         ensures resent { act ≡ Resend → IfOk result (λ mode. IfSome mode (Resent now self.old.pump self.new.pump stream)) }
@@ -256,7 +292,7 @@ impl<L: Link, S: Sink> Host<L, S> {
         ensures stays { Stays self.old self.new }
     {
         let before = self.mode_of(stream);
-        let travelling = match self.travelling(stream, before) {
+        let travelling = match self.travelling(stream, before, held) {
             Ok(messages) => messages,
             Err(fault) => return Err(fault),
         };
@@ -272,15 +308,24 @@ impl<L: Link, S: Sink> Host<L, S> {
         }
     }
 
-    /// How many messages travel in a stream's handshake, if its side is in the mode of a sender that sends.
-    fn travelling(&mut self, stream: u32, mode: Option<Mode>) -> Result<u64, LiveFault>
-        ensures sends { mode ≡ Some Send → IfOk result (λ messages. messages ≡ (summary_of (automaton_after self.old.side stream self.old.pass.seen)).held) }
+    /// How many messages travel in a stream's handshake, if its side is in the mode of a sender that sends, where it may be known how many are of it.
+    fn travelling(
+        &mut self,
+        stream: u32,
+        mode: Option<Mode>,
+        held: Option<u64>,
+    ) -> Result<u64, LiveFault>
+        requires held { IfSome held (λ n. (n ≡ held_on self.old stream) × IsWhole self.old.pass) }
+        ensures sends { mode ≡ Some Send → IfOk result (λ messages. messages ≡ held_on self.old stream) }
         ensures whole { mode ≡ Some Send → OnOk result (IsWhole self.new.pass) }
         ensures same { self.new ≡ record self.old { other = self.new.other } }
     {
         let Some(Mode::Send) = mode else {
             return Ok(0);
         };
+        if let Some(messages) = held {
+            return Ok(messages);
+        }
         match self.look(stream) {
             Ok(summary) => Ok(summary.held as u64),
             Err(fault) => Err(fault),

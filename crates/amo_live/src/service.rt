@@ -7,7 +7,7 @@ ghost use Rattle.amo_journal.specs.Version.{newest};
 ghost use Rattle.amo_live.specs.Callers.{IsSameLife, MovesNone, MovesWithin};
 ghost use Rattle.amo_live.specs.Client.{PutsNamed, has};
 ghost use Rattle.amo_live.specs.Host.{Delivered, Did, IsNoted};
-ghost use Rattle.amo_live.specs.Service.{IsAtRest, got_by, is_in_doubt, lane_of, new_version, nothing_known, settled_by, shown_by, spelling_of, start_of, starts_batches, streams_of, takes_one, words_of};
+ghost use Rattle.amo_live.specs.Service.{IsAtRest, got_by, is_in_doubt, lacks_one, lane_of, new_version, nothing_known, settled_by, shown_by, spelling_of, start_of, starts_batches, streams_of, takes_in, takes_one, words_of};
 ghost use Rattle.amo_live.specs.Shown.{BeginsWithPut, ShowsMore, behind, told_in};
 ghost use Rattle.amo_live.specs.Words.{BearsNew, IsNew, StaysDrawn};
 
@@ -95,6 +95,8 @@ pub struct Service<L, S, W> {
     missed: bool,
     /// A datagram came when it heard last.
     heard: bool,
+    /// It took as many then as it was to.
+    took_all: bool,
     /// When one came last.
     heard_at: Option<u64>,
     /// A handshake could not begin, as too many were open. Others wait for their turn then.
@@ -178,6 +180,7 @@ impl<L: Link + Drop, S: Sink + Drop, W: Lineage + Drop> Service<L, S, W> {
             owed: 0,
             missed: false,
             heard: false,
+            took_all: false,
             heard_at: None,
             behind: false,
             next: 1,
@@ -295,6 +298,11 @@ impl<L: Link, S: Sink, W: Lineage> Service<L, S, W> {
         self.heard
     }
 
+    /// Whether it took as many datagrams as it was to when it heard last, if it was to take any: others may have come.
+    pub fn took_all(&self) -> bool {
+        self.took_all
+    }
+
     /// A stream that it has not, for which a packet came, if one did.
     pub fn foreign_stream(&self) -> Option<u32> {
         self.foreign
@@ -327,8 +335,31 @@ impl<L: Link, S: Sink, W: Lineage> Service<L, S, W> {
     pub fn takes(&self, stream: u32) -> bool
         ensures { result ≡ takes_one self.now stream }
     {
+        self.takes_below(stream, MAX_WAITING as u64)
+    }
+
+    /// Whether a stream lacks messages for its next handshakes, as far as is known here: it takes one, and fewer wait on it than travel together at most.
+    pub fn lacks(&self, stream: u32) -> bool
+        ensures { result ≡ lacks_one self.now stream }
+    {
+        self.takes_below(stream, MAX_BATCH as u64)
+    }
+
+    /// Whether messages wait on each stream.
+    pub fn has_waiting_on_each(&self) -> bool {
+        let mut each = true;
+        for lane in &self.lanes {
+            each = each && lane.waiting > 0;
+        }
+        each
+    }
+
+    /// Whether a stream takes a message while fewer than so many wait on it, as far as is known here.
+    fn takes_below(&self, stream: u32, most: u64) -> bool
+        ensures { result ≡ takes_in self.now.setup.each most (lane_of self.now stream) }
+    {
         match self.lane(stream) {
-            Some(lane) => !(self.setup.each && lane.owed) && lane.waiting < MAX_WAITING as u64,
+            Some(lane) => !(self.setup.each && lane.owed) && lane.waiting < most,
             None => false,
         }
     }

@@ -16,22 +16,22 @@ returns-clause-serves g c =
     let waits = c.in_ok-ready.ensures.waits in
     let synced : c.write_down.new.self.pass ≡ c.take_lines.new.service.host.pass = ap (λ (t : HostState g.row.L.Denot g.row.S.Denot). t.pass) c.in_ok-write_down.ensures.same in
     let cleared : c.hand_out.new.service.host.pass ≡ c.write_down.new.self.pass = search rules in
-    let spelling : c.room-room.new.self.spelling ≡ c.args.desk.now.spelling = search rules in
-    let puts : c.room-room.new.self.puts ≡ c.args.desk.now.puts = search rules in
-    let kept : c.room-room.new.self.kept ≡ c.args.desk.now.kept = search rules in
-    let waiting : Waits c.args.desk.now.input c.room-room.new.self.input waits.0 = search rules in
+    let spelling : c.expect_more.new.self.spelling ≡ c.args.desk.now.spelling = search rules in
+    let puts : c.expect_more.new.self.puts ≡ c.args.desk.now.puts = search rules in
+    let kept : c.expect_more.new.self.kept ≡ c.args.desk.now.kept = search rules in
+    let waiting : Waits c.args.desk.now.input c.expect_more.new.self.input waits.0 = search rules in
     let reader : c.hand_out.new.desk.reader ≡ c.wait.new.self.reader = search rules in
     let input : c.hand_out.new.desk.input ≡ c.take_lines.new.desk.input = search rules in
     let keeps : c.hand_out.new.desk.kept ≡ c.take_lines.new.desk.kept = search rules in
     let listened = c.wait.ensures.listened in
     let pass : c.wait.new.service.host.pass ≡ c.args.service.now.host.pass = ap (λ (t : HostState g.row.L.Denot g.row.S.Denot). t.pass) listened.0 in
     let streams : streams_of c.resend.new.self ≡ streams_of c.args.service.now = c.in_ok-resend.ensures.streams ∙ (c.in_ok-hear.ensures.streams ∙ listened.1) in
-    let lines = serves_as c.args.desk.now.spelling c.args.desk.now.puts (streams_of c.args.service.now) c.room-room.new.self.spelling c.room-room.new.self.puts (streams_of c.resend.new.self) []
-    (moment c.room-room.new.self.input c.room-room.new.self.kept c.resend.new.self.host.pass) (moment c.take_lines.new.desk.input c.take_lines.new.desk.kept c.take_lines.new.service.host.pass) spelling puts streams c.in_ok-take_lines.ensures.serves in (
+    let lines = serves_as c.args.desk.now.spelling c.args.desk.now.puts (streams_of c.args.service.now) c.expect_more.new.self.spelling c.expect_more.new.self.puts (streams_of c.resend.new.self) []
+    (moment c.expect_more.new.self.input c.expect_more.new.self.kept c.resend.new.self.host.pass) (moment c.take_lines.new.desk.input c.take_lines.new.desk.kept c.take_lines.new.service.host.pass) spelling puts streams c.in_ok-take_lines.ensures.serves in (
       waits.0,
       rw reader waits.1,
-      turn_over c.args.desk.now.spelling c.args.desk.now.puts (streams_of c.args.service.now) waits.0 c.args.desk.now.input c.room-room.new.self.input c.take_lines.new.desk.input c.hand_out.new.desk.input
-          c.args.desk.now.kept c.room-room.new.self.kept c.take_lines.new.desk.kept c.hand_out.new.desk.kept c.args.service.now.host.pass c.resend.new.self.host.pass c.take_lines.new.service.host.pass c.hand_out.new.service.host.pass
+      turn_over c.args.desk.now.spelling c.args.desk.now.puts (streams_of c.args.service.now) waits.0 c.args.desk.now.input c.expect_more.new.self.input c.take_lines.new.desk.input c.hand_out.new.desk.input
+          c.args.desk.now.kept c.expect_more.new.self.kept c.take_lines.new.desk.kept c.hand_out.new.desk.kept c.args.service.now.host.pass c.resend.new.self.host.pass c.take_lines.new.service.host.pass c.hand_out.new.service.host.pass
           waiting kept (c.in_ok-resend.ensures.none_put ∙ (c.in_ok-hear.ensures.none_put ∙ ap (λ (v : PassState). puts_in (mine v)) pass)) lines input keeps (cleared ∙ synced),
     )
 

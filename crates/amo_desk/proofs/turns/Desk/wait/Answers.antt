@@ -3,13 +3,13 @@ use Rattle.std.specs.Io.KnownBytes.{Consumes}
 use Rattle.amo_desk.proofs.Conserving.{waits_none}
 use Rattle.amo_desk.proofs.Readers.{none_taken}
 use Rattle.amo_desk.proofs.turns.Desk.wait.Goals as goal
-use Rattle.amo_desk.proofs.turns.Desk.wait.Goals.{then-ready-2+in_ok-hear, else-ready-2}
 
-pub returns-else-ready-3-clause-waits : goal.returns-else-ready-3-clause-waits
-returns-else-ready-3-clause-waits g c =
-    let reader : c.if-ready-2.self.reader ≡ c.args.self.now.reader = elim c.if-ready-2.branch [ then-ready-2+in_ok-hear w ↦ search rules | else-ready-2 w ↦ search rules ] in
-    let input : c.if-ready-2.self.input ≡ c.args.self.now.input = elim c.if-ready-2.branch [ then-ready-2+in_ok-hear w ↦ search rules | else-ready-2 w ↦ search rules ] in (
+pub returns-then-has_datagram-clause-waits : goal.returns-then-has_datagram-clause-waits
+returns-then-has_datagram-clause-waits g c =
+    let desk = c.has_datagram.new.self in
+    let reader : desk.reader ≡ c.args.self.now.reader = search rules in
+    let input : desk.input ≡ c.args.self.now.input = search rules in (
       [],
       subst (λ r. Consumes (g.I.Read.remaining c.args.self.now.reader) (g.I.Read.remaining r) []) (sym reader) (none_taken (g.I.Read.remaining c.args.self.now.reader)),
-      waits_none c.args.self.now.input c.if-ready-2.self.input input,
+      waits_none c.args.self.now.input desk.input input,
     )

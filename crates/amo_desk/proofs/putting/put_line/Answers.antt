@@ -6,7 +6,7 @@ use Rattle.amo_live.specs.Host.{puts_in}
 use Rattle.amo_live.specs.Service.{shown_by, spelling_of, streams_of}
 use Rattle.amo_desk.proofs.Conserving.{none_moved}
 use Rattle.amo_live.proofs.Showing.{shows_refusing}
-use Rattle.amo_desk.proofs.turns.put_line.Goals as goal
+use Rattle.amo_desk.proofs.putting.put_line.Goals as goal
 
 pub returns-in_ok-refuse-in-Put-2-clause-shown : goal.returns-in_ok-refuse-in-Put-2-clause-shown
 returns-in_ok-refuse-in-Put-2-clause-shown g c =

@@ -3,7 +3,7 @@ use Rattle.amo_live.specs.Service.{shown_by, spelling_of, words_of}
 use Rattle.amo_desk.proofs.Conserving.{moves_on, none_moved}
 use Rattle.amo_live.proofs.Fresh.{bears_none, bears_on}
 use Rattle.amo_live.proofs.Showing.{shows_after, shows_idle}
-use Rattle.amo_desk.proofs.turns.put_kept.Goals as goal
+use Rattle.amo_desk.proofs.putting.put_kept.Goals as goal
 
 pub streams-init : goal.streams-init
 streams-init g c =

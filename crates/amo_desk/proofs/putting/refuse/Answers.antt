@@ -1,7 +1,7 @@
 use Rattle.amo_live.specs.Service.{shown_by}
 use Rattle.amo_lines.specs.Spelt.{Refused}
 use Rattle.amo_live.proofs.Showing.{refusing_one}
-use Rattle.amo_desk.proofs.turns.refuse.Goals as goal
+use Rattle.amo_desk.proofs.putting.refuse.Goals as goal
 
 pub returns-in_ok-tell_refused-clause-told : goal.returns-in_ok-tell_refused-clause-told
 returns-in_ok-tell_refused-clause-told g c =

@@ -2,7 +2,7 @@ use Rattle.std.proofs.Common.{refl}
 use Rattle.amo_live.specs.Service.{shown_by, spelling_of}
 use Rattle.amo_desk.proofs.Conserving.{one_kept, one_moved}
 use Rattle.amo_live.proofs.Showing.{shows_idle}
-use Rattle.amo_desk.proofs.turns.put_or_keep.Goals as goal
+use Rattle.amo_desk.proofs.putting.put_or_keep.Goals as goal
 
 pub returns-then-has-clause-moves : goal.returns-then-has-clause-moves
 returns-then-has-clause-moves g c =

@@ -1,6 +1,6 @@
 use Rattle.std.proofs.Common.{refl}
 use Rattle.amo_desk.proofs.Conserving.{first_kept, first_moved, none_moved}
-use Rattle.amo_desk.proofs.turns.put_first.Goals as goal
+use Rattle.amo_desk.proofs.putting.put_first.Goals as goal
 
 pub returns-in_default-clause-moves : goal.returns-in_default-clause-moves
 returns-in_default-clause-moves g c = none_moved c.args.kept.now c.take.new.self c.args.service.now.host.pass c.args.service.now.host.pass c.in_default.ensures.none refl

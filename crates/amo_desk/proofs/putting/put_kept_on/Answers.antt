@@ -3,7 +3,7 @@ use Rattle.amo_live.specs.Service.{shown_by, spelling_of, words_of}
 use Rattle.amo_desk.proofs.Conserving.{moves_on, none_moved}
 use Rattle.amo_live.proofs.Fresh.{bears_none, bears_on}
 use Rattle.amo_live.proofs.Showing.{shows_after, shows_idle}
-use Rattle.amo_desk.proofs.turns.put_kept_on.Goals as goal
+use Rattle.amo_desk.proofs.putting.put_kept_on.Goals as goal
 
 pub messages-init : goal.messages-init
 messages-init g c =

@@ -4,7 +4,7 @@ use Rattle.amo_live.specs.Host.{IsNoted}
 use Rattle.amo_live.specs.Service.{shown_by, spelling_of, streams_of, words_of}
 use Rattle.amo_live.specs.Shown.{ShowsMore}
 use Rattle.amo_live.specs.Words.{BearsNew}
-use Rattle.amo_desk.proofs.turns.put_kept_on.Given as goal
+use Rattle.amo_desk.proofs.putting.put_kept_on.Given as goal
 
 -- the journal has all lines so far, and what waited was put in its order so far
 abbrev pub invariant-messages : goal.invariant-messages

@@ -4,7 +4,7 @@ use Rattle.amo_live.specs.Service.{shown_by, spelling_of, streams_of, words_of}
 use Rattle.amo_live.proofs.Fresh.{bears_on}
 use Rattle.amo_live.proofs.Showing.{shows_after, shows_idle}
 use Rattle.amo_desk.proofs.Conserving.{line_over, none_moved, none_over, serves_none}
-use Rattle.amo_desk.proofs.turns.take_lines.Goals as goal
+use Rattle.amo_desk.proofs.putting.take_lines.Goals as goal
 
 pub lines-init : goal.lines-init
 lines-init g c =
