@@ -19,14 +19,13 @@ use std::io::{Read, Write};
 pub(crate) struct Giving {
     /// When it is, in microseconds.
     pub(crate) now: u64,
-    /// Datagrams came, and messages wait on each stream: handshakes go on, and no stream lacks any for the next.
+    /// A datagram brought a handshake on, and messages wait on each stream: handshakes go on on all, and none needs what stands further behind.
     pub(crate) flows: bool,
 }
 
 impl Giving {
     /// Whether a stream is given a message. While handshakes go on on all, it is given as many as travel together, and the next when these do: each that waits
-    /// there has its line kept, and all of that is far from the processor by the time that it is sent. Otherwise it is given what it takes, and lines are read
-    /// further for those that lack some.
+    /// there has its line kept, and all of that is far from the processor by the time that it is sent. Otherwise it is given what it takes.
     fn gives<L: Link, S: Sink, W: Lineage>(self, service: &Service<L, S, W>, stream: u32) -> bool {
         if self.flows {
             service.lacks(stream)
@@ -34,9 +33,19 @@ impl Giving {
             service.takes(stream)
         }
     }
+
+    /// How many lines are taken at most: while handshakes go on on all streams as many as these lack messages, and one at least. Those behind them would only
+    /// wait here. Otherwise as many as there is room for, so that a stream without messages finds its own behind those of others.
+    fn most_lines<L: Link, S: Sink, W: Lineage>(self, service: &Service<L, S, W>) -> u64 {
+        if self.flows {
+            service.lacking().max(1)
+        } else {
+            u64::MAX
+        }
+    }
 }
 
-/// Puts what came: first what waits, stream after stream, and then each line, until as many messages wait as may.
+/// Puts what came: first what waits, stream after stream, and then each line, until as many messages wait as may, or as many lines were taken.
 pub(crate) fn take_lines<C: Eprint, L: Link, S: Durable, W: Lineage, I: Read, O: Write>(
     rt: &C,
     service: &mut Service<L, S, W>,
@@ -51,17 +60,19 @@ pub(crate) fn take_lines<C: Eprint, L: Link, S: Durable, W: Lineage, I: Read, O:
     ensures shown { OnOk result (ShowsMore (spelling_of service.old) service.old.host.pass service.new.host.pass (shown_by service.old) (shown_by service.new)) }
     ensures words { OnOk result (BearsNew W.is_drawn (words_of service.old) (words_of service.new) service.old.host.pass service.new.host.pass) }
     ensures spells { spelling_of service.new ≡ spelling_of service.old }
-    ensures same { desk.new ≡ record desk.old { input = desk.new.input; kept = desk.new.kept } }
+    ensures same { desk.new ≡ record desk.old { input = desk.new.input; kept = desk.new.kept; has_more = desk.new.has_more } }
 {
     if desk.bell.was_rung() {
         return Ok(());
     }
     put_kept(service, &mut desk.kept, at)?;
-    'lines: for _line in 0..u64::MAX {
+    desk.has_more = true;
+    'lines: for _line in 0..at.most_lines(service) {
         if desk.kept.is_full() {
             break;
         }
         let Some(line) = desk.input.next(desk.spelling)? else {
+            desk.has_more = false;
             break;
         };
         put_line(rt, service, desk, line, at)?;

@@ -45,6 +45,9 @@ const RECEIVER_DATAGRAMS: u32 = 16;
 /// else has come costs it as much as a datagram.
 const MOST_UNASKED: u32 = 8;
 
+/// How many milliseconds a host waits at most for a datagram where a turn may have left lines that it would have taken without one.
+const LONGEST_LEFT: i32 = 10;
+
 /// The number of what is not waited for.
 const NOTHING: i32 = -1;
 
@@ -73,6 +76,8 @@ pub struct Desk<I, O> {
     pub puts: bool,
     /// The messages that were not taken, which are put again.
     pub kept: Backlog,
+    /// Lines may have come that no turn has taken yet. None is read before they are.
+    pub has_more: bool,
     /// Where the host is asked to come to its end.
     pub bell: Bell,
     /// How many turns more may begin with a look at the host's socket alone.
@@ -109,6 +114,7 @@ impl<I: Read + AsRawFd + Drop, O: Write + AsRawFd + Drop> Desk<I, O> {
             spelling: setup.spelling,
             puts: setup.side == End::Sender,
             kept: Backlog::new(alloc, setup.streams)?,
+            has_more: false,
             bell,
             unasked: 0,
         })
@@ -216,14 +222,16 @@ fn turn<C: Clock + Eprint, L: Link, S: Durable, W: Lineage, I: Read, O: Write>(
     let datagrams = datagrams_in(&ready, sync, desk.puts);
     let now = microseconds(rt, start)?;
     let room = desk.room();
+    let line = service.host.next_line();
     service.hear(now, room, datagrams, desk.bell.was_rung())?;
+    let has_moved = service.host.next_line() != line;
     desk.expect_more(ready.at_once && service.took_all());
     service.resend(now)?;
     let text_first = !desk.puts || !service.shown().is_empty();
     // After the datagrams: what they made room for is put before the host waits again.
     let at = Giving {
         now,
-        flows: ready.socket && service.has_waiting_on_each(),
+        flows: has_moved && service.has_waiting_on_each(),
     };
     take_lines(rt, service, desk, at)?;
     service.host.write_down(sync)?;
@@ -348,9 +356,9 @@ impl<I: Read, O: Write> Desk<I, O> {
         self.ask(rt, service, has_answers, limit)
     }
 
-    /// Waits, also until what waits to be shown can be, and reads lines once where some have come, unless as many messages wait to be put as may. Where answers
-    /// wait to be shown it looks for the end of lines alone. A host that puts none reads nothing, and ends where nobody reads its messages any more. Answers
-    /// what there was.
+    /// Waits, also until what waits to be shown can be, and reads lines once where some have come, unless those before them are to be taken first. Where answers
+    /// wait to be shown it looks for the end of lines alone, under the same condition. A host that puts none reads nothing, and ends where nobody reads its
+    /// messages any more. Answers what there was.
     fn ask<C: Clock, L: Link, S: Sink, W: Lineage>(
         &mut self,
         rt: &C,
@@ -379,7 +387,8 @@ impl<I: Read, O: Write> Desk<I, O> {
         Ok(ready)
     }
 
-    /// Whether a datagram has come, where the turn may begin with that look alone: no answers wait to be shown. Otherwise the system is to be asked.
+    /// Whether a datagram has come, where the turn may begin with that look alone: no line is read now, and no answers wait to be shown. Otherwise the system is
+    /// to be asked.
     fn has_datagram<L: Link, S: Sink, W: Lineage>(
         &mut self,
         service: &mut Service<L, S, W>,
@@ -388,7 +397,7 @@ impl<I: Read, O: Write> Desk<I, O> {
         ensures listened { Listened service.old service.new }
         ensures same { self.new ≡ record self.old { unasked = self.new.unasked } }
     {
-        if !has_answers && self.unasked > 0 && service.listen(1) {
+        if self.has_more && !has_answers && self.unasked > 0 && service.listen(1) {
             self.unasked -= 1;
             return true;
         }
@@ -400,21 +409,29 @@ impl<I: Read, O: Write> Desk<I, O> {
     fn expect_more(&mut self, more: bool)
         ensures { self.new ≡ record self.old { unasked = self.new.unasked } }
     {
-        if !self.puts || !more {
+        if !more {
             self.unasked = 0;
         }
     }
 
     /// How many milliseconds it waits, where it would so many: not at all where a byte was read as answers waited, which wait no longer. It may be the end of a
-    /// line, and nothing more come.
+    /// line, and nothing more come. And not long where a turn with datagrams may have left lines: if no more come, these are to be taken all the same.
     fn limit(&mut self, has_answers: bool, limit: i32) -> i32
         ensures { self.new ≡ record self.old { ahead = self.new.ahead } }
     {
-        if has_answers || self.ahead == Ahead::Unseen {
-            return limit;
+        if !has_answers && self.ahead != Ahead::Unseen {
+            self.ahead = Ahead::Unseen;
+            return 0;
         }
-        self.ahead = Ahead::Unseen;
-        0
+        if self.leaves_lines() && !(0..LONGEST_LEFT).contains(&limit) {
+            return LONGEST_LEFT;
+        }
+        limit
+    }
+
+    /// Whether the last turn may have left lines for which there is room.
+    fn leaves_lines(&self) -> bool {
+        self.has_more && !self.kept.is_full() && !self.bell.was_rung()
     }
 
     /// Waits until the output takes more of what a start tells, or for so many milliseconds. Meanwhile it is heard that the host is asked to come to its end,
@@ -459,7 +476,7 @@ impl<I: Read, O: Write> Desk<I, O> {
         ensures puts { result ≡ true → self.now.puts ≡ true }
         ensures opened { result ≡ true → self.now.input.is_open ≡ true }
     {
-        self.puts && self.input.is_open() && !self.kept.is_full() && !self.bell.was_rung()
+        self.puts && self.input.is_open() && !self.has_more && !self.bell.was_rung()
     }
 
     /// What is waited for, where lines are read or not, answers wait to be shown or not, and messages do.

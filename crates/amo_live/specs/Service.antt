@@ -1,5 +1,6 @@
 -- A host at work.
-use Rattle.std.specs.Prelude.{◌≡◌, ℕ, zero, suc, Bool, true, false, if◌then◌else◌, Option, Some, List, [], ◌∷◌, ◌++◌, get_or, slice_get, ◌⊎◌, ◌&&◌, nat_lt, not, is_some, None, length, map}
+use Rattle.std.specs.Prelude.{◌≡◌, ℕ, zero, suc, ◌+◌, ◌-◌, ◌^◌, min, Bool, true, false, if◌then◌else◌, Option, Some, List, [], ◌∷◌, ◌++◌, get_or, slice_get, ◌⊎◌, ◌&&◌, nat_lt, not, is_some, None, length, map}
+use Rattle.std.specs.List.{fold, list_all}
 use Rattle.amo_object.specs.declared.step.End.{End}
 use Rattle.amo_object.specs.declared.step.End.TheVariants.{Sender, Receiver}
 use Rattle.amo_packet.specs.Batch.{max_batch}
@@ -83,6 +84,18 @@ takes_one service stream = takes_in service.setup.each max_waiting (lane_of serv
 -- and whether it lacks one, as fewer wait than travel together at most
 abbrev pub lacks_one : {L S W : Type 0} → Service L S W → ℕ → Bool
 lacks_one service stream = takes_in service.setup.each max_batch (lane_of service stream)
+
+-- how many messages a stream lacks: as many as wait fewer than travel together at most, if its last message has its answer where each waits for that
+abbrev pub lacked_in : Bool → Lane → ℕ
+lacked_in each lane = if each && lane.owed then 0 else max_batch - lane.waiting
+
+-- and all streams together, as far as a number of 64 bits tells
+abbrev pub lacked_by : {L S W : Type 0} → Service L S W → ℕ
+lacked_by service = fold (λ all (lane : Lane). min (all + lacked_in service.setup.each lane) (2 ^ 64 - 1)) 0 service.lanes.items
+
+-- whether messages wait on each stream
+abbrev pub wait_on_each : {L S W : Type 0} → Service L S W → Bool
+wait_on_each service = list_all (λ (lane : Lane). nat_lt 0 lane.waiting) service.lanes.items
 
 -- how the host's side of a stream stands by the tables, after all that happened at the host
 abbrev pub summary_on : {L S W : Type 0} → Service L S W → ℕ → Summary

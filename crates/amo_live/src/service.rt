@@ -7,7 +7,7 @@ ghost use Rattle.amo_journal.specs.Version.{newest};
 ghost use Rattle.amo_live.specs.Callers.{IsSameLife, MovesNone, MovesWithin};
 ghost use Rattle.amo_live.specs.Client.{PutsNamed, has};
 ghost use Rattle.amo_live.specs.Host.{Delivered, Did, IsNoted};
-ghost use Rattle.amo_live.specs.Service.{IsAtRest, got_by, is_in_doubt, lacks_one, lane_of, new_version, nothing_known, settled_by, shown_by, spelling_of, start_of, starts_batches, streams_of, takes_in, takes_one, words_of};
+ghost use Rattle.amo_live.specs.Service.{IsAtRest, got_by, is_in_doubt, lacked_by, lacked_in, lacks_one, lane_of, new_version, nothing_known, settled_by, shown_by, spelling_of, start_of, starts_batches, streams_of, takes_in, takes_one, wait_on_each, words_of};
 ghost use Rattle.amo_live.specs.Shown.{BeginsWithPut, ShowsMore, behind, told_in};
 ghost use Rattle.amo_live.specs.Words.{BearsNew, IsNew, StaysDrawn};
 
@@ -63,6 +63,17 @@ impl Lane {
             held: 0,
             owed: false,
             in_doubt: false,
+        }
+    }
+
+    /// How many messages a stream lacks for its next handshakes, if it takes any: as many as wait fewer than travel together at most.
+    fn lacking(&self, each: bool) -> u64
+        ensures { result ≡ lacked_in each self.now }
+    {
+        if each && self.owed {
+            0
+        } else {
+            (MAX_BATCH as u64).saturating_sub(self.waiting)
         }
     }
 }
@@ -346,12 +357,20 @@ impl<L: Link, S: Sink, W: Lineage> Service<L, S, W> {
     }
 
     /// Whether messages wait on each stream.
-    pub fn has_waiting_on_each(&self) -> bool {
-        let mut each = true;
-        for lane in &self.lanes {
-            each = each && lane.waiting > 0;
-        }
-        each
+    pub fn has_waiting_on_each(&self) -> bool
+        ensures { result ≡ wait_on_each self.now }
+    {
+        self.lanes.iter().all(|lane| lane.waiting > 0)
+    }
+
+    /// How many messages its streams lack for their next handshakes, all together.
+    pub fn lacking(&self) -> u64
+        ensures { result ≡ lacked_by self.now }
+    {
+        let each = self.setup.each;
+        self.lanes
+            .iter()
+            .fold(0u64, |all, lane| all.saturating_add(lane.lacking(each)))
     }
 
     /// Whether a stream takes a message while fewer than so many wait on it, as far as is known here.

@@ -15,5 +15,5 @@ invariant-lines g l = record {
   shown : ShowsMore (spelling_of l.fn.service) l.fn.service.host.pass l.service.host.pass (shown_by l.fn.service) (shown_by l.service);
   words : BearsNew g.W.Lineage.is_drawn (words_of l.fn.service) (words_of l.service) l.fn.service.host.pass l.service.host.pass;
   spells : spelling_of l.service ≡ spelling_of l.fn.service;
-  same : l.desk ≡ record l.fn.desk { input = l.desk.input; kept = l.desk.kept };
+  same : l.desk ≡ record l.fn.desk { input = l.desk.input; kept = l.desk.kept; has_more = l.desk.has_more };
 }
