@@ -115,7 +115,7 @@ A line that is none is told on standard error with its reason, as `amo: line L: 
 counted from 1, and nothing is put. Nor is a last line put that lacks its line feed: who wrote it may
 have died in the middle, and `amo: line L has no end` is told. A line waits until its stream's last
 message has its answer, and lines of other streams are put meanwhile. With --many it waits only while
-16 messages wait on its stream, or four while packets come and messages wait on each stream. Where
+16 messages wait on its stream, or four while handshakes go on and messages wait on each. Where
 1,024 lines wait no more are read.
 
 With --batch, which implies --many, the messages that wait on a stream when a handshake begins travel

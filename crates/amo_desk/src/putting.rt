@@ -19,14 +19,14 @@ use std::io::{Read, Write};
 pub(crate) struct Giving {
     /// When it is, in microseconds.
     pub(crate) now: u64,
-    /// A datagram brought a handshake on, and messages wait on each stream: handshakes go on on all, and none needs what stands further behind.
+    /// A datagram brought a handshake on, and messages wait on each stream: none needs what stands further behind.
     pub(crate) flows: bool,
 }
 
 impl Giving {
-    /// Whether a stream is given a message. While handshakes go on on all, it is given as many as travel together, and the next when these do: each that waits
-    /// there has its line kept, and all of that is far from the processor by the time that it is sent. Otherwise it is given what it takes.
-    fn gives<L: Link, S: Sink, W: Lineage>(self, service: &Service<L, S, W>, stream: u32) -> bool {
+    /// Whether a stream is given a message. Where messages flow it is given as many as may travel together, and the next when these do: each that waits there
+    /// has its line kept, and all of that is no longer in the processor's cache by the time that it is sent. Otherwise it is given what it takes.
+    fn allows<L: Link, S: Sink, W: Lineage>(self, service: &Service<L, S, W>, stream: u32) -> bool {
         if self.flows {
             service.lacks(stream)
         } else {
@@ -34,8 +34,8 @@ impl Giving {
         }
     }
 
-    /// How many lines are taken at most: while handshakes go on on all streams as many as these lack messages, and one at least. Those behind them would only
-    /// wait here. Otherwise as many as there is room for, so that a stream without messages finds its own behind those of others.
+    /// How many lines are taken at most: where messages flow as many as streams lack, and one at least. Those behind them would only wait here. Otherwise as
+    /// many as there is room for, so that a stream without messages finds its own behind those of others.
     fn most_lines<L: Link, S: Sink, W: Lineage>(self, service: &Service<L, S, W>) -> u64 {
         if self.flows {
             service.lacking().max(1)
@@ -45,12 +45,13 @@ impl Giving {
     }
 }
 
-/// Puts what came: first what waits, stream after stream, and then each line, until as many messages wait as may, or as many lines were taken.
+/// Puts what came: first what waits, stream after stream, and then each line, until as many messages wait as may, or as many lines were taken as this
+/// turn takes.
 pub(crate) fn take_lines<C: Eprint, L: Link, S: Durable, W: Lineage, I: Read, O: Write>(
     rt: &C,
     service: &mut Service<L, S, W>,
     desk: &mut Desk<I, O>,
-    at: Giving,
+    giving: Giving,
 ) -> Result<(), ServeFault>
     requires { IsNoted S.written service.old.host }
     ensures noted { OnOk result (IsNoted S.written service.new.host) }
@@ -65,9 +66,9 @@ pub(crate) fn take_lines<C: Eprint, L: Link, S: Durable, W: Lineage, I: Read, O:
     if desk.bell.was_rung() {
         return Ok(());
     }
-    put_kept(service, &mut desk.kept, at)?;
+    put_kept(service, &mut desk.kept, giving)?;
     desk.has_more = true;
-    'lines: for _line in 0..at.most_lines(service) {
+    'lines: for _line in 0..giving.most_lines(service) {
         if desk.kept.is_full() {
             break;
         }
@@ -75,16 +76,16 @@ pub(crate) fn take_lines<C: Eprint, L: Link, S: Durable, W: Lineage, I: Read, O:
             desk.has_more = false;
             break;
         };
-        put_line(rt, service, desk, line, at)?;
+        put_line(rt, service, desk, line, giving)?;
     }
     Ok(())
 }
 
-/// Puts the messages that wait, stream after stream, as far as each is given some now.
+/// Puts the messages that wait, stream after stream, each until it is given no more.
 fn put_kept<L: Link, S: Durable, W: Lineage>(
     service: &mut Service<L, S, W>,
     kept: &mut Backlog,
-    at: Giving,
+    giving: Giving,
 ) -> Result<(), ServeFault>
     requires { IsNoted S.written service.old.host }
     ensures noted { OnOk result (IsNoted S.written service.new.host) }
@@ -99,7 +100,7 @@ fn put_kept<L: Link, S: Durable, W: Lineage>(
     }
     let streams = kept.streams();
     'streams: for place in 0..streams {
-        put_kept_on(service, kept, place.saturating_add(1), at)?;
+        put_kept_on(service, kept, place.saturating_add(1), giving)?;
     }
     Ok(())
 }
@@ -109,7 +110,7 @@ fn put_kept_on<L: Link, S: Durable, W: Lineage>(
     service: &mut Service<L, S, W>,
     kept: &mut Backlog,
     stream: u32,
-    at: Giving,
+    giving: Giving,
 ) -> Result<(), ServeFault>
     requires { IsNoted S.written service.old.host }
     ensures noted { OnOk result (IsNoted S.written service.new.host) }
@@ -120,7 +121,7 @@ fn put_kept_on<L: Link, S: Durable, W: Lineage>(
     ensures spells { spelling_of service.new ≡ spelling_of service.old }
 {
     'messages: for _message in 0..u64::MAX {
-        if !put_first(service, kept, stream, at)? {
+        if !put_first(service, kept, stream, giving)? {
             break;
         }
     }
@@ -133,7 +134,7 @@ fn put_first<L: Link, S: Durable, W: Lineage>(
     service: &mut Service<L, S, W>,
     kept: &mut Backlog,
     stream: u32,
-    at: Giving,
+    giving: Giving,
 ) -> Result<bool, ServeFault>
     requires { IsNoted S.written service.old.host }
     ensures noted { OnOk result (IsNoted S.written service.new.host) }
@@ -144,13 +145,13 @@ fn put_first<L: Link, S: Durable, W: Lineage>(
     ensures spells { spelling_of service.new ≡ spelling_of service.old }
 {
     // Most streams are given none in most turns, and a message that is taken out and put back costs more than a look.
-    if !at.gives(service, stream) {
+    if !giving.allows(service, stream) {
         return Ok(false);
     }
     let Some(named) = kept.take(stream) else {
         return Ok(false);
     };
-    match service.put(stream, named, at.now)? {
+    match service.put(stream, named, giving.now)? {
         Some(named) => {
             kept.put_back(stream, named)?;
             Ok(false)
@@ -166,7 +167,7 @@ fn put_line<C: Eprint, L: Link, S: Durable, W: Lineage, I: Read, O: Write>(
     service: &mut Service<L, S, W>,
     desk: &mut Desk<I, O>,
     line: Line,
-    at: Giving,
+    giving: Giving,
 ) -> Result<(), ServeFault>
     requires { IsNoted S.written service.old.host }
     ensures noted { OnOk result (IsNoted S.written service.new.host) }
@@ -179,7 +180,7 @@ fn put_line<C: Eprint, L: Link, S: Durable, W: Lineage, I: Read, O: Write>(
 {
     match line {
         Line::Put(stream, named) if desk.puts && service.has(stream) => {
-            put_or_keep(service, &mut desk.kept, stream, named, at)?;
+            put_or_keep(service, &mut desk.kept, stream, named, giving)?;
         }
         Line::Put(stream, named) => {
             let fault = LineFault::Stream(u64::from(stream));
@@ -197,7 +198,7 @@ fn put_or_keep<L: Link, S: Durable, W: Lineage>(
     kept: &mut Backlog,
     stream: u32,
     named: NamedMessage,
-    at: Giving,
+    giving: Giving,
 ) -> Result<(), ServeFault>
     requires { IsNoted S.written service.old.host }
     ensures noted { OnOk result (IsNoted S.written service.new.host) }
@@ -207,11 +208,11 @@ fn put_or_keep<L: Link, S: Durable, W: Lineage>(
     ensures words { OnOk result (BearsNew W.is_drawn (words_of service.old) (words_of service.new) service.old.host.pass service.new.host.pass) }
     ensures spells { spelling_of service.new ≡ spelling_of service.old }
 {
-    if kept.has(stream) || !at.gives(service, stream) {
+    if kept.has(stream) || !giving.allows(service, stream) {
         kept.keep(stream, named)?;
         return Ok(());
     }
-    if let Some(named) = service.put(stream, named, at.now)? {
+    if let Some(named) = service.put(stream, named, giving.now)? {
         kept.keep(stream, named)?;
     }
     Ok(())

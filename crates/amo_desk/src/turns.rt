@@ -41,8 +41,8 @@ const SENDER_DATAGRAMS: u32 = 40;
 /// How many a receiver's takes. It has less to do for each, and what it sends early is there when the sender's next turn begins.
 const RECEIVER_DATAGRAMS: u32 = 16;
 
-/// How many of a sender's turns in a row begin with a look at its socket alone, where the last one took as many datagrams as it might. To ask the system what
-/// else has come costs it as much as a datagram.
+/// How many of a sender's turns in a row begin with a look at its socket alone, where the last one took as many datagrams as it might and may have left lines.
+/// To ask the system what else has come costs it as much as a datagram.
 const MOST_UNASKED: u32 = 8;
 
 /// How many milliseconds a host waits at most for a datagram where a turn may have left lines that it would have taken without one.
@@ -74,7 +74,7 @@ pub struct Desk<I, O> {
     pub spelling: Spelling,
     /// Lines are messages to be put. Otherwise none is read.
     pub puts: bool,
-    /// The messages that were not taken, which are put again.
+    /// The messages that were not put yet.
     pub kept: Backlog,
     /// Lines may have come that no turn has taken yet. None is read before they are.
     pub has_more: bool,
@@ -225,15 +225,15 @@ fn turn<C: Clock + Eprint, L: Link, S: Durable, W: Lineage, I: Read, O: Write>(
     let line = service.host.next_line();
     service.hear(now, room, datagrams, desk.bell.was_rung())?;
     let has_moved = service.host.next_line() != line;
-    desk.expect_more(ready.at_once && service.took_all());
+    desk.expect_more(ready.at_once && service.took_most());
     service.resend(now)?;
     let text_first = !desk.puts || !service.shown().is_empty();
     // After the datagrams: what they made room for is put before the host waits again.
-    let at = Giving {
+    let giving = Giving {
         now,
         flows: has_moved && service.has_waiting_on_each(),
     };
-    take_lines(rt, service, desk, at)?;
+    take_lines(rt, service, desk, giving)?;
     service.host.write_down(sync)?;
     let count = hand_out(service, desk, text_first)?;
     Ok(count)
@@ -281,7 +281,7 @@ impl<I: Read, O: Write> Desk<I, O> {
             || (has_answers && self.ahead == Ahead::Last && !self.kept.is_full())
     }
 
-    /// Whether no message waits to be put: none was refused, or the host comes to its end before.
+    /// Whether no message waits to be put, or the host comes to its end before.
     pub(crate) fn keeps_none(&self) -> bool {
         self.bell.was_rung() || self.kept.is_empty()
     }
@@ -337,7 +337,7 @@ impl<I: Read, O: Write> Desk<I, O> {
         }
     }
 
-    /// Waits, and answers what there was. Where the last turn took as many datagrams as it might, it looks for more of them alone.
+    /// Waits, and answers what there was. Where the last turn took as many datagrams as it might and may have left lines, it looks for more datagrams alone.
     fn wait<C: Clock, L: Link, S: Sink, W: Lineage>(
         &mut self,
         rt: &C,
@@ -350,7 +350,7 @@ impl<I: Read, O: Write> Desk<I, O> {
         ensures same { self.new ≡ record self.old { reader = self.new.reader; input = self.new.input; ahead = self.new.ahead; bell = self.new.bell; unasked = self.new.unasked } }
     {
         let has_answers = self.puts && !service.shown().is_empty();
-        if self.has_datagram(service, has_answers) {
+        if self.looks_alone(service, has_answers) {
             return Ok(Ready::OF_DATAGRAMS);
         }
         self.ask(rt, service, has_answers, limit)
@@ -387,9 +387,9 @@ impl<I: Read, O: Write> Desk<I, O> {
         Ok(ready)
     }
 
-    /// Whether a datagram has come, where the turn may begin with that look alone: no line is read now, and no answers wait to be shown. Otherwise the system is
-    /// to be asked.
-    fn has_datagram<L: Link, S: Sink, W: Lineage>(
+    /// Looks for a datagram alone, where a turn may begin so: lines may be left, so that none is read, and no answers wait to be shown. Answers whether one has
+    /// come. Otherwise the system is to be asked.
+    fn looks_alone<L: Link, S: Sink, W: Lineage>(
         &mut self,
         service: &mut Service<L, S, W>,
         has_answers: bool,
@@ -405,7 +405,7 @@ impl<I: Read, O: Write> Desk<I, O> {
         false
     }
 
-    /// More datagrams may have come than a turn took, or they may not: then the next one begins with a look at all that may have come.
+    /// More datagrams may have come than a turn took, or they may not: then the next turn asks the system for all that may have come.
     fn expect_more(&mut self, more: bool)
         ensures { self.new ≡ record self.old { unasked = self.new.unasked } }
     {

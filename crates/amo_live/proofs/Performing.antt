@@ -1,5 +1,5 @@
 -- A host after a call of its pump.
-use Rattle.std.proofs.Common.{◌≡◌, ℕ, ◌<◌, Bool, List, [], ◌++◌, Option, Some, None, IfSome, length, slice_get, refl, sym, ap, ◌∙◌, subst}
+use Rattle.std.proofs.Common.{◌≡◌, ℕ, ◌<◌, Bool, List, [], ◌++◌, Option, Some, None, length, slice_get, refl, sym, ap, ◌∙◌, subst}
 use Rattle.amo_object.specs.declared.step.End.{End}
 use Rattle.amo_core.specs.declared.act.Act.{Act}
 use Rattle.amo_core.specs.declared.reply.Reply.TheVariants.{Done}
@@ -22,7 +22,7 @@ use Rattle.amo_core.specs.declared.mode.Mode.{Mode}
 use Rattle.std.specs.Option.{option_map}
 use Rattle.std.proofs.lemmas.Option.{same_Some, slice_get-map}
 use Rattle.amo_live.specs.Emitted.{AreEmitted, Learns, OnlySees, OutboxState, packet_in}
-use Rattle.amo_live.specs.Host.{HostState, Drives, Happens, IsHost, IsWhole, Stays, held_on}
+use Rattle.amo_live.specs.Host.{HostState, Drives, Happens, IsHost, Stays, held_on}
 use Rattle.amo_live.specs.Noted.{IsSameJournal, JournalState}
 use Rattle.amo_live.proofs.Emissions.{act_emitted, all_learnt, all_still, grown_extends}
 use Rattle.amo_live.proofs.Onwards.{same_itself}
@@ -52,12 +52,6 @@ pub held_foreseen : {L S : Type 0} (h : HostState L S) (w : PassState) → IsHos
 held_foreseen h w is stream place c at same summary found =
     ap (λ (s : Summary). s.held) found
     ∙ (ap (λ (e : End). (summary_of (automaton_after e c.stream w.seen)).held) (own_side h is place c at) ∙ ap (λ (n : ℕ). (summary_of (automaton_after h.side n w.seen)).held) same)
-
--- and it is so once the host knows that nothing else happened
-pub held_met : {L S : Type 0} (h m : HostState L S) (stream : ℕ) (held : Option ℕ) → m ≡ record h { other = m.other } → IfSome held (λ n. n ≡ held_on h stream) → IsWhole m.pass
-    → IfSome held (λ n. (n ≡ held_on m stream) × IsWhole m.pass)
-held_met h m stream None same known whole = tt
-held_met {L = L} {S = S} h m stream (Some n) same known whole = (subst (λ (x : HostState L S). n ≡ held_on x stream) (sym same) known, whole)
 
 module _ {L S : Type 0} (h : HostState L S) (pump : Station GivenWord) (w : PassState) (is : IsHost h) (side : pump.host.side ≡ h.pump.host.side) (station : IsStation pump × BelongTogether h.book w pump) where
   -- nothing happened

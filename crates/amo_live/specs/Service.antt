@@ -85,9 +85,9 @@ takes_one service stream = takes_in service.setup.each max_waiting (lane_of serv
 abbrev pub lacks_one : {L S W : Type 0} → Service L S W → ℕ → Bool
 lacks_one service stream = takes_in service.setup.each max_batch (lane_of service stream)
 
--- how many messages a stream lacks: as many as wait fewer than travel together at most, if its last message has its answer where each waits for that
+-- how many messages a stream lacks: as many as wait fewer than travel together at most, or where each waits for its answer one, if its last one has it
 abbrev pub lacked_in : Bool → Lane → ℕ
-lacked_in each lane = if each && lane.owed then 0 else max_batch - lane.waiting
+lacked_in each lane = if each then (if lane.owed then 0 else 1) else max_batch - lane.waiting
 
 -- and all streams together, as far as a number of 64 bits tells
 abbrev pub lacked_by : {L S W : Type 0} → Service L S W → ℕ

@@ -224,7 +224,6 @@ impl<L: Link, S: Sink> Host<L, S> {
         if outlook.is_repetition {
             return Ok(None);
         }
-        self.meet();
         self.perform(stream, act, now, outlook.held)
     }
 
@@ -282,7 +281,7 @@ impl<L: Link, S: Sink> Host<L, S> {
         held: Option<u64>,
     ) -> Result<Option<Mode>, LiveFault>
         requires noted { IsNoted S.written self.old }
-        requires held { IfSome held (λ n. (n ≡ held_on self.old stream) × IsWhole self.old.pass) }
+        requires held { IfSome held (λ n. n ≡ held_on self.old stream) }
         requires suits { Suits self.old.journal.version self.old.side stream act }
         ensures did { IfOk result (Did self.old self.new stream act) }
         ensures resent { act ≡ Resend → IfOk result (λ mode. IfSome mode (Resent now self.old.pump self.new.pump stream)) }
@@ -308,14 +307,14 @@ impl<L: Link, S: Sink> Host<L, S> {
         }
     }
 
-    /// How many messages travel in a stream's handshake, if its side is in the mode of a sender that sends, where it may be known how many are of it.
+    /// How many messages travel in a stream's handshake, if its side is a sender that sends, and else none. Where a look ahead told it, there is no other look.
     fn travelling(
         &mut self,
         stream: u32,
         mode: Option<Mode>,
         held: Option<u64>,
     ) -> Result<u64, LiveFault>
-        requires held { IfSome held (λ n. (n ≡ held_on self.old stream) × IsWhole self.old.pass) }
+        requires held { IfSome held (λ n. n ≡ held_on self.old stream) }
         ensures sends { mode ≡ Some Send → IfOk result (λ messages. messages ≡ held_on self.old stream) }
         ensures whole { mode ≡ Some Send → OnOk result (IsWhole self.new.pass) }
         ensures same { self.new ≡ record self.old { other = self.new.other } }
@@ -324,6 +323,7 @@ impl<L: Link, S: Sink> Host<L, S> {
             return Ok(0);
         };
         if let Some(messages) = held {
+            self.meet();
             return Ok(messages);
         }
         match self.look(stream) {

@@ -66,12 +66,13 @@ impl Lane {
         }
     }
 
-    /// How many messages a stream lacks for its next handshakes, if it takes any: as many as wait fewer than travel together at most.
+    /// How many messages a stream lacks for its next handshakes: as many as wait fewer than travel together at most, or where each waits for its answer one, if
+    /// its last one has it.
     fn lacking(&self, each: bool) -> u64
         ensures { result ≡ lacked_in each self.now }
     {
-        if each && self.owed {
-            0
+        if each {
+            u64::from(!self.owed)
         } else {
             (MAX_BATCH as u64).saturating_sub(self.waiting)
         }
@@ -106,8 +107,8 @@ pub struct Service<L, S, W> {
     missed: bool,
     /// A datagram came when it heard last.
     heard: bool,
-    /// It took as many then as it was to.
-    took_all: bool,
+    /// It took as many then as it was to, if it was to take any.
+    took_most: bool,
     /// When one came last.
     heard_at: Option<u64>,
     /// A handshake could not begin, as too many were open. Others wait for their turn then.
@@ -191,7 +192,7 @@ impl<L: Link + Drop, S: Sink + Drop, W: Lineage + Drop> Service<L, S, W> {
             owed: 0,
             missed: false,
             heard: false,
-            took_all: false,
+            took_most: false,
             heard_at: None,
             behind: false,
             next: 1,
@@ -309,9 +310,9 @@ impl<L: Link, S: Sink, W: Lineage> Service<L, S, W> {
         self.heard
     }
 
-    /// Whether it took as many datagrams as it was to when it heard last, if it was to take any: others may have come.
-    pub fn took_all(&self) -> bool {
-        self.took_all
+    /// Whether it took as many datagrams as it was to when it heard last, if it was to take any: more may have come.
+    pub fn took_most(&self) -> bool {
+        self.took_most
     }
 
     /// A stream that it has not, for which a packet came, if one did.

@@ -100,7 +100,7 @@ impl<L: Link, S: Sink, W: Lineage> Service<L, S, W> {
                 left -= 1;
             }
         }
-        self.took_all = datagrams > 0 && left == 0;
+        self.took_most = datagrams > 0 && left == 0;
         Ok(())
     }
 

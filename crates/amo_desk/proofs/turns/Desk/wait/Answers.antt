@@ -4,9 +4,9 @@ use Rattle.amo_desk.proofs.Conserving.{waits_none}
 use Rattle.amo_desk.proofs.Readers.{none_taken}
 use Rattle.amo_desk.proofs.turns.Desk.wait.Goals as goal
 
-pub returns-then-has_datagram-clause-waits : goal.returns-then-has_datagram-clause-waits
-returns-then-has_datagram-clause-waits g c =
-    let desk = c.has_datagram.new.self in
+pub returns-then-looks_alone-clause-waits : goal.returns-then-looks_alone-clause-waits
+returns-then-looks_alone-clause-waits g c =
+    let desk = c.looks_alone.new.self in
     let reader : desk.reader ≡ c.args.self.now.reader = search rules in
     let input : desk.input ≡ c.args.self.now.input = search rules in (
       [],
