@@ -11,7 +11,7 @@ use amo_packet::MAX_PACKET;
 /// What an act would do.
 #[derive(Clone, Copy, Debug, PartialEq, Eq)]
 pub enum Foreseen {
-    /// It would leave the side in another state than now, where it stands so.
+    /// It would leave the side in another state. So it stands now.
     Changes(Summary),
     /// It would leave the side as it is, and emit the packet that is so many bytes at the front of the buffer; or nothing.
     Keeps(Option<usize>),
